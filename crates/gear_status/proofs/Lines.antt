@@ -1,0 +1,29 @@
+-- The entries of the map beside the lines that they stand for.
+use Rattle.std.proofs.Common.{◌≡◌, ℕ, List, [], ◌∷◌, Bool, true, false, Option, Some, None, cond, Vec, Global, refl, ap, ◌∙◌}
+use Rattle.std.specs.Str.{bytes_eq}
+use Rattle.std.specs.Map.{lookup}
+use Rattle.indexmap.specs.IndexMap.{insert_entry}
+use Rattle.gear_status.specs.declared.load.Counts.{Counts}
+use Rattle.gear_status.specs.Status.{counts_of, put}
+use Rattle.gear_status.specs.Entries.{line_view, lines_view}
+
+abbrev pub Held : Type 0
+Held = Vec ℕ Global × Counts
+
+-- two names have the same bytes
+abbrev pub same_name : Vec ℕ Global → Vec ℕ Global → Bool
+same_name x y = bytes_eq x.items y.items
+
+pub put_view : (es : List Held) (k : Vec ℕ Global) (v : Counts) → lines_view (insert_entry same_name es k v) ≡ put (lines_view es) (k.items, v)
+put_view [] k v = refl
+put_view (e ∷ es) k v = by (bytes_eq k.items e.0.items) refl (put_view es k v)
+  where
+    by : (b : Bool) → bytes_eq k.items e.0.items ≡ b
+        → lines_view (insert_entry same_name es k v) ≡ put (lines_view es) (k.items, v)
+        → lines_view (insert_entry same_name (e ∷ es) k v) ≡ put (lines_view (e ∷ es)) (k.items, v)
+    by true same rest = rw same
+    by false other rest = rw other (ap (λ t. line_view e ∷ t) rest)
+
+pub counts_view : (es : List Held) (name : List ℕ) → counts_of (lines_view es) name ≡ lookup (λ k. bytes_eq name k.items) es
+counts_view [] name = refl
+counts_view (e ∷ es) name = ap (cond (bytes_eq name e.0.items) (Some e.1)) (counts_view es name)

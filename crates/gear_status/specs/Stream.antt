@@ -1,0 +1,55 @@
+-- A status text that has come in part.
+use Rattle.std.specs.Prelude.{ℕ, ◌≡◌, ◌+◌, ◌-◌, ◌*◌, ◌≤◌, ◌⊎◌, List, [], ◌++◌, Bool, true, false, not, length, Option, Some, None, Result, Ok, Err}
+use Rattle.std.specs.List.{list_all, slice_split}
+use Rattle.gear_status.specs.Status.{Line, is_line_feed, meaning_from, status}
+use Rattle.gear_status.specs.declared.error.StatusError.{StatusError}
+use Rattle.gear_status.specs.declared.error.StatusError.TheVariants as fault
+
+-- the number of the line that is coming, its bytes so far, and the lines before it
+pub record Part : Type 0 where
+  pub number : ℕ
+  pub line : List ℕ
+  pub load : List Line
+
+-- what the whole text means, where these are the bytes still to come
+abbrev pub meaning_with : Part → List ℕ → Result (List Line) StatusError
+meaning_with p rest = meaning_from p.number (slice_split is_line_feed (p.line ++ rest)) p.load
+
+abbrev pub is_open : List ℕ → Bool
+is_open line = list_all (λ b. not (is_line_feed b)) line
+
+-- a line that is not too long and has no line feed, with a number up to 65,537
+pub record IsPart (p : Part) : Type 0 where
+  pub open_line : is_open p.line ≡ true
+  pub short : length p.line ≤ 4096
+  pub few : p.number ≤ 65537
+
+-- how many bytes there may still be
+abbrev pub room : Part → ℕ
+room p = (65537 - p.number) * 4097 + (4097 - length p.line)
+
+-- The bytes end the text, or lead from one part to another. Each takes up some of the room.
+abbrev pub LeadsTo : Part → List ℕ → Part → Bool → Type 0
+LeadsTo old bytes new true = (rest : List ℕ) → meaning_with old (bytes ++ rest) ≡ Ok new.load
+LeadsTo old bytes new false =
+    ((rest : List ℕ) → meaning_with old (bytes ++ rest) ≡ meaning_with new rest) × (room new + length bytes ≤ room old)
+
+-- a fault that bytes alone decide, or want of memory
+abbrev pub is_verdict : StatusError → Bool
+is_verdict fault.Truncated = false
+is_verdict fault.ReadFault = false
+is_verdict _ = true
+
+-- the last piece decides, and nothing before it does: no read is made behind the period line
+abbrev pub EndsWithPiece : List ℕ → Type 0
+EndsWithPiece bytes = (before : List ℕ) × (piece : List ℕ) × (bytes ≡ before ++ piece) × (status before ≡ Err fault.Truncated)
+
+-- What a call may answer that took these bytes and met these lulls, where `failures` are those of
+-- its device in the call, and `ended` says whether the last take found the end.
+abbrev pub Answers : List ℕ → ℕ → ℕ → Bool → Result (List Line) StatusError → Type 0
+Answers bytes lulls failures ended (Ok load) = (status bytes ≡ Ok load) × EndsWithPiece bytes
+Answers bytes lulls failures ended (Err fault.Memory) = Unit {0}
+Answers bytes lulls failures ended (Err fault.Truncated) = (status bytes ≡ Err fault.Truncated) × (ended ≡ true)
+Answers bytes lulls failures ended (Err fault.ReadFault) =
+    (status bytes ≡ Err fault.Truncated) × ((failures ≡ 1) ⊎ (lulls ≡ 65))
+Answers bytes lulls failures ended (Err f) = status bytes ≡ Err f

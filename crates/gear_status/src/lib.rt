@@ -1,0 +1,19 @@
+//! The job server's answer to `status`: a load, read line by line from any source of bytes.
+#![tactic(auto)]
+
+mod device;
+mod error;
+mod line;
+mod load;
+mod memory;
+mod reader;
+mod status;
+
+pub use device::{DeviceFault, Given, Sink, Source, Took, give_all};
+pub use error::StatusError;
+pub use load::{Counts, Load};
+pub use memory::{SliceSource, VecSink};
+pub use status::read_status;
+
+#[cfg(test)]
+mod tests;

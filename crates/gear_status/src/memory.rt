@@ -1,0 +1,117 @@
+// Devices over memory, which tell their bytes.
+
+ghost use Rattle.std.specs.Prelude.{◌≡◌, [], false};
+
+use crate::device::{DeviceFault, Sink, Source, Took};
+use std::alloc::Global;
+use std::marker::Model;
+
+/// Reads from a slice, as many bytes at a time as there is room for. It never lulls and never fails.
+#[derive(Drop)]
+pub struct SliceSource<'s> {
+    all: &'s [u8],
+    at: usize,
+    has_ended: bool,
+}
+
+impl<'s> Model for SliceSource<'s> {
+    ghost use Rattle.std.specs.Prelude.{◌≡◌, ◌≤◌, length, true};
+    ghost use Rattle.gear_status.specs.Memory.{IsRead, Read};
+
+    ghost Value = { Read };
+
+    ghost view = { λ s. record { text = s.all.now; at = s.at; has_ended = s.has_ended } };
+
+    ghost invariant = { λ s. IsRead (record { text = s.all.now; at = s.at; has_ended = s.has_ended }) };
+}
+
+impl<'s> SliceSource<'s> {
+    /// A source of which nothing has been read.
+    pub fn new(all: &'s [u8]) -> SliceSource<'s>
+        ensures { result ≡ record { text = all.now; at = 0; has_ended = false } }
+    {
+        SliceSource {
+            all,
+            at: 0,
+            has_ended: false,
+        }
+    }
+}
+
+impl Source for SliceSource<'_> {
+    ghost use Rattle.std.specs.Prelude.{Some, take};
+
+    ghost given = { λ s. Some (take s.at s.text) };
+
+    ghost lulls = { λ _. Some 0 };
+
+    ghost failures = { λ _. 0 };
+
+    ghost has_ended = { λ s. s.has_ended };
+
+    fn take(&mut self, buffer: &mut [u8]) -> Result<Took, DeviceFault> {
+        let left = self.all.len() - self.at;
+        let count = left.min(buffer.len());
+        if count == 0 {
+            self.has_ended = true;
+            return Ok(Took::Ended);
+        }
+        let end = self.at + count;
+        buffer[..count].copy_from_slice(&self.all[self.at..end]);
+        self.at = end;
+        self.has_ended = false;
+        Ok(Took::Bytes(count))
+    }
+}
+
+/// Keeps the bytes that are written to it. A growth that is refused counts as a failure of the device.
+#[derive(Drop)]
+pub struct VecSink {
+    bytes: Vec<u8>,
+    failures: u64,
+}
+
+impl Model for VecSink {
+    ghost use Rattle.gear_status.specs.Memory.{Written};
+
+    ghost Value = { Written };
+
+    ghost view = { λ s. record { bytes = s.bytes.items; failures = s.failures } };
+}
+
+impl VecSink {
+    /// A sink that holds nothing.
+    pub fn new(alloc: Global) -> VecSink
+        ensures { result ≡ record { bytes = []; failures = 0 } }
+    {
+        VecSink {
+            bytes: Vec::new(alloc),
+            failures: 0,
+        }
+    }
+
+    /// The bytes that were written, in order.
+    pub fn bytes(&self) -> &[u8]
+        ensures { result.now ≡ self.now.bytes }
+    {
+        self.bytes.as_slice()
+    }
+}
+
+impl Sink for VecSink {
+    ghost use Rattle.std.specs.Prelude.{Some};
+
+    ghost got = { λ s. Some s.bytes };
+
+    ghost failures = { λ s. s.failures };
+
+    fn give(&mut self, bytes: &[u8]) -> Result<usize, DeviceFault> {
+        match self.bytes.extend_from_slice(bytes) {
+            Ok(()) => Ok(bytes.len()),
+            Err(_) => {
+                self.failures += 1;
+                Err(DeviceFault)
+            }
+        }
+    }
+}
