@@ -1,5 +1,5 @@
 -- A text that comes byte by byte.
-use Rattle.std.proofs.Common.{◌≡◌, ◌≢◌, append_assoc, subst, ℕ, ◌+◌, ◌-◌, ◌*◌, ◌<◌, ◌≤◌, List, [], ◌∷◌, ◌++◌, Bool, true, false, not, cond, Result, Ok, Err, length, refl, ap, ◌∙◌, sym, arith, length-append, eqb, ltb}
+use Rattle.std.proofs.Common.{◌≡◌, ◌≢◌, append_assoc, subst, ℕ, ◌+◌, ◌-◌, ◌*◌, ◌<◌, ◌≤◌, List, [], ◌∷◌, ◌++◌, Bool, true, false, not, Ok, Err, length, refl, ap, ◌∙◌, sym, arith, length-append, ltb}
 use Rattle.std.specs.List.{slice_split}
 use Rattle.std.proofs.lemmas.Bool.{and_parts, false≢true}
 use Rattle.std.proofs.lemmas.Bool.Decides.{nat_tests}

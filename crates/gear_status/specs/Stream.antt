@@ -1,5 +1,5 @@
 -- A status text that has come in part.
-use Rattle.std.specs.Prelude.{ℕ, ◌≡◌, ◌+◌, ◌-◌, ◌*◌, ◌≤◌, ◌⊎◌, List, [], ◌++◌, Bool, true, false, not, length, Option, Some, None, Result, Ok, Err}
+use Rattle.std.specs.Prelude.{ℕ, ◌≡◌, ◌+◌, ◌-◌, ◌*◌, ◌≤◌, ◌⊎◌, List, ◌++◌, take, Bool, true, false, not, length, Option, Some, None, Result, Ok, Err}
 use Rattle.std.specs.List.{list_all, slice_split}
 use Rattle.gear_status.specs.Status.{Line, is_line_feed, meaning_from, status}
 use Rattle.gear_status.specs.declared.error.StatusError.{StatusError}
@@ -53,3 +53,16 @@ Answers bytes lulls failures ended (Err fault.Truncated) = (status bytes ≡ Err
 Answers bytes lulls failures ended (Err fault.ReadFault) =
     (status bytes ≡ Err fault.Truncated) × ((failures ≡ 1) ⊎ (lulls ≡ 65))
 Answers bytes lulls failures ended (Err f) = status bytes ≡ Err f
+
+-- No text that is undecided is longer than this: 65,536 lines of 4,096 bytes with their line feeds, and one more line.
+abbrev pub longest : ℕ
+longest = 65537 * 4097
+
+-- The same, of a call that takes so many bytes at most and one byte more to see whether the text goes on
+abbrev pub AnswersWithin : ℕ → List ℕ → ℕ → ℕ → Bool → Result (Option (List Line)) StatusError → Type 0
+AnswersWithin limit bytes lulls failures ended (Ok (Some load)) =
+    Answers bytes lulls failures ended (Ok load) × (length bytes ≤ limit)
+AnswersWithin limit bytes lulls failures ended (Ok None) =
+    (length bytes ≡ limit + 1) × (status (take limit bytes) ≡ Err fault.Truncated) × (limit ≤ longest)
+AnswersWithin limit bytes lulls failures ended (Err f) =
+    Answers bytes lulls failures ended (Err f) × (length bytes ≤ limit)

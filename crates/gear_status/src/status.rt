@@ -1,11 +1,11 @@
 // A load, read from a source.
 
-ghost use Rattle.std.specs.Prelude.{◌≡◌, ◌+◌, ◌-◌, ◌^◌, ◌<◌, ℕ, List};
-ghost use Rattle.gear_status.specs.Device.{and_then, counted};
-ghost use Rattle.gear_status.specs.Stream.{Answers};
+ghost use Rattle.std.specs.Prelude.{◌≡◌, ◌+◌, ◌-◌, ◌^◌, ◌<◌, IfOk, ℕ, List, length, max, min};
+ghost use Rattle.gear_status.specs.Device.{FitsBuffer, and_then, counted, failure_of, is_end, lull_of, taken};
+ghost use Rattle.gear_status.specs.Stream.{Answers, AnswersWithin};
 
 use crate::reader::Unfinished;
-use crate::{Load, Source, StatusError, Took};
+use crate::{DeviceFault, Load, Source, StatusError, Took};
 use std::alloc::Global;
 
 /// How many lulls one status text may have.
@@ -29,14 +29,39 @@ pub fn read_status<S: Source>(alloc: Global, source: &mut S) -> Result<Load, Sta
         × (S.failures source.new ≡ S.failures source.old + failures)
         × Answers bytes lulls failures (S.has_ended source.new) result }
 {
+    match read_status_within(alloc, source, u64::MAX)? {
+        Some(load) => Ok(load),
+        None => unreachable!(),
+    }
+}
+
+/// As `read_status`, from no more than `limit` bytes. None where so many hold neither a fault nor the line feed of the period
+/// line, and another byte comes.
+pub fn read_status_within<S: Source>(
+    alloc: Global,
+    source: &mut S,
+    limit: u64,
+) -> Result<Option<Load>, StatusError>
+    requires { S.failures source.old < 2 ^ 64 - 1 }
+    ensures { (bytes : List ℕ) × (lulls : ℕ) × (failures : ℕ)
+        × (S.given source.new ≡ and_then (S.given source.old) bytes)
+        × (S.lulls source.new ≡ counted (S.lulls source.old) lulls)
+        × (S.failures source.new ≡ S.failures source.old + failures)
+        × AnswersWithin limit bytes lulls failures (S.has_ended source.new) result }
+{
     let mut buffer = [0u8; 4096];
     let mut text = Unfinished::new(alloc);
+    let mut left = limit;
     let mut lulls = 0;
     loop {
-        match source.take(&mut buffer) {
+        match take_up_to(source, &mut buffer, left) {
             Ok(Took::Bytes(count)) => {
+                if left == 0 {
+                    return Ok(None);
+                }
+                left -= count as u64;
                 if text.feed(&buffer[..count])? {
-                    return Ok(text.into_load());
+                    return Ok(Some(text.into_load()));
                 }
             }
             Ok(Took::Lull) => {
@@ -49,4 +74,20 @@ pub fn read_status<S: Source>(alloc: Global, source: &mut S) -> Result<Load, Sta
             Err(_) => return Err(StatusError::ReadFault),
         }
     }
+}
+
+/// Reads no more than so many bytes, or one where none are left: whether it comes tells a text that ends at a limit from a longer
+/// one.
+fn take_up_to<S: Source>(source: &mut S, buffer: &mut [u8], left: u64) -> Result<Took, DeviceFault>
+    requires room { 0 < length buffer.old }
+    requires count { S.failures source.old < 2 ^ 64 - 1 }
+    ensures within { IfOk result (FitsBuffer (min (length buffer.new) (max left 1))) }
+    ensures buffer { length buffer.new ≡ length buffer.old }
+    ensures bytes { S.given source.new ≡ and_then (S.given source.old) (taken buffer.new result) }
+    ensures pauses { S.lulls source.new ≡ counted (S.lulls source.old) (lull_of result) }
+    ensures fails { S.failures source.new ≡ S.failures source.old + failure_of result }
+    ensures ends { S.has_ended source.new ≡ is_end result }
+{
+    let room = left.max(1).min(buffer.len() as u64) as usize;
+    source.take(&mut buffer[..room])
 }

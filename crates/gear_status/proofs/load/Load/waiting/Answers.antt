@@ -1,7 +1,5 @@
-use Rattle.std.proofs.Common.{◌≡◌, Option, Some, None, option_map, ap, ◌∙◌, sym, Bor}
-use Rattle.std.specs.Option.{option_copied}
-use Rattle.gear_status.specs.declared.load.Counts.{Counts}
-use Rattle.gear_status.specs.Status.{counts_of, waiting}
+use Rattle.std.proofs.Common.{◌≡◌, Some, None, ◌∙◌, sym}
+use Rattle.gear_status.specs.Status.{counts_of}
 use Rattle.gear_status.proofs.Lines.{counts_view}
 use Rattle.gear_status.proofs.load.Load.waiting.Goals as goal
 

@@ -1,4 +1,4 @@
-use Rattle.std.proofs.Common.{◌≡◌, ◌≤◌, ◌∙◌, true, false, Ok, Err, arith, rules, ap, subst, sym}
+use Rattle.std.proofs.Common.{◌≡◌, ◌∙◌, true, false, Ok, Err, ap, subst, sym}
 use Rattle.std.proofs.lemmas.Result.{err_from_is_err_and}
 use Rattle.gear_status.specs.Status.{is_period, line_meaning, without_return}
 use Rattle.gear_status.proofs.Stream.{feed_fault, feed_line, feed_many, feed_period, more_room}
