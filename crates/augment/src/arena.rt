@@ -1,0 +1,59 @@
+ghost use Rattle.std.specs.Prelude.{◌≡◌, ℕ, ◌+◌, ◌*◌, ◌^◌, ◌<◌, ◌≤◌, length, IfOk, OnErr};
+ghost use Rattle.augment.specs.Short.{marked};
+ghost use Rattle.round_arena.specs.Round.{IsSound, SamePairs};
+ghost use Rattle.augment.specs.Round.{IsServed, KeepsServed, IsCapped, IsWithinLooks};
+
+use crate::search::Tree;
+use crate::serving::{Served, collect, serve_all};
+use round_arena::{FuncId, Tables};
+use std::alloc::AllocError;
+
+/// Moves workers until each function has its need, or gives a set of functions that is short. Makes
+/// all its growths first.
+pub fn serve<'a>(tables: &mut Tables<'a>, need: &[u32]) -> Result<Served<'a>, AllocError>
+    requires sound { IsSound (length need.now) tables.old }
+    requires functions { length need.now < 2 ^ 32 }
+    requires looks { tables.old.looks + (length tables.old.owner.now + 1) * length tables.old.pairs.workers.now < 2 ^ 64 }
+    ensures sound { IsSound (length need.now) tables.new }
+    ensures same { SamePairs tables.old tables.new }
+    ensures served { IfOk result (IsServed need.now tables.new) }
+    ensures kept { KeepsServed need.now tables.old tables.new }
+    ensures capped { IsCapped need.now tables.old tables.new }
+    ensures looks { IfOk result (IsWithinLooks tables.old tables.new) }
+    ensures memory { OnErr result (tables.new ≡ tables.old) }
+{
+    let functions = need.len();
+    let bump = tables.bump;
+    let set = bump.try_alloc_slice_fill_clone(functions, FuncId::new(0))?;
+    let mut tree = Tree {
+        reached: bump.try_alloc_slice_fill_clone(functions, 0)?,
+        by: bump.try_alloc_slice_fill_clone(functions, 0)?,
+        from: bump.try_alloc_slice_fill_clone(functions, 0)?,
+        place: bump.try_alloc_slice_fill_clone(functions, 0)?,
+        tail: 0,
+    };
+    let pairs = tables.pairs;
+    if serve_all(
+        &pairs,
+        tables.order,
+        need,
+        tables.owner,
+        tables.count,
+        &mut tree,
+        &mut tables.looks,
+    ) {
+        return Ok(Served::All);
+    }
+    Ok(Served::Short(reached(&tree, set)))
+}
+
+// The functions that the tree marks, in order.
+fn reached<'a>(tree: &Tree, set: &'a mut [FuncId]) -> &'a [FuncId]
+    requires room { length set.old ≡ length tree.now.place.now }
+    requires functions { length set.old < 2 ^ 32 }
+    ensures { result.now ≡ marked tree.now.place.now (length tree.now.place.now) }
+{
+    let place = &*tree.place;
+    let n = collect(place, set);
+    &set[..n]
+}

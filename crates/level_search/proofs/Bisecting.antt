@@ -1,0 +1,160 @@
+-- laws of the bisection of levels
+use Rattle.std.proofs.Common.{◌≡◌, ℕ, suc, ◌+◌, ◌-◌, ◌*◌, ◌/◌, ◌^◌, ◌<◌, ◌≤◌, List, All, length, sum_by, get_or, refl, sym, ap, ◌∙◌, subst, arith}
+use Rattle.std.proofs.Math.Nat.{mul-le-mul_left, mul_comm, two-pow-succ}
+use Rattle.std.proofs.lemmas.List.Elements.{recursion_from_All}
+use Rattle.plan_model.specs.Planning.{Instance, may_do, need, neighbours, LacksWorkers, IsShort}
+use Rattle.plan_model.proofs.Hall.{sum_by-le_each}
+use Rattle.plan_model.proofs.Reached.{need-falls}
+use Rattle.round_arena.specs.declared.tables.Tables.{Tables}
+use Rattle.round_arena.specs.declared.tables.Pairs.{Pairs}
+use Rattle.round_arena.specs.Plan.{Represents}
+use Rattle.round_arena.specs.Round.{IsSound, SamePairs, Holds}
+use Rattle.augment.specs.declared.serving.Served.{Served}
+use Rattle.augment.specs.declared.serving.Served.TheVariants.{All as Full, Short}
+use Rattle.augment.specs.Round.{IsServed, KeepsServed, IsWithinLooks}
+use Rattle.level_search.specs.Levels.{AreNeeds, Fits, AreMet}
+use Rattle.level_search.specs.Found.{IsProbed, KeepsMet}
+
+pub SamePairs-refl : (t : Tables) → SamePairs t t
+SamePairs-refl t = record { pairs = refl; machine = refl; slot = refl; order = refl; staff = refl }
+
+pub SamePairs-trans : (t u v : Tables) → SamePairs t u → SamePairs u v → SamePairs t v
+SamePairs-trans t u v a b = record { pairs = b.pairs ∙ a.pairs; machine = b.machine ∙ a.machine; slot = b.slot ∙ a.slot; order = b.order ∙ a.order; staff = b.staff ∙ a.staff }
+
+pub Fits-same : (i : Instance) (t u : Tables) → SamePairs t u → Fits i t → Fits i u
+Fits-same i t u s h =
+    let machine : u.machine.now ≡ t.machine.now = ap (λ m. m.now) s.machine in
+    record {
+      machines = machine ∙ h.machines;
+      holds = subst (λ (m : List ℕ). Represents (may_do i) m u.pairs.first.now u.pairs.workers.now (length i.least)) (sym machine)
+          (subst (λ (p : Pairs). Represents (may_do i) t.machine.now p.first.now p.workers.now (length i.least)) (sym s.pairs) h.holds);
+    }
+
+pub AreMet-kept : (i : Instance) (needs : List ℕ) (level higher : ℕ) (t u : Tables) → AreNeeds i level needs → KeepsServed needs t u
+    → level ≤ higher → AreMet i t.owner.now higher → AreMet i u.owner.now higher
+AreMet-kept i needs level higher t u e k l met f b =
+    omega (arith, need-falls i level higher f l, e.each f b, met f b, k f (omega (arith, e.size, b)))
+
+-- the set that serving gives is short at the level
+pub IsShort-served : (i : Instance) (needs set : List ℕ) (level : ℕ) (t : Tables) → AreNeeds i level needs → Fits i t → LacksWorkers (may_do i) t.machine.now (length needs) (λ f. get_or needs f 0) set → IsShort i level set
+IsShort-served i needs set level t e fits h =
+    let within : All (λ f. f < length i.least) set = λ k d b. omega (arith, h.within k d b, e.size) in
+    let fewer : sum_by (λ f. get_or needs f 0) set ≤ sum_by (need i level) set =
+    sum_by-le_each (λ f. get_or needs f 0) (need i level) set (recursion_from_All (λ f. get_or needs f 0 ≤ need i level f) set (λ k d b. omega (arith, e.each (get_or set k d) (within k d b)))) in
+    record {
+      rising = h.rising;
+      within = within;
+      short = omega (arith, h.short, fewer, ap (λ ms. neighbours (may_do i) ms set) fits.machines);
+    }
+
+pub IsProbed-served : (i : Instance) (needs : List ℕ) (level : ℕ) (t : Tables) (served : Served) → AreNeeds i level needs → Fits i t → IsServed needs t served → IsProbed i level t served
+IsProbed-served i needs level t Full e fits h = λ f l. omega (arith, h f (omega (arith, l, e.size)), e.each f l)
+IsProbed-served i needs level t (Short set) e fits h =
+    let by_need : Holds (may_do i) (length needs) t = subst (λ (n : ℕ). Holds (may_do i) n t) (sym e.size) fits.holds in
+    IsShort-served i needs set.now level t e fits (h (may_do i) by_need)
+
+-- how far the bisection has come
+pub record IsBisecting (i : Instance) (before now : Tables) (low high round : ℕ) (set : List ℕ) : Type 0 where
+  pub sound : IsSound (length i.least) now
+  pub same : SamePairs before now
+  pub fits : Fits i now
+  pub order : low ≤ high
+  pub width : high - low < 2 ^ (33 - round)
+  pub met : AreMet i now.owner.now high
+  pub short : 0 < low → IsShort i (low - 1) set
+  pub looks : now.looks ≤ before.looks + length before.owner.now * length before.pairs.workers.now + round * ((length before.owner.now + 1) * length before.pairs.workers.now)
+
+half_width : (round : ℕ) → round < 33 → 2 ^ (33 - round) ≡ 2 ^ (33 - (round + 1)) + 2 ^ (33 - (round + 1))
+half_width round l =
+    let next : 33 - round ≡ suc (33 - (round + 1)) = omega arith in
+    ap (λ n. 2 ^ n) next ∙ two-pow-succ (33 - (round + 1))
+
+-- the looks that are left for one probe more
+pub looks-left : (i : Instance) (set : List ℕ) (before now : Tables) (low high round : ℕ) → IsBisecting i before now low high round set → round < 33
+    → now.looks + (length now.owner.now + 1) * length now.pairs.workers.now ≤ before.looks + 34 * ((length before.owner.now + 1) * length before.pairs.workers.now)
+looks-left i set before now low high round h l =
+    let q : ℕ = (length before.owner.now + 1) * length before.pairs.workers.now in
+    let rounds : q * round ≤ q * 32 = mul-le-mul_left q (omega arith) in
+    let swap : round * q ≡ q * round = mul_comm round q in
+    let staff : length now.owner.now ≡ length before.owner.now = h.same.staff in
+    let pairs : length now.pairs.workers.now ≡ length before.pairs.workers.now = ap (λ p. length p.workers.now) h.same.pairs in
+    let one : (length now.owner.now + 1) * length now.pairs.workers.now ≡ q = ap (λ n. (n + 1) * length now.pairs.workers.now) staff ∙ ap (λ n. (length before.owner.now + 1) * n) pairs in
+    let part : length before.owner.now * length before.pairs.workers.now ≤ q = omega arith in
+    omega (arith, h.looks)
+
+spent-le : (old new : Tables) (served : Served) → IsWithinLooks old new served → new.looks ≤ old.looks + (length old.owner.now + 1) * length old.pairs.workers.now
+spent-le old new Full h = omega arith
+spent-le old new (Short set) h = h
+
+-- the looks after one probe more
+looks-more : (i : Instance) (set : List ℕ) (before now then : Tables) (low high round : ℕ) (served : Served) → IsBisecting i before now low high round set → IsWithinLooks now then served
+    → then.looks ≤ before.looks + length before.owner.now * length before.pairs.workers.now + (round + 1) * ((length before.owner.now + 1) * length before.pairs.workers.now)
+looks-more i set before now then low high round served h w =
+    let q : ℕ = (length before.owner.now + 1) * length before.pairs.workers.now in
+    let staff : length now.owner.now ≡ length before.owner.now = h.same.staff in
+    let pairs : length now.pairs.workers.now ≡ length before.pairs.workers.now = ap (λ p. length p.workers.now) h.same.pairs in
+    let one : (length now.owner.now + 1) * length now.pairs.workers.now ≡ q = ap (λ n. (n + 1) * length now.pairs.workers.now) staff ∙ ap (λ n. (length before.owner.now + 1) * n) pairs in
+    let spent : then.looks ≤ now.looks + (length now.owner.now + 1) * length now.pairs.workers.now = spent-le now then served w in
+    let product : (round + 1) * q ≡ round * q + q = omega arith in
+    omega (arith, h.looks)
+
+-- the middle level was served
+pub IsBisecting-met : (i : Instance) (set : List ℕ) (before now then : Tables) (low high round middle : ℕ) → IsBisecting i before now low high round set → round < 33 → low < high → middle ≡ low + (high - low) / 2
+    → IsSound (length i.least) then → SamePairs now then → AreMet i then.owner.now middle → IsWithinLooks now then Full
+    → IsBisecting i before then low middle (round + 1) set
+IsBisecting-met i set before now then low high round middle h r l m sound same met w =
+    let half : 2 ^ (33 - round) ≡ 2 ^ (33 - (round + 1)) + 2 ^ (33 - (round + 1)) = half_width round r in
+    record {
+      sound = sound;
+      same = SamePairs-trans before now then h.same same;
+      fits = Fits-same i now then same h.fits;
+      order = omega arith;
+      width = omega (arith, h.width);
+      met = met;
+      short = λ p. h.short p;
+      looks = looks-more i set before now then low high round Full h w;
+    }
+
+-- the middle level is short
+pub IsBisecting-short : (i : Instance) (set : List ℕ) (before now then : Tables) (low high round middle : ℕ) (found : Served) (more : List ℕ) → IsBisecting i before now low high round set → round < 33 → low < high → middle ≡ low + (high - low) / 2
+    → IsSound (length i.least) then → SamePairs now then → KeepsMet i middle now then → IsShort i middle more → IsWithinLooks now then found
+    → IsBisecting i before then (middle + 1) high (round + 1) more
+IsBisecting-short i set before now then low high round middle found more h r l m sound same kept short w =
+    let half : 2 ^ (33 - round) ≡ 2 ^ (33 - (round + 1)) + 2 ^ (33 - (round + 1)) = half_width round r in
+    let back : middle + 1 - 1 ≡ middle = omega arith in
+    record {
+      sound = sound;
+      same = SamePairs-trans before now then h.same same;
+      fits = Fits-same i now then same h.fits;
+      order = omega arith;
+      width = omega (arith, h.width);
+      met = kept high (omega arith) h.met;
+      short = λ _. subst (λ (n : ℕ). IsShort i n more) (sym back) short;
+      looks = looks-more i set before now then low high round found h w;
+    }
+
+-- there is no level between
+pub IsBisecting-idle : (i : Instance) (set : List ℕ) (before now : Tables) (low high round : ℕ) → IsBisecting i before now low high round set → round < 33 → high ≤ low
+    → IsBisecting i before now low high (round + 1) set
+IsBisecting-idle i set before now low high round h r l =
+    let q : ℕ = (length before.owner.now + 1) * length before.pairs.workers.now in
+    let half : 2 ^ (33 - round) ≡ 2 ^ (33 - (round + 1)) + 2 ^ (33 - (round + 1)) = half_width round r in
+    let product : (round + 1) * q ≡ round * q + q = omega arith in
+    record {
+      sound = h.sound;
+      same = h.same;
+      fits = h.fits;
+      order = h.order;
+      met = h.met;
+      short = h.short;
+      width = omega (arith, h.width);
+      looks = omega (arith, h.looks);
+    }
+
+pub IsBisecting-is : (i : Instance) (before t u : Tables) (low low' high high' round : ℕ) (set set' : List ℕ) → u ≡ t → low' ≡ low → high' ≡ high → set' ≡ set
+    → IsBisecting i before t low high round set → IsBisecting i before u low' high' round set'
+IsBisecting-is i before t u low low' high high' round set set' et el eh es h =
+    subst (λ (z : Tables). IsBisecting i before z low' high' round set') (sym et)
+    (subst (λ (z : ℕ). IsBisecting i before t z high' round set') (sym el)
+    (subst (λ (z : ℕ). IsBisecting i before t low z round set') (sym eh)
+    (subst (λ (z : List ℕ). IsBisecting i before t low high round z) (sym es) h)))

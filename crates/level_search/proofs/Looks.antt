@@ -1,0 +1,43 @@
+-- how many looks a round can take
+use Rattle.std.proofs.Common.{◌≡◌, ℕ, zero, suc, ◌+◌, ◌*◌, ◌^◌, ◌<◌, ◌≤◌, List, length, count_by, ap, ◌∙◌, arith}
+use Rattle.std.proofs.Math.Nat.{mul-le-mul_left}
+use Rattle.std.proofs.lemmas.List.{length-map}
+use Rattle.std.proofs.lemmas.List.Sums.{count_by-le-length}
+use Rattle.plan_model.specs.Planning.{Instance, IsInstance, may_do, machines_of}
+use Rattle.round_arena.specs.Total.{total}
+use Rattle.round_arena.specs.Input.{pair_count}
+use Rattle.round_arena.specs.declared.tables.Tables.{Tables}
+use Rattle.round_arena.specs.declared.tables.Pairs.{Pairs}
+use Rattle.round_arena.specs.Round.{SamePairs}
+use Rattle.level_search.specs.Answered.{Starts}
+
+total-few : (n b : ℕ) (g : ℕ → ℕ) → ((k : ℕ) → g k ≤ b) → total n g ≤ b * n
+total-few zero b g h = omega arith
+total-few (suc n) b g h =
+    let more : b * suc n ≡ b * n + b = omega arith in
+    omega (arith, total-few n b g h, h n)
+
+pub pair_count-few : (i : Instance) → IsInstance i → pair_count i ≤ 4194304
+pair_count-few i h =
+    let each : (f : ℕ) → count_by (λ m. may_do i m f) (machines_of i) ≤ 4096 =
+    λ f. omega (arith, count_by-le-length (λ m. may_do i m f) (machines_of i), length-map i.live (λ worker. worker.1), h.limits.workers) in
+    omega (arith, total-few (length i.least) 4096 (λ f. count_by (λ m. may_do i m f) (machines_of i)) each, h.limits.functions)
+
+-- the bound of a whole round is far below the greatest number
+pub looks-few : (i : Instance) → IsInstance i → 34 * ((length i.live + 1) * pair_count i) < 9223372036854775808
+looks-few i h =
+    let few : (length i.live + 1) * pair_count i ≤ (length i.live + 1) * 4194304 = mul-le-mul_left (length i.live + 1) (pair_count-few i h) in
+    omega (arith, few, h.limits.workers)
+
+-- the tables at the start
+pub staff-starts : (i : Instance) (t : Tables) → Starts i t → length t.owner.now ≡ length i.live
+staff-starts i t s = omega (arith, s.sound.slots, ap length s.slots, length-map i.live (λ worker. worker.0))
+
+pub looks-start : (i : Instance) (t : Tables) → Starts i t → t.looks + 34 * ((length t.owner.now + 1) * length t.pairs.workers.now) ≡ 34 * ((length i.live + 1) * pair_count i)
+looks-start i t s =
+    let product : (length t.owner.now + 1) * length t.pairs.workers.now ≡ (length i.live + 1) * pair_count i =
+    ap (λ n. (n + 1) * length t.pairs.workers.now) (staff-starts i t s) ∙ ap (λ n. (length i.live + 1) * n) s.pairs in
+    omega (arith, product, s.looks)
+
+pub pairs-same : (t u : Tables) → SamePairs t u → length u.pairs.workers.now ≡ length t.pairs.workers.now
+pairs-same t u s = ap (λ p. length p.workers.now) s.pairs

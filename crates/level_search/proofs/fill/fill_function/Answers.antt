@@ -1,0 +1,53 @@
+use Rattle.std.proofs.Common.{◌≡◌, ◌≢◌, ℕ, List, ◌+◌, ◌-◌, ◌<◌, ◌≤◌, length, get_or, set, eqb, ap, sym, subst, refl, ◌∙◌, arith, rules}
+use Rattle.std.proofs.lemmas.List.{get_or-set_same, get_or-set_other}
+use Rattle.std.proofs.lemmas.List.Sums.{count_by-le-length}
+use Rattle.round_arena.specs.Plan.{IsPair, count_on}
+use Rattle.level_search.specs.Filled.{IsFilled, IsBusyUpTo}
+use Rattle.augment.proofs.Trees.{IsPair-at}
+use Rattle.level_search.proofs.Filling.{IsFilled-set, IsFilled-trans, IsBusyUpTo-filled, IsBusyUpTo-more}
+use Rattle.level_search.proofs.fill.fill_function.Goals as goal
+use Rattle.level_search.proofs.fill.fill_function.Goals.{then-owner-w, else-owner-w}
+
+pub overflow_add-count : goal.overflow_add-count
+overflow_add-count c =
+    let f = c.args.f in
+    let i = c.loop-k.invariant.filled in
+    let apart : f ≢ c.args.functions = (λ q. omega (arith, q)) in
+    let other : get_or (set c.loop-k.count c.args.functions (get_or c.loop-k.count c.args.functions 0 - 1)) f 0 ≡ get_or c.loop-k.count f 0 = get_or-set_other c.loop-k.count c.args.functions f (get_or c.loop-k.count c.args.functions 0 - 1) 0 apart in
+    let few : count_on c.loop-k.owner f ≤ length c.loop-k.owner = count_by-le-length (λ g. eqb g f) c.loop-k.owner in
+    let small : get_or (set c.loop-k.count c.args.functions (get_or c.loop-k.count c.args.functions 0 - 1)) f 0 + 1 < 4294967296 =
+    omega (arith, i.counted.counts f (omega arith), i.size) in
+    search rules
+
+pub loop-k-preserved : goal.loop-k-preserved
+loop-k-preserved c =
+    let p = c.args.pairs.now in
+    let f = c.args.f in
+    let functions = c.args.functions in
+    let owner = c.loop-k.owner in
+    let count = c.loop-k.count in
+    let w = get_or p.workers.now c.loop-k.k 0 in
+    let i = c.loop-k.invariant in
+    let wl : w < length owner = omega (arith, c.requires.graph.known c.loop-k.k (search rules), i.filled.size) in
+    let pr : IsPair p.first.now p.workers.now w f = IsPair-at p.first.now p.workers.now f c.loop-k.k f c.loop-k.auto.k c.loop-k-test.true refl in
+    elim c.if-owner-w.branch [
+      | then-owner-w b ↦
+          let step : IsFilled functions p owner c.if-owner-w.owner c.if-owner-w.count =
+          subst (λ (z : List ℕ). IsFilled functions p owner z c.if-owner-w.count) (sym b.owner-is)
+          (subst (λ (z : List ℕ). IsFilled functions p owner (set owner w f) z) (sym b.count-is)
+          (IsFilled-set functions p owner count w f i.filled.assigned i.filled.counted wl c.requires.f b.if-owner-w.true pr)) in
+          let here : get_or c.if-owner-w.owner w 0 ≡ f = ap (λ z. get_or z w 0) b.owner-is ∙ get_or-set_same owner w f 0 wl in
+          record {
+            filled = IsFilled-trans functions p c.args.owner.now owner c.if-owner-w.owner count c.if-owner-w.count i.filled step;
+            busy = IsBusyUpTo-more functions p c.if-owner-w.owner f c.loop-k.k (IsBusyUpTo-filled functions p owner c.if-owner-w.owner c.if-owner-w.count f c.loop-k.k step i.busy) (omega (arith, here));
+            looks = omega (arith, i.looks);
+          }
+      | else-owner-w b ↦
+          let busy_here : get_or owner w 0 < functions = omega (arith, i.filled.assigned.below w wl, b.if-owner-w.false) in
+          record {
+            filled = subst (λ (z : List ℕ). IsFilled functions p c.args.owner.now z c.if-owner-w.count) (sym b.owner-is)
+                (subst (λ (z : List ℕ). IsFilled functions p c.args.owner.now owner z) (sym b.count-is) i.filled);
+            busy = subst (λ (z : List ℕ). IsBusyUpTo p z functions f (c.loop-k.k + 1)) (sym b.owner-is) (IsBusyUpTo-more functions p owner f c.loop-k.k i.busy busy_here);
+            looks = omega (arith, i.looks);
+          }
+    ]

@@ -1,0 +1,5 @@
+pub mod Filled
+pub mod Levels
+pub mod Found
+pub mod Answered
+pub mod Steady

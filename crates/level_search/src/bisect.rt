@@ -1,0 +1,80 @@
+ghost use Rattle.std.specs.Prelude.{◌≡◌, ℕ, ◌+◌, ◌*◌, ◌^◌, ◌<◌, ◌≤◌, length, IfOk, OnOk};
+ghost use Rattle.round_arena.specs.Round.{IsSound, SamePairs};
+ghost use Rattle.augment.specs.Round.{IsWithinLooks};
+ghost use Rattle.level_search.specs.Levels.{AreNeeds, Fits};
+ghost use Rattle.level_search.specs.Found.{IsProbed, KeepsMet, IsFound};
+
+use augment::{Served, serve};
+use plan_model::{FuncId, Input, TOP_LEVEL};
+use round_arena::Tables;
+use std::alloc::AllocError;
+
+/// What the bisection of levels gives.
+#[derive(Drop)]
+pub enum Found<'a> {
+    /// The tables serve the level. Where it is above 0, the functions are short one level below.
+    Level(u64, &'a [FuncId]),
+    /// The functions are short at the top level.
+    Nothing(&'a [FuncId]),
+}
+
+// Writes what each function needs at the level.
+fn fill_needs(input: &Input, level: u64, needs: &mut [u32])
+    requires { length needs.old ≡ length input.now.least }
+    ensures { AreNeeds input.now level needs.new }
+{
+    for f in 0..input.functions() as u32 {
+        needs[f as usize] = input.need(level, FuncId::new(f));
+    }
+}
+
+// Serves what each function needs at the level, or gives a set that is short there.
+fn probe<'a>(tables: &mut Tables<'a>, input: &Input, level: u64) -> Result<Served<'a>, AllocError>
+    requires sound { IsSound (length input.now.least) tables.old }
+    requires fits { Fits input.now tables.old }
+    requires looks { tables.old.looks + (length tables.old.owner.now + 1) * length tables.old.pairs.workers.now < 2 ^ 64 }
+    ensures sound { IsSound (length input.now.least) tables.new }
+    ensures same { SamePairs tables.old tables.new }
+    ensures probed { IfOk result (IsProbed input.now level tables.new) }
+    ensures kept { KeepsMet input.now level tables.old tables.new }
+    ensures looks { IfOk result (IsWithinLooks tables.old tables.new) }
+{
+    let needs = tables
+        .bump
+        .try_alloc_slice_fill_clone(input.functions(), 0)?;
+    fill_needs(input, level, needs);
+    let served = serve(tables, needs)?;
+    Ok(served)
+}
+
+/// The least level that can be served, with a set that is short one level below, or a set that is
+/// short at the top level.
+pub fn solve_levels<'a>(tables: &mut Tables<'a>, input: &Input) -> Result<Found<'a>, AllocError>
+    requires sound { IsSound (length input.now.least) tables.old }
+    requires fits { Fits input.now tables.old }
+    requires looks { tables.old.looks + 34 * ((length tables.old.owner.now + 1) * length tables.old.pairs.workers.now) < 2 ^ 64 }
+    ensures sound { IsSound (length input.now.least) tables.new }
+    ensures same { SamePairs tables.old tables.new }
+    ensures found { IfOk result (IsFound input.now tables.new) }
+    ensures looks { OnOk result (tables.new.looks + length tables.old.pairs.workers.now ≤ tables.old.looks + 34 * ((length tables.old.owner.now + 1) * length tables.old.pairs.workers.now)) }
+{
+    if let Served::Short(set) = probe(tables, input, TOP_LEVEL)? {
+        return Ok(Found::Nothing(set));
+    }
+    let mut low = 0u64;
+    let mut high = TOP_LEVEL;
+    let mut short: &'a [FuncId] = &[];
+    for _round in 0..33u32 {
+        if low < high {
+            let middle = low + (high - low) / 2;
+            match probe(tables, input, middle)? {
+                Served::All => high = middle,
+                Served::Short(set) => {
+                    low = middle + 1;
+                    short = set;
+                }
+            }
+        }
+    }
+    Ok(Found::Level(high, short))
+}

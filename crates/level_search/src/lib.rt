@@ -1,0 +1,9 @@
+//! The answer of a planning round: the least backlog that can be reached, by bisection of its levels.
+#![tactic(auto)]
+
+mod bisect;
+mod fill;
+mod previous;
+mod solving;
+
+pub use solving::{Solved, solve};

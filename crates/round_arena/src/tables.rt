@@ -1,0 +1,39 @@
+use bumpalo::Bump;
+use plan_model::{MachineId, SlotId};
+
+/// The permitted pairs of a function and a worker, by function: the workers who may do function `f`
+/// are `workers[first[f]..first[f + 1]]`.
+#[derive(Clone, Copy)]
+pub struct Pairs<'p> {
+    /// For each function the place of its first worker, and last the number of pairs.
+    pub first: &'p [usize],
+    /// The workers of one function after the other, those whose machines may do the fewest functions
+    /// first. No contract speaks of this order.
+    pub workers: &'p [u32],
+}
+
+/// The tables of a planning round, all of them slices of one arena. A worker is its place in the
+/// list of live workers.
+///
+/// The fields are public, since the search lends them one by one; `IsSound` says how they fit
+/// together, and each call that takes tables asks for it and gives it back.
+#[derive(Drop)]
+pub struct Tables<'a> {
+    /// Where the tables lie, and where the search makes its own.
+    pub bump: &'a Bump,
+    /// The slot of each worker, in rising order.
+    pub slot: &'a [SlotId],
+    /// The machine of each worker.
+    pub machine: &'a [MachineId],
+    /// Which worker may do which function.
+    pub pairs: Pairs<'a>,
+    /// All functions, in the order in which the search serves them: those that the fewest workers may
+    /// do first. No contract speaks of this order.
+    pub order: &'a [u32],
+    /// The function of each worker, or the number of functions where it is idle.
+    pub owner: &'a mut [u32],
+    /// How many workers are on each function, and last how many are idle.
+    pub count: &'a mut [u32],
+    /// How many pairs have been looked at since the tables were built.
+    pub looks: u64,
+}
