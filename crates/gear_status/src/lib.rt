@@ -13,7 +13,7 @@ pub use device::{DeviceFault, Given, Sink, Source, Took, give_all};
 pub use error::StatusError;
 pub use load::{Counts, Load};
 pub use memory::{SliceSource, VecSink};
-pub use status::{read_status, read_status_within};
+pub use status::{load_of, read_status, read_status_within};
 
 #[cfg(test)]
 mod tests;

@@ -1,7 +1,8 @@
 // A load, read from a source.
 
-ghost use Rattle.std.specs.Prelude.{◌≡◌, ◌+◌, ◌-◌, ◌^◌, ◌<◌, IfOk, ℕ, List, length, max, min};
+ghost use Rattle.std.specs.Prelude.{◌≡◌, ◌≢◌, ◌+◌, ◌-◌, ◌^◌, ◌<◌, Err, IfErr, IfOk, Ok, ℕ, List, length, max, min};
 ghost use Rattle.gear_status.specs.Device.{FitsBuffer, and_then, counted, failure_of, is_end, lull_of, taken};
+ghost use Rattle.gear_status.specs.Status.{status};
 ghost use Rattle.gear_status.specs.Stream.{Answers, AnswersWithin};
 
 use crate::reader::Unfinished;
@@ -73,6 +74,19 @@ pub fn read_status_within<S: Source>(
             Ok(Took::Ended) => return Err(StatusError::Truncated),
             Err(_) => return Err(StatusError::ReadFault),
         }
+    }
+}
+
+/// The load of a status text that is there whole, by the same rules. `ReadFault` never comes.
+pub fn load_of(alloc: Global, text: &[u8]) -> Result<Load, StatusError>
+    ensures ok { IfOk result (λ load. status text.now ≡ Ok load) }
+    ensures refused { IfErr result (λ e. e ≢ StatusError.Memory → status text.now ≡ Err e) }
+{
+    let mut unfinished = Unfinished::new(alloc);
+    if unfinished.feed(text)? {
+        Ok(unfinished.into_load())
+    } else {
+        Err(StatusError::Truncated)
     }
 }
 
