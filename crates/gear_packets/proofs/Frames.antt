@@ -2,10 +2,13 @@
 use Rattle.std.proofs.Common.{◌≡◌, ℕ, ◌+◌, ◌^◌, ◌<◌, ◌≤◌, Bool, true, false, ◌&&◌, cond, ltb, eqb, List, [], ◌∷◌, ◌++◌, length, get_or, take, drop, refl, sym, ap, ◌∙◌, append_assoc, arith, ◌⊎◌, inl, inr}
 use Rattle.std.proofs.lemmas.Bool.{cases_lt, ltb-false, le-ltb, eqb-true, eq-eqb}
 use Rattle.std.proofs.lemmas.List.{take_at, drop_at, take-append-drop, length-append, length-take, length-drop, get_or-drop, get_or-take, get_or_past, drop-append-le, take-append-le, drop-drop}
+use Rattle.std.proofs.lemmas.List.{append-nil, take_all}
+use Rattle.std.proofs.lemmas.List.Elements.{All-get_or}
+use Rattle.std.specs.List.{All}
 use Rattle.std.proofs.lemmas.Nat.{be_bytes_4}
 use Rattle.byteorder.specs.Endian.{big_bytes, big_number}
 use Rattle.byteorder.specs.Numbers.{big_number-reads_back, big_from-append, big_from-lt}
-use Rattle.gear_packets.specs.Frame.{body_limit, packet, agrees, kind_at, size_at, wrong_magic, too_large, unfinished, framed, front}
+use Rattle.gear_packets.specs.Frame.{body_limit, packet, agrees, kind_at, size_at, wrong_magic, too_large, unfinished, framed, front, FourBytes}
 
 pub record IsBytes (bytes : List ℕ) : Type 0 where
   pub below : (i : ℕ) → get_or bytes i 0 < 256
@@ -21,6 +24,13 @@ IsBytes-take n bytes h = record {
         | inr le ↦ rw (get_or_past (take n bytes) i 0 (omega (arith, length-take n bytes))) (omega arith)
       ];
 }
+
+byte_at : (bytes : List ℕ) → All (λ b. b < 256) bytes → (i : ℕ) → get_or bytes i 0 < 256
+byte_at bytes below i =
+    elim (cases_lt i (length bytes)) [
+      | inl lt ↦ All-get_or (λ b. b < 256) bytes i 0 lt below
+      | inr le ↦ rw (get_or_past bytes i 0 le) (omega arith)
+    ]
 
 -- ---- the four bytes of a number
 
@@ -236,3 +246,13 @@ pub whole_shrinks : (magic bytes : List ℕ) (kind : ℕ) (body rest : List ℕ)
 whole_shrinks magic bytes kind body rest h =
     let t = tested magic bytes kind body rest h in
     rw (← t.rest_is) (omega (arith, t.enough, length-drop (12 + size_at bytes) bytes))
+
+-- ---- four bytes and their number
+
+pub four_bytes : FourBytes
+four_bytes = (
+  λ n low. ap (big_number 4) (sym (append-nil (big_bytes 4 n))) ∙ big_number-reads_back 4 n [] (omega (arith, low)),
+  λ bytes four below.
+      let fits : IsBytes bytes = record { below = λ i. byte_at bytes below i } in
+      bytes_again bytes fits (omega (arith, four)) ∙ take_all 4 bytes (omega (arith, four)),
+)

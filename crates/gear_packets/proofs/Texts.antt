@@ -5,7 +5,7 @@ use Rattle.std.proofs.lemmas.List.{append_assoc, append-nil}
 use Rattle.gear_packets.specs.declared.fault.StreamFault.{StreamFault}
 use Rattle.gear_packets.specs.Request.{Packet, spelling, IsSent, first_request}
 use Rattle.gear_packets.specs.Response.{Assignment, Message, Next, gives, faulty, waits, first_response}
-use Rattle.gear_packets.specs.Text.{Ending, unread, broken, Reading, after_message, reading_within, reading, behind, further, Sent, sent_within, sent, text_of, is_work, register, registered_by, assignments, assignment_of, GrowsByARequest, GrowsByAResponse}
+use Rattle.gear_packets.specs.Text.{Ending, unread, broken, Reading, after_message, reading_within, reading, behind, further, Sent, sent_within, sent, text_of, is_work, register, registered_by, assignments_in, assignment_of, GrowsByARequest, GrowsByAResponse}
 use Rattle.gear_packets.proofs.Requests.{first_found, first_shrinks, first_stays, first_of_nothing}
 use Rattle.gear_packets.proofs.Responses.{gives_stays, gives_shrinks, faulty_stays, response_of_nothing}
 
@@ -175,9 +175,9 @@ grows_by_a_request text p whole fits =
     let e = sent_grows text p whole fits in
     (ap (filter is_work) e ∙ works_append (sent text).packets (p ∷ []), ap (registered_by []) e ∙ registered_append [] (sent text).packets (p ∷ []))
 
-assignments_append : (xs ys : List Message) → assignments (xs ++ ys) ≡ assignments xs ++ assignments ys
-assignments_append [] ys = refl
-assignments_append (x ∷ xs) ys = by (assignment_of x) (assignments (xs ++ ys)) (assignments xs) (assignments ys) (assignments_append xs ys)
+assignments_in_append : (xs ys : List Message) → assignments_in (xs ++ ys) ≡ assignments_in xs ++ assignments_in ys
+assignments_in_append [] ys = refl
+assignments_in_append (x ∷ xs) ys = by (assignment_of x) (assignments_in (xs ++ ys)) (assignments_in xs) (assignments_in ys) (assignments_in_append xs ys)
   where
     by : (o : Option Assignment) (all front behind : List Assignment) → all ≡ front ++ behind → cons_option o all ≡ cons_option o front ++ behind
     by None all front behind h = h
@@ -190,5 +190,5 @@ further_from_nothing r piece h = rw (h, further) refl
 pub grows_by_a_response : GrowsByAResponse
 grows_by_a_response text piece m whole said =
     let one : reading piece ≡ record { messages = m ∷ []; ending = unread [] } = reading_gives piece m [] said ∙ ap (after_message m) (reading_waits [] response_of_nothing) in
-    ap (λ (r : Reading). assignments r.messages) (reading_more text piece ∙ further_from_nothing (reading text) piece whole ∙ ap (behind (reading text).messages) one)
-    ∙ assignments_append (reading text).messages (m ∷ [])
+    ap (λ (r : Reading). assignments_in r.messages) (reading_more text piece ∙ further_from_nothing (reading text) piece whole ∙ ap (behind (reading text).messages) one)
+    ∙ assignments_in_append (reading text).messages (m ∷ [])

@@ -1,6 +1,6 @@
 -- A packet of either side: four bytes of magic, its type, the size of its body, and the body. Both numbers
 -- have four bytes, the highest first.
-use Rattle.std.specs.Prelude.{ℕ, ◌+◌, Bool, true, ◌&&◌, ◌==◌, nat_lt, if◌then◌else◌, List, [], ◌∷◌, ◌++◌, length, take, drop}
+use Rattle.std.specs.Prelude.{◌≡◌, ◌<◌, ◌^◌, All, ℕ, ◌+◌, Bool, true, ◌&&◌, ◌==◌, nat_lt, if◌then◌else◌, List, [], ◌∷◌, ◌++◌, length, take, drop}
 use Rattle.byteorder.specs.Endian.{big_bytes, big_number}
 
 abbrev pub request_magic : List ℕ
@@ -44,3 +44,10 @@ front magic bytes =
     if nat_lt (length bytes) (12 + size_at bytes) then unfinished else
     framed (kind_at bytes) (take (size_at bytes) (drop 12 bytes)) (drop (12 + size_at bytes) bytes))))
     else wrong_magic
+
+-- ---- laws
+
+-- A number below 2 ^ 32 is read back from its four bytes, and four bytes are those of the number that they spell.
+abbrev pub FourBytes : Type 0
+FourBytes = ((n : ℕ) → n < 2 ^ 32 → big_number 4 (big_bytes 4 n) ≡ n)
+    × ((bytes : List ℕ) → length bytes ≡ 4 → All (λ b. b < 256) bytes → big_bytes 4 (big_number 4 bytes) ≡ bytes)

@@ -48,12 +48,12 @@ assignment_of (assign a) = Some a
 assignment_of (server_error code text) = None
 assignment_of (other kind) = None
 
-abbrev pub assignments : List Message → List Assignment
-assignments ms = filter_map assignment_of ms
+abbrev pub assignments_in : List Message → List Assignment
+assignments_in ms = filter_map assignment_of ms
 
 -- the jobs that a stream hands out, in order
-abbrev pub assigns : List ℕ → List Assignment
-assigns bytes = assignments (reading bytes).messages
+abbrev pub assignments : List ℕ → List Assignment
+assignments bytes = assignments_in (reading bytes).messages
 
 -- ---- what a worker has sent
 
@@ -88,8 +88,8 @@ is_work (work_data handle bytes) = true
 is_work (work_warning handle bytes) = true
 
 -- the packets of a request text that answer jobs, in order
-abbrev pub work : List ℕ → List Packet
-work bytes = filter is_work (sent bytes).packets
+abbrev pub work_requests : List ℕ → List Packet
+work_requests bytes = filter is_work (sent bytes).packets
 
 abbrev pub is_name : List ℕ → List ℕ → Bool
 is_name a b = pointwise nat_eq a b
@@ -129,9 +129,9 @@ SaysItsPackets = (ps : List Packet) → AllByRecursion IsSent ps → (sent (text
 -- that packet alone.
 abbrev pub GrowsByARequest : Type 0
 GrowsByARequest = (text : List ℕ) (p : Packet) → (sent text).rest ≡ [] → IsSent p
-    → (work (text ++ spelling p) ≡ work text ++ filter is_work (p ∷ [])) × (registered (text ++ spelling p) ≡ register (registered text) p)
+    → (work_requests (text ++ spelling p) ≡ work_requests text ++ filter is_work (p ∷ [])) × (registered (text ++ spelling p) ≡ register (registered text) p)
 
 -- the same of a stream of whole responses
 abbrev pub GrowsByAResponse : Type 0
 GrowsByAResponse = (text piece : List ℕ) (m : Message) → (reading text).ending ≡ unread [] → first_response piece ≡ gives m []
-    → assigns (text ++ piece) ≡ assigns text ++ assignments (m ∷ [])
+    → assignments (text ++ piece) ≡ assignments text ++ assignments_in (m ∷ [])
