@@ -1,0 +1,4 @@
+pub mod Slots
+pub mod Orders
+pub mod Causes
+pub mod Registration

@@ -1,0 +1,7 @@
+-- The order before any round.
+use Rattle.std.specs.Prelude.{ℕ}
+use Rattle.worker_state.specs.declared.order.Order.{Order}
+use Rattle.worker_state.specs.declared.order.What.TheVariants.{Idle}
+
+abbrev pub no_order : Order
+no_order = record { generation = 0; round = 0; what = Idle }

@@ -1,0 +1,18 @@
+//! The words in which a pool speaks of its workers: slots and their workers, tickets of jobs, orders, causes of losses, and
+//! the packets by which a worker changes its function.
+#![tactic(auto)]
+
+mod cause;
+mod job;
+mod order;
+mod registration;
+mod slot;
+
+pub use cause::Cause;
+pub use job::{EndKind, Standing, Ticket};
+pub use order::{Order, What};
+pub use registration::change;
+pub use slot::{Slot, WorkerName};
+
+#[cfg(test)]
+mod tests;
