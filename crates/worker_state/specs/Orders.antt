@@ -1,5 +1,4 @@
 -- The order before any round.
-use Rattle.std.specs.Prelude.{ℕ}
 use Rattle.worker_state.specs.declared.order.Order.{Order}
 use Rattle.worker_state.specs.declared.order.What.TheVariants.{Idle}
 

@@ -1,5 +1,5 @@
 -- What a slot and a standing say.
-use Rattle.std.specs.Prelude.{ℕ, ◌≡◌, Option, None, Some, Bool, true, false}
+use Rattle.std.specs.Prelude.{ℕ, Option, None, Some, Bool, true, false}
 use Rattle.worker_state.specs.declared.slot.Slot.{Slot}
 use Rattle.worker_state.specs.declared.slot.Slot.TheVariants.{Empty, Live}
 use Rattle.worker_state.specs.declared.job.Standing.{Standing}
