@@ -1,5 +1,5 @@
 -- Workers counted one by one.
-use Rattle.std.proofs.Common.{◌≡◌, ℕ, ◌+◌, ◌<◌, ◌≤◌, cond, List, length, get_or, take, count_by, Option, sym, ap, ◌∙◌, arith}
+use Rattle.std.proofs.Common.{◌≡◌, ℕ, ◌+◌, ◌<◌, ◌≤◌, cond, List, length, get_or, take, count_by, Option, ap, arith}
 use Rattle.std.proofs.lemmas.List.{length-take-le}
 use Rattle.std.proofs.lemmas.List.Sums.{sum_by_more, count_by-le-length}
 use Rattle.plan_model.specs.Planning.{is_on, assigned}
@@ -9,7 +9,7 @@ abbrev pub tally : List (ℕ × Option ℕ) → ℕ → List (ℕ × ℕ) → �
 tally entries f workers = count_by (λ worker. is_on f (assigned entries worker.0)) workers
 
 pub tally-more : (entries : List (ℕ × Option ℕ)) (f : ℕ) (workers : List (ℕ × ℕ)) (k : ℕ) (worker : ℕ × ℕ) (on : Option ℕ) → k < length workers → worker ≡ get_or workers k worker → on ≡ assigned entries worker.0
-  → tally entries f (take (k + 1) workers) ≡ tally entries f (take k workers) + cond (is_on f on) 1 0
+    → tally entries f (take (k + 1) workers) ≡ tally entries f (take k workers) + cond (is_on f on) 1 0
 tally-more entries f workers k worker on below here is =
     let more = sum_by_more (λ (w : ℕ × ℕ). cond (is_on f (assigned entries w.0)) 1 0) workers k worker below in
     let at = ap {B = ℕ} (λ (w : ℕ × ℕ). cond (is_on f (assigned entries w.0)) 1 0) here in

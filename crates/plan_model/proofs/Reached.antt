@@ -1,5 +1,5 @@
 -- A plan that meets the needs of a level reaches it, and needs do not rise with the level.
-use Rattle.std.proofs.Common.{◌≡◌, ℕ, ◌+◌, ◌-◌, ◌<◌, ◌≤◌, zero, suc, Bool, true, false, leb, List, length, get_or, find, All, IsTrue, unwrap_or, sym, arith, inl, inr, ◌∙◌}
+use Rattle.std.proofs.Common.{◌≡◌, ℕ, ◌+◌, ◌-◌, ◌<◌, ◌≤◌, zero, suc, Bool, true, leb, List, length, get_or, find, All, IsTrue, unwrap_or, sym, arith, inl, inr, ◌∙◌}
 use Rattle.std.specs.List.{range_with_len}
 use Rattle.std.proofs.lemmas.Bool.{leb-true, le-leb, cases_lt, cases_Bool, false≢true}
 use Rattle.std.proofs.lemmas.List.Elements.{recursion_from_All, All-from_get_or}

@@ -1,4 +1,4 @@
-use Rattle.std.proofs.Common.{rules, ◌≡◌, ◌<◌, ℕ, List, length, get_or, sym, ap, ◌∙◌, arith}
+use Rattle.std.proofs.Common.{rules, ◌<◌, length, ap, ◌∙◌, arith}
 use Rattle.std.proofs.lemmas.List.{take_all, get_or-replicate}
 use Rattle.std.proofs.lemmas.List.Elements.{All-from_get_or}
 use Rattle.plan_model.proofs.Counting.{tally, tally-more, tally-le}
@@ -14,10 +14,12 @@ count_one-requires c = All-from_get_or (λ count. count < 4096) c.loop-slot.coun
 
 pub loop-slot-preserved : goal.loop-slot-preserved
 loop-slot-preserved c =
-    let many = c.count_one.ensures.many ∙ c.loop-slot.invariant.0 in
-    (many, λ f below.
-      let one = c.count_one.ensures.each f (omega (arith, below, c.loop-slot.invariant.0)) in
-      omega (arith, one, c.loop-slot.invariant.1 f below, tally-more c.args.plan.now f c.live-slot-items.result.now c.loop-slot.slot-index c.loop-slot-item.result c.function_of.result c.loop-slot-test.true c.loop-slot-item.is c.function_of.ensures))
+    let many = c.count_one.ensures.many ∙ c.loop-slot.invariant.0 in (
+      many,
+      λ f below.
+          let one = c.count_one.ensures.each f (omega (arith, below, c.loop-slot.invariant.0)) in
+          omega (arith, one, c.loop-slot.invariant.1 f below, tally-more c.args.plan.now f c.live-slot-items.result.now c.loop-slot.slot-index c.loop-slot-item.result c.function_of.result c.loop-slot-test.true c.loop-slot-item.is c.function_of.ensures),
+    )
 
 pub returns : goal.returns
 returns c =

@@ -1,7 +1,7 @@
-use Rattle.std.proofs.Common.{◌≡◌, ◌<◌, ◌&&◌, ◌+◌, take, ℕ, Bool, true, false, leb, length, max, fold, get_or, slice_index_or, sym, ap, ◌∙◌, refl, arith}
+use Rattle.std.proofs.Common.{◌≡◌, ◌<◌, ◌&&◌, ◌+◌, take, ℕ, Bool, true, false, leb, length, max, fold, get_or, slice_index_or, sym, ap, ◌∙◌, arith}
 use Rattle.std.specs.List.{list_all, range_with_len}
 use Rattle.std.proofs.lemmas.Bool.{le-leb, lt-leb}
-use Rattle.plan_model.specs.Planning.{Instance, workers_on, counted_waiting, cost, assigned}
+use Rattle.plan_model.specs.Planning.{workers_on, counted_waiting, cost, assigned}
 use Rattle.plan_model.specs.declared.checker.Outcome.{Outcome}
 use Rattle.plan_model.proofs.Ranges.{list_all-range_more, fold-range_more, take-range_all}
 use Rattle.plan_model.proofs.checker.outcome_of.Goals.{then-workers-least, else-workers-least}
@@ -29,8 +29,7 @@ loop-number-preserved c =
     let so_far = list_all p (take n (range_with_len 0 (length i.least))) in
     let worst = fold-range_more h 0 (length i.least) n below in
     let here : c.cost.result ≡ cost (counted_waiting i n) (workers_on i (assigned c.args.plan.now) n) = c.cost.ensures ∙ ap (λ w. cost w (slice_index_or c.count_workers-counts.result n 0)) (c.counted_waiting-waiting.ensures ∙ ap (counted_waiting i) c.new.ensures) ∙ ap (cost (counted_waiting i n)) at in
-    let backlog : c.if-workers-least.outcome.backlog ≡ c.loop-number.outcome.backlog = elim c.if-workers-least.branch [ then-workers-least w ↦ ap (λ (o : Outcome). o.backlog) w.outcome-is | else-workers-least w ↦ ap (λ (o : Outcome). o.backlog) w.outcome-is ] in
-    (
+    let backlog : c.if-workers-least.outcome.backlog ≡ c.loop-number.outcome.backlog = elim c.if-workers-least.branch [ then-workers-least w ↦ ap (λ (o : Outcome). o.backlog) w.outcome-is | else-workers-least w ↦ ap (λ (o : Outcome). o.backlog) w.outcome-is ] in (
       elim c.if-workers-least.branch [
         | then-workers-least w ↦
             let fails : p n ≡ false = lt-leb _ _ (omega (arith, w.if-workers-least.true, at, due)) in
