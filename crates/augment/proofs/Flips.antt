@@ -5,7 +5,7 @@ use Rattle.std.proofs.lemmas.List.{get_or-set_same, get_or-set_other, length-set
 use Rattle.std.proofs.lemmas.List.Sums.{sum_by-set, get_or-le-sum_by}
 use Rattle.augment.specs.declared.search.Tree.{Tree}
 use Rattle.round_arena.specs.declared.tables.Pairs.{Pairs}
-use Rattle.round_arena.specs.Total.{one_if_equal}
+use Rattle.augment.specs.Moves.{one_if_equal}
 use Rattle.round_arena.specs.Plan.{IsPair, IsAssigned, IsCounted, count_on}
 use Rattle.augment.specs.Tree.{IsTree, IsWayOut, IsSpare}
 use Rattle.augment.proofs.Trees.{IsInjective-tree, not_reached}

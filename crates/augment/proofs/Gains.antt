@@ -11,12 +11,10 @@ use Rattle.round_arena.proofs.Ranges.{range-below}
 use Rattle.std.proofs.lemmas.List.Sums.{sum_by-cons}
 use Rattle.augment.specs.declared.search.Tree.{Tree}
 use Rattle.round_arena.specs.declared.tables.Pairs.{Pairs}
-use Rattle.round_arena.specs.Total.{total, one_if_equal}
 use Rattle.round_arena.specs.Plan.{IsAssigned, IsCounted, count_on}
-use Rattle.augment.specs.Moves.{served}
 use Rattle.augment.specs.Tree.{HasRoom}
-use Rattle.augment.specs.Moves.{GainsOne}
-use Rattle.augment.proofs.Totals.{total-cong, total-le, total-add, total-zeros, total-change, total-one_if_equal}
+use Rattle.augment.specs.Moves.{one_if_equal, GainsOne}
+use Rattle.augment.proofs.Totals.{total, served, total-cong, total-le, total-add, total-zeros, total-change, total-one_if_equal}
 use Rattle.augment.proofs.Flips.{one_if_equal-same, one_if_equal-other}
 
 -- the workers on the functions below n are not more than there are

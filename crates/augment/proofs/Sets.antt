@@ -9,7 +9,8 @@ use Rattle.std.proofs.lemmas.List.Elements.{All-filter, filter-append}
 use Rattle.std.proofs.lemmas.List.Kept.{IsStrictlyIncreasing-filter}
 use Rattle.augment.specs.declared.search.Tree.{Tree}
 use Rattle.round_arena.specs.declared.tables.Pairs.{Pairs}
-use Rattle.round_arena.specs.Total.{total, one_if_equal}
+use Rattle.augment.specs.Moves.{one_if_equal}
+use Rattle.augment.proofs.Totals.{total}
 use Rattle.round_arena.specs.Plan.{IsCounted, count_on}
 use Rattle.augment.specs.Tree.{IsClosed}
 use Rattle.augment.specs.Moves.{IsStuck}
@@ -19,6 +20,11 @@ use Rattle.round_arena.specs.Plan.{Represents}
 use Rattle.round_arena.proofs.Lists.{range_more}
 use Rattle.augment.specs.Short.{marked}
 use Rattle.augment.proofs.Totals.{total-lt}
+
+-- the marked numbers below n, one place after the other
+abbrev pub marks : List ℕ → ℕ → List ℕ
+marks place zero = []
+marks place (suc n) = marks place n ++ cond (ltb 0 (get_or place n 0)) (n ∷ []) []
 
 -- a member of the marked numbers that passes the test
 pub record Finds (p : ℕ → Bool) (place : List ℕ) (n : ℕ) : Type 0 where
@@ -35,11 +41,11 @@ one_list_any : (p : ℕ → Bool) (b : Bool) (x : ℕ) → b ≡ true → p x �
 one_list_any p true x e h = or_left (p x) false h
 one_list_any p false x e h = absurd (false≢true e)
 
-pub Finds-from_any : (p : ℕ → Bool) (place : List ℕ) (n : ℕ) → list_any p (marked place n) ≡ true → Finds p place n
+pub Finds-from_any : (p : ℕ → Bool) (place : List ℕ) (n : ℕ) → list_any p (marks place n) ≡ true → Finds p place n
 Finds-from_any p place zero h = absurd (false≢true h)
 Finds-from_any p place (suc n) h =
     let last : List ℕ = cond (ltb 0 (get_or place n 0)) (n ∷ []) [] in
-    elim (or_cases (list_any p (marked place n)) (list_any p last) (sym (list_any-append p (marked place n) last) ∙ h)) [
+    elim (or_cases (list_any p (marks place n)) (list_any p last) (sym (list_any-append p (marks place n) last) ∙ h)) [
       | inl before ↦
           let f = Finds-from_any p place n before in
           record { at = f.at; below = omega (arith, f.below); mark = f.mark; passes = f.passes }
@@ -48,14 +54,14 @@ Finds-from_any p place (suc n) h =
           record { at = n; below = omega arith; mark = ltb-true 0 (get_or place n 0) one.0; passes = one.1 }
     ]
 
-pub any-from_mark : (p : ℕ → Bool) (place : List ℕ) (n f : ℕ) → f < n → 0 < get_or place f 0 → p f ≡ true → list_any p (marked place n) ≡ true
+pub any-from_mark : (p : ℕ → Bool) (place : List ℕ) (n f : ℕ) → f < n → 0 < get_or place f 0 → p f ≡ true → list_any p (marks place n) ≡ true
 any-from_mark p place zero f l m h = absurd (omega arith)
 any-from_mark p place (suc n) f l m h =
     let last : List ℕ = cond (ltb 0 (get_or place n 0)) (n ∷ []) [] in
-    list_any-append p (marked place n) last ∙ elim (cases_eq f n) [
-      | inl q ↦ or_right (list_any p (marked place n)) (list_any p last)
+    list_any-append p (marks place n) last ∙ elim (cases_eq f n) [
+      | inl q ↦ or_right (list_any p (marks place n)) (list_any p last)
           (one_list_any p (ltb 0 (get_or place n 0)) n (lt-ltb 0 (get_or place n 0) (omega (arith, ap (λ z. get_or place z 0) q))) (sym (ap p q) ∙ h))
-      | inr ne ↦ or_left (list_any p (marked place n)) (list_any p last) (any-from_mark p place n f (omega (arith, ne)) m h)
+      | inr ne ↦ or_left (list_any p (marks place n)) (list_any p last) (any-from_mark p place n f (omega (arith, ne)) m h)
     ]
 
 -- g where the number is marked
@@ -66,10 +72,10 @@ sum_by_one : (g : ℕ → ℕ) (b : Bool) (x : ℕ) → sum_by g (cond b (x ∷ 
 sum_by_one g true x = omega arith
 sum_by_one g false x = refl
 
-pub sum_by-marked : (g : ℕ → ℕ) (place : List ℕ) (n : ℕ) → sum_by g (marked place n) ≡ total n (at_marks place g)
-sum_by-marked g place zero = refl
-sum_by-marked g place (suc n) =
-    omega (arith, sum_by-append g (marked place n) (cond (ltb 0 (get_or place n 0)) (n ∷ []) []), sum_by_one g (ltb 0 (get_or place n 0)) n, sum_by-marked g place n)
+pub sum_by-marks : (g : ℕ → ℕ) (place : List ℕ) (n : ℕ) → sum_by g (marks place n) ≡ total n (at_marks place g)
+sum_by-marks g place zero = refl
+sum_by-marks g place (suc n) =
+    omega (arith, sum_by-append g (marks place n) (cond (ltb 0 (get_or place n 0)) (n ∷ []) []), sum_by_one g (ltb 0 (get_or place n 0)) n, sum_by-marks g place n)
 
 sum_by-add : (g h : ℕ → ℕ) (set : List ℕ) → sum_by (λ f. g f + h f) set ≡ sum_by g set + sum_by h set
 sum_by-add g h [] = refl
@@ -123,19 +129,17 @@ tight-marked pairs owner count need t root f s c l m =
     omega (arith, tight, c.counts f (omega arith), ap (λ z. get_or count z 0) at.1, ap (λ z. get_or need z 0) at.1)
 
 -- the marked numbers are those of the range that are marked
-marked-filter : (place : List ℕ) (n : ℕ) → marked place n ≡ filter (λ f. ltb 0 (get_or place f 0)) (range_with_len 0 n)
-marked-filter place zero = refl
-marked-filter place (suc n) =
+pub marks-marked : (place : List ℕ) (n : ℕ) → marks place n ≡ marked place n
+marks-marked place zero = refl
+marks-marked place (suc n) =
     let p : ℕ → Bool = λ f. ltb 0 (get_or place f 0) in
-    ap (λ xs. xs ++ cond (p n) (n ∷ []) []) (marked-filter place n) ∙ sym (filter-append p (range_with_len 0 n) (n ∷ [])) ∙ ap (filter p) (sym (range_more 0 n n (omega arith)))
+    ap (λ xs. xs ++ cond (p n) (n ∷ []) []) (marks-marked place n) ∙ sym (filter-append p (range_with_len 0 n) (n ∷ [])) ∙ ap (filter p) (sym (range_more 0 n n (omega arith)))
 
-pub marked-rises : (place : List ℕ) (n : ℕ) → IsStrictlyIncreasing (marked place n)
-marked-rises place n =
-    subst (λ (z : List ℕ). IsStrictlyIncreasing z) (sym (marked-filter place n)) (IsStrictlyIncreasing-filter (λ f. ltb 0 (get_or place f 0)) (range_with_len 0 n) (range-rises n))
+marked-rises : (place : List ℕ) (n : ℕ) → IsStrictlyIncreasing (marked place n)
+marked-rises place n = IsStrictlyIncreasing-filter (λ f. ltb 0 (get_or place f 0)) (range_with_len 0 n) (range-rises n)
 
-pub marked-below : (place : List ℕ) (n : ℕ) → All (λ f. f < n) (marked place n)
-marked-below place n =
-    subst (λ (z : List ℕ). All (λ f. f < n) z) (sym (marked-filter place n)) (All-filter (λ f. ltb 0 (get_or place f 0)) (λ f. f < n) (range_with_len 0 n) (range-below n))
+marked-below : (place : List ℕ) (n : ℕ) → All (λ f. f < n) (marked place n)
+marked-below place n = All-filter (λ f. ltb 0 (get_or place f 0)) (λ f. f < n) (range_with_len 0 n) (range-below n)
 
 -- The set of the functions that a stuck search has reached is short: each worker who may do one of
 -- them is on one of them, none has more workers than it needs, and the root has fewer.
@@ -145,7 +149,7 @@ pub IsShort-stuck : (permits : ℕ → ℕ → Bool) (machines : List ℕ) (pair
 IsShort-stuck permits machines pairs owner count need t root r e c l s =
     let functions : ℕ = length need in
     let place : List ℕ = t.place.now in
-    let set : List ℕ = marked place functions in
+    let set : List ℕ = marks place functions in
     let on_set : (w : ℕ) → w < length machines → list_any (permits (get_or machines w 0)) set ≡ true → list_any (eqb (get_or owner w 0)) set ≡ true =
     λ w k q.
     let f = Finds-from_any (permits (get_or machines w 0)) place functions q in
@@ -164,5 +168,5 @@ IsShort-stuck permits machines pairs owner count need t root r e c l s =
     record {
       rising = marked-rises place functions;
       within = marked-below place functions;
-      short = omega (arith, few, less, sum_by-marked (count_on owner) place functions, sum_by-marked (λ f. get_or need f 0) place functions);
+      short = subst (λ (z : List ℕ). neighbours permits machines z < sum_by (λ f. get_or need f 0) z) (marks-marked place functions) (omega (arith, few, less, sum_by-marks (count_on owner) place functions, sum_by-marks (λ f. get_or need f 0) place functions));
     }

@@ -4,7 +4,7 @@ use Rattle.std.proofs.lemmas.Bool.{cases_eq}
 use Rattle.std.proofs.lemmas.List.{get_or-set_same, get_or-set_other, length-set}
 use Rattle.augment.specs.declared.search.Tree.{Tree}
 use Rattle.round_arena.specs.declared.tables.Pairs.{Pairs}
-use Rattle.round_arena.specs.Total.{total}
+use Rattle.augment.proofs.Totals.{total}
 use Rattle.round_arena.specs.Plan.{IsPair, IsGraph, degree}
 use Rattle.augment.specs.Tree.{HasRoom, IsTree, Reaches, Starts, Extends, IsClosed, IsClosedUpTo, AreClosed}
 use Rattle.augment.proofs.Totals.{IsInjective, total-injective, total-ones, total-cong, total-steps, injective-short}

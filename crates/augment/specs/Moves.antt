@@ -1,10 +1,13 @@
 -- what one search changes
-use Rattle.std.specs.Prelude.{◌≡◌, ℕ, ◌+◌, ◌<◌, ◌⊎◌, List, length, slice_index, min}
+use Rattle.std.specs.Prelude.{◌≡◌, ℕ, ◌+◌, ◌<◌, ◌⊎◌, List, length, slice_index, nat_eq, if◌then◌else◌}
 use Rattle.augment.specs.declared.search.Tree.{Tree}
 use Rattle.round_arena.specs.declared.tables.Pairs.{Pairs}
-use Rattle.round_arena.specs.Total.{total, one_if_equal}
 use Rattle.round_arena.specs.Plan.{count_on}
 use Rattle.augment.specs.Tree.{IsTree, AreClosed}
+
+-- 1 where the numbers are equal, else 0
+abbrev pub one_if_equal : ℕ → ℕ → ℕ
+one_if_equal a b = if nat_eq a b then 1 else 0
 
 -- function root has one worker more; he comes from the idle ones, or from a function that had more
 -- workers than it needs
@@ -21,7 +24,3 @@ pub record IsStuck (pairs : Pairs) (owner count need : List ℕ) (tree : Tree) (
   pub first : slice_index tree.reached.now 0 ≡ root
   pub closed : AreClosed pairs owner (length need) tree tree.tail
   pub lacking : slice_index count root < slice_index need root
-
--- how many workers count towards the needs
-unfoldable pub served : ℕ → List ℕ → List ℕ → ℕ
-served functions need owner = total functions (λ f. min (count_on owner f) (slice_index need f))

@@ -12,7 +12,6 @@ use std::alloc::AllocError;
 /// all its growths first.
 pub fn serve<'a>(tables: &mut Tables<'a>, need: &[u32]) -> Result<Served<'a>, AllocError>
     requires sound { IsSound (length need.now) tables.old }
-    requires functions { length need.now < 2 ^ 32 }
     requires looks { tables.old.looks + (length tables.old.owner.now + 1) * length tables.old.pairs.workers.now < 2 ^ 64 }
     ensures sound { IsSound (length need.now) tables.new }
     ensures same { SamePairs tables.old tables.new }

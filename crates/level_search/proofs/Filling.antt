@@ -5,7 +5,7 @@ use Rattle.std.specs.List.Sorted.{IsStrictlyIncreasing, IsPermutation}
 use Rattle.std.proofs.lemmas.Bool.{cases_eq}
 use Rattle.std.proofs.lemmas.List.{get_or-set_other, length-set}
 use Rattle.round_arena.specs.declared.tables.Pairs.{Pairs}
-use Rattle.round_arena.specs.Total.{one_if_equal}
+use Rattle.augment.specs.Moves.{one_if_equal}
 use Rattle.round_arena.specs.declared.tables.Tables.{Tables}
 use Rattle.round_arena.specs.Plan.{IsPair, IsGraph, IsAssigned, IsCounted, count_on}
 use Rattle.round_arena.specs.Round.{IsSound, SamePairs}
@@ -66,6 +66,7 @@ IsSound-moved {functions = functions} {u = u} t owner count s same_size a c ep e
     let counted : IsCounted functions u.owner.now u.count.now =
     subst (λ (o : List ℕ). IsCounted functions o u.count.now) (sym eo) (subst (λ (n : List ℕ). IsCounted functions owner n) (sym ec) c) in
     record {
+      few = s.few;
       graph = graph;
       assigned = assigned;
       counted = counted;

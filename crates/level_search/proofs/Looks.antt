@@ -1,27 +1,27 @@
 -- how many looks a round can take
-use Rattle.std.proofs.Common.{◌≡◌, ℕ, zero, suc, ◌+◌, ◌*◌, ◌^◌, ◌<◌, ◌≤◌, List, length, count_by, ap, ◌∙◌, arith}
+use Rattle.std.proofs.Common.{◌≡◌, ℕ, zero, suc, ◌+◌, ◌*◌, ◌^◌, ◌<◌, ◌≤◌, List, [], ◌∷◌, length, count_by, sum_by, ap, ◌∙◌, arith}
 use Rattle.std.proofs.Math.Nat.{mul-le-mul_left}
 use Rattle.std.proofs.lemmas.List.{length-map}
-use Rattle.std.proofs.lemmas.List.Sums.{count_by-le-length}
-use Rattle.plan_model.specs.Planning.{Instance, IsInstance, may_do, machines_of}
-use Rattle.round_arena.specs.Total.{total}
+use Rattle.std.proofs.lemmas.List.Sums.{count_by-le-length, sum_by-cons}
+use Rattle.std.proofs.lemmas.List.FromFn.{length-range_with_len}
+use Rattle.plan_model.specs.Planning.{Instance, IsInstance, functions, may_do, machines_of}
 use Rattle.round_arena.specs.Input.{pair_count}
 use Rattle.round_arena.specs.declared.tables.Tables.{Tables}
 use Rattle.round_arena.specs.declared.tables.Pairs.{Pairs}
 use Rattle.round_arena.specs.Round.{SamePairs}
 use Rattle.level_search.specs.Answered.{Starts}
 
-total-few : (n b : ℕ) (g : ℕ → ℕ) → ((k : ℕ) → g k ≤ b) → total n g ≤ b * n
-total-few zero b g h = omega arith
-total-few (suc n) b g h =
-    let more : b * suc n ≡ b * n + b = omega arith in
-    omega (arith, total-few n b g h, h n)
+sum_by-few : (xs : List ℕ) (b : ℕ) (g : ℕ → ℕ) → ((k : ℕ) → g k ≤ b) → sum_by g xs ≤ b * length xs
+sum_by-few [] b g h = omega arith
+sum_by-few (x ∷ xs) b g h =
+    let more : b * suc (length xs) ≡ b * length xs + b = omega arith in
+    omega (arith, sum_by-cons g x xs, sum_by-few xs b g h, h x)
 
 pub pair_count-few : (i : Instance) → IsInstance i → pair_count i ≤ 4194304
 pair_count-few i h =
     let each : (f : ℕ) → count_by (λ m. may_do i m f) (machines_of i) ≤ 4096 =
     λ f. omega (arith, count_by-le-length (λ m. may_do i m f) (machines_of i), length-map i.live (λ worker. worker.1), h.limits.workers) in
-    omega (arith, total-few (length i.least) 4096 (λ f. count_by (λ m. may_do i m f) (machines_of i)) each, h.limits.functions)
+    omega (arith, sum_by-few (functions i) 4096 (λ f. count_by (λ m. may_do i m f) (machines_of i)) each, length-range_with_len 0 (length i.least), h.limits.functions)
 
 -- the bound of a whole round is far below the greatest number
 pub looks-few : (i : Instance) → IsInstance i → 34 * ((length i.live + 1) * pair_count i) < 9223372036854775808

@@ -7,3 +7,6 @@ mod previous;
 mod solving;
 
 pub use solving::{Solved, solve};
+
+#[cfg(test)]
+mod tests;

@@ -1,5 +1,5 @@
 -- The tables of a round.
-use Rattle.std.specs.Prelude.{◌≡◌, ℕ, Bool, List, Option, None, Some, map, length, slice_index, nat_lt, if◌then◌else◌}
+use Rattle.std.specs.Prelude.{◌≡◌, ℕ, ◌<◌, ◌^◌, Bool, List, Option, None, Some, map, length, slice_index, nat_lt, if◌then◌else◌}
 use Rattle.std.specs.List.{range_with_len}
 use Rattle.std.specs.List.Sorted.{IsStrictlyIncreasing, IsPermutation}
 use Rattle.round_arena.specs.declared.tables.Tables.{Tables}
@@ -7,6 +7,7 @@ use Rattle.round_arena.specs.Plan.{IsGraph, IsAssigned, IsCounted, Represents}
 
 -- The tables fit together, for that many functions.
 pub record IsSound (functions : ℕ) (t : Tables) : Type 0 where
+  pub few : functions < 2 ^ 32
   pub graph : IsGraph functions (length t.owner.now) t.pairs.first.now t.pairs.workers.now
   pub assigned : IsAssigned functions t.pairs.first.now t.pairs.workers.now t.owner.now
   pub counted : IsCounted functions t.owner.now t.count.now
