@@ -1,0 +1,11 @@
+pub mod Tables
+pub mod Trees
+pub mod Searches
+pub mod Marks
+pub mod SlotSums
+pub mod Ranges
+pub mod Passing
+pub mod Numbers
+pub mod Cuts
+pub mod Risen
+pub mod Planned

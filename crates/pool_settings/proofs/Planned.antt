@@ -1,0 +1,99 @@
+-- The parts of the planning problem are taken as they are.
+use Rattle.std.proofs.Common.{◌≡◌, ℕ, ◌+◌, ◌<◌, ◌≤◌, List, [], ◌∷◌, Bool, true, false, cond, zero, suc, map, filter, length, get_or, All, refl, sym, subst, ap, ◌∙◌, arith}
+use Rattle.std.specs.Prelude.{sum}
+use Rattle.std.specs.List.{enumerate_from, range_with_len}
+use Rattle.std.specs.List.Sorted.{IsStrictlyIncreasing}
+use Rattle.std.proofs.lemmas.List.{get_or_default, length-map}
+use Rattle.std.proofs.lemmas.List.Elements.{All-filter, All-from_get_or}
+use Rattle.std.proofs.lemmas.List.FromFn.{get_or-enumerate_from, length-enumerate_from}
+use Rattle.std.proofs.lemmas.List.Kept.{IsStrictlyIncreasing-filter}
+use Rattle.plan_model.specs.Refusal.{AreSlotsInOrder, AreNumbersThere, IsTaken, Refuses, instance}
+use Rattle.plan_model.specs.Planning.{AreWithinLimits, Instance}
+use Rattle.plan_model.specs.declared.input.InputError.{InputError}
+use Rattle.plan_model.specs.declared.input.InputError.TheVariants.{BadMachine, Memory, SlotOrder, TooMany}
+use Rattle.plan_model.proofs.Ranges.{range-rises}
+use Rattle.pool_settings.specs.Profile.{IsProfile, Profile}
+use Rattle.pool_settings.specs.Slots.{all_workers, live_workers, owners}
+use Rattle.pool_settings.specs.Planning.{instance_of}
+use Rattle.pool_settings.proofs.Risen.{rows_same}
+use Rattle.pool_settings.proofs.SlotSums.{length-owners_from, owner_at}
+
+-- the slots of numbered machines that pass a test are the numbers that do
+slots_filtered : (test : ℕ → Bool) (n : ℕ) (machines : List ℕ) → map (λ w. w.0) (filter (λ w. test w.0) (enumerate_from n machines)) ≡ filter test (range_with_len n (length machines))
+slots_filtered test n [] = refl
+slots_filtered test n (m ∷ ms) = by (test n) refl (slots_filtered test (n + 1) ms)
+  where
+    by : (b : Bool) → test n ≡ b → map (λ w. w.0) (filter (λ w. test w.0) (enumerate_from (n + 1) ms)) ≡ filter test (range_with_len (n + 1) (length ms))
+        → map (λ w. w.0) (filter (λ w. test w.0) (enumerate_from n (m ∷ ms))) ≡ filter test (range_with_len n (length (m ∷ ms)))
+    by true is rest = rw is (ap (λ t. n ∷ t) rest)
+    by false is rest = rw is rest
+
+fewer : {X : Type 0} (p : X → Bool) (xs : List X) → length (filter p xs) ≤ length xs
+fewer p [] = omega arith
+fewer p (x ∷ xs) = by (p x) refl (fewer p xs)
+  where
+    by : (b : Bool) → p x ≡ b → length (filter p xs) ≤ length xs → length (filter p (x ∷ xs)) ≤ length (x ∷ xs)
+    by true is rest = rw is (omega (arith, rest))
+    by false is rest = rw is (omega (arith, rest))
+
+module _ (p : Profile) (valid : IsProfile p) (live : List Bool) where
+  many : length (owners p) ≡ sum p.workers
+  many = length-owners_from 0 p.workers
+
+  order : AreSlotsInOrder (live_workers p live)
+  order =
+      subst IsStrictlyIncreasing (sym (slots_filtered (λ slot. get_or live slot false) 0 (owners p)))
+      (IsStrictlyIncreasing-filter (λ slot. get_or live slot false) (range_with_len 0 (length (owners p))) (range-rises (length (owners p))))
+
+  machines : All (λ w. w.1 < length p.may) (live_workers p live)
+  machines = All-filter (λ w. get_or live w.0 false) (λ w. w.1 < length p.may) (all_workers p) (All-from_get_or (λ w. w.1 < length p.may) (all_workers p) (0, 0) each)
+    where
+      each : (k : ℕ) → k < length (all_workers p) → (get_or (all_workers p) k (0, 0)).1 < length p.may
+      each k below =
+          let inside : k < length (owners p) = omega (arith, length-enumerate_from 0 (owners p), below) in
+          let at = get_or-enumerate_from 0 (owners p) k (0, 0) inside in
+          let own = owner_at 0 p.workers k (omega (arith, many, inside)) in
+          rw at (omega (arith, own.1, own.2.there, valid.workers_paired, valid.may_paired))
+
+  slots : All (λ w. w.0 < 4096) (live_workers p live)
+  slots = All-filter (λ w. get_or live w.0 false) (λ w. w.0 < 4096) (all_workers p) (All-from_get_or (λ w. w.0 < 4096) (all_workers p) (0, 0) each)
+    where
+      each : (k : ℕ) → k < length (all_workers p) → (get_or (all_workers p) k (0, 0)).0 < 4096
+      each k below =
+          let inside : k < length (owners p) = omega (arith, length-enumerate_from 0 (owners p), below) in
+          let at = get_or-enumerate_from 0 (owners p) k (0, 0) inside in
+          rw at (omega (arith, inside, many, valid.workers_few))
+
+  -- a planner takes them
+  pub taken : (waiting : List ℕ) → length waiting ≡ length p.functions → IsTaken (live_workers p live) p.may p.least waiting
+  taken waiting paired = record {
+    order = order;
+    numbers = record { machines = machines; functions = subst (λ n. All (λ row. All (λ f. f < n) row) p.may) (sym valid.least_paired) valid.may_within; paired = paired ∙ sym valid.least_paired };
+    limits = record {
+      machines = omega (arith, valid.may_paired, valid.machines_few);
+      functions = omega (arith, valid.least_paired, valid.functions_few);
+      workers = omega (arith, fewer (λ (w : ℕ × ℕ). get_or live w.0 false) (all_workers p), length-enumerate_from 0 (owners p), many, valid.workers_few);
+      slots = slots;
+    };
+  }
+
+  -- and leaves the permissions as they are
+  pub planned : (waiting : List ℕ) → instance (live_workers p live) p.may p.least waiting ≡ instance_of p live waiting
+  planned waiting =
+      let within = subst (λ n. All (λ row. All (λ f. f < n) row) p.may) (sym valid.least_paired) valid.may_within in
+      ap (λ (rows : List (List ℕ)). record { live = live_workers p live; may = rows; least = p.least; waiting = waiting }) (rows_same (length p.least) p.may valid.may_rise within)
+
+-- what is refused although it is taken is refused for want of memory
+pub only_memory : (error : InputError) (live : List (ℕ × ℕ)) (may : List (List ℕ)) (least waiting : List ℕ) → IsTaken live may least waiting → Refuses error live may least waiting → error ≡ Memory
+only_memory SlotOrder live may least waiting taken refused = absurd (refused taken.order)
+only_memory BadMachine live may least waiting taken refused = absurd (refused.1 taken.numbers)
+only_memory TooMany live may least waiting taken refused = absurd (refused.2 taken.limits)
+only_memory Memory live may least waiting taken refused = refl
+
+pub same_instance : (live live' : List (ℕ × ℕ)) (may may' : List (List ℕ)) (least least' waiting : List ℕ) → live ≡ live' → may ≡ may' → least ≡ least' → instance live may least waiting ≡ instance live' may' least' waiting
+same_instance live live' may may' least least' waiting a b c =
+    ap (λ t. instance t may least waiting) a ∙ ap (λ t. instance live' t least waiting) b ∙ ap (λ t. instance live' may' t waiting) c
+
+pub same_taken : (live live' : List (ℕ × ℕ)) (may may' : List (List ℕ)) (least least' waiting : List ℕ) → live ≡ live' → may ≡ may' → least ≡ least' → IsTaken live' may' least' waiting → IsTaken live may least waiting
+same_taken live live' may may' least least' waiting a b c taken =
+    subst (λ t. IsTaken t may least waiting) (sym a) (subst (λ t. IsTaken live' t least waiting) (sym b) (subst (λ t. IsTaken live' may' t waiting) (sym c) taken))

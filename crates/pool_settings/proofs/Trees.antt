@@ -1,0 +1,23 @@
+-- The tree of a text, and what it reads as.
+use Rattle.std.proofs.Common.{◌≡◌, ℕ, List, Bool, true, false, cond, Option, Some, None, Result, Ok, Err, refl, ap, ◌∙◌}
+use Rattle.std.specs.Option.{option_map_or}
+use Rattle.std.specs.Str.{IsUtf8, is_utf8}
+use Rattle.std.proofs.lemmas.Str.{IsUtf8-from_is_utf8, is_utf8-from_IsUtf8}
+use Rattle.toml.specs.Data.{Members}
+use Rattle.toml.specs.Parse.{parse_document}
+use Rattle.pool_settings.specs.Reading.{read_tree, reading}
+use Rattle.pool_settings.specs.declared.error.SettingsError.TheVariants.{Text}
+
+pub taken_tree : (bytes : List ℕ) (tree : Members) → IsUtf8 bytes → parse_document bytes ≡ Some tree → reading bytes ≡ read_tree tree
+taken_tree bytes tree utf8 parsed =
+    ap (λ b. option_map_or read_tree (cond b (parse_document bytes) None) (Err Text)) (is_utf8-from_IsUtf8 bytes utf8)
+    ∙ ap (λ o. option_map_or read_tree o (Err Text)) parsed
+
+pub no_tree : (bytes : List ℕ) → (IsUtf8 bytes → parse_document bytes ≡ None) → reading bytes ≡ Err Text
+no_tree bytes none = by (is_utf8 bytes) refl
+  where
+    by : (b : Bool) → is_utf8 bytes ≡ b → reading bytes ≡ Err Text
+    by true is =
+        ap (λ b. option_map_or read_tree (cond b (parse_document bytes) None) (Err Text)) is
+        ∙ ap (λ o. option_map_or read_tree o (Err Text)) (none (IsUtf8-from_is_utf8 bytes is))
+    by false is = ap (λ b. option_map_or read_tree (cond b (parse_document bytes) None) (Err Text)) is

@@ -1,0 +1,38 @@
+use Rattle.std.proofs.Common.{rules, ◌≡◌, ◌≤◌, ℕ, List, false, filter, get_or, length, map, ap, subst, sym, arith, ◌∙◌}
+use Rattle.std.specs.Prelude.{sum}
+use Rattle.std.specs.List.{enumerate_from}
+use Rattle.plan_model.specs.Refusal.{IsTaken, Refuses}
+use Rattle.pool_settings.specs.Kept.{profile_view}
+use Rattle.pool_settings.specs.Profile.{Profile}
+use Rattle.pool_settings.specs.Planning.{instance_of}
+use Rattle.pool_settings.specs.Slots.{live_workers, owners}
+use Rattle.pool_settings.proofs.Planned.{only_memory, planned, same_instance, same_taken, taken}
+use Rattle.pool_settings.proofs.Risen.{rows_same}
+use Rattle.pool_settings.proofs.SlotSums.{length-owners_from}
+use Rattle.pool_settings.proofs.settings.Settings.input.Goals as goal
+
+pub live_workers-requires : goal.live_workers-requires
+live_workers-requires c =
+    let many : length c.owners.result.now ≡ sum (profile_view c.self.inside).workers = ap length c.owners.ensures ∙ length-owners_from 0 (profile_view c.self.inside).workers in
+    omega (arith, many, c.self.invariant.workers_few)
+
+pub returns-in-Ok : goal.returns-in-Ok
+returns-in-Ok c =
+    let p = profile_view c.self.inside in
+    let live : c.deref.result.now ≡ live_workers p c.args.live.now =
+    c.deref.ensures.value ∙ c.in_ok-workers.ensures ∙ ap (λ (machines : List ℕ). filter (λ worker. get_or c.args.live.now worker.0 false) (enumerate_from 0 machines)) c.owners.ensures in
+    let may : map (λ row. row.items) c.deref-2.result.now ≡ p.may = ap (map (λ row. row.items)) c.deref-2.ensures.value in
+    let least : c.deref-3.result.now ≡ p.least = c.deref-3.ensures.value in
+    c.in-Ok.ensures.ok ∙ same_instance _ _ _ _ _ _ c.args.waiting.now live may least ∙ planned p c.self.invariant c.args.live.now c.args.waiting.now
+    ∙ ap (λ (p : Profile). instance_of p c.args.live.now c.args.waiting.now) c.self.view_is
+
+pub unreachable-requires : goal.unreachable-requires
+unreachable-requires c =
+    let p = profile_view c.self.inside in
+    let live : c.deref.result.now ≡ live_workers p c.args.live.now =
+    c.deref.ensures.value ∙ c.in_ok-workers.ensures ∙ ap (λ (machines : List ℕ). filter (λ worker. get_or c.args.live.now worker.0 false) (enumerate_from 0 machines)) c.owners.ensures in
+    let may : map (λ row. row.items) c.deref-2.result.now ≡ p.may = ap (map (λ row. row.items)) c.deref-2.ensures.value in
+    let least : c.deref-3.result.now ≡ p.least = c.deref-3.ensures.value in
+    let paired : length c.args.waiting.now ≡ length p.functions = subst (λ (p : Profile). length c.args.waiting.now ≡ length p.functions) (sym c.self.view_is) c.requires in
+    let sound = taken p c.self.invariant c.args.live.now c.args.waiting.now paired in
+    c.in_default.not-Memory (only_memory c.in-Err.error _ _ _ _ (same_taken _ _ _ _ _ _ c.args.waiting.now live may least sound) c.in-Err.ensures.refused)

@@ -1,0 +1,10 @@
+pub mod Names
+pub mod Profile
+pub mod Slots
+pub mod Rows
+pub mod Planning
+pub mod Tree
+pub mod Reading
+pub mod Entries
+pub mod Refusal
+pub mod Kept

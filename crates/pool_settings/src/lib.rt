@@ -1,0 +1,20 @@
+//! The settings of a pool: read from a TOML file, checked, and numbered by name in byte order.
+#![tactic(auto)]
+
+mod build;
+mod checks;
+mod error;
+mod keys;
+mod limits;
+mod names;
+mod planning;
+mod settings;
+mod slots;
+mod tree;
+mod worker_name;
+
+pub use error::SettingsError;
+pub use settings::Settings;
+
+#[cfg(test)]
+mod tests;

@@ -1,0 +1,413 @@
+// The settings of a pool.
+
+ghost use Rattle.std.specs.Prelude.{◌≡◌, ◌≢◌, ◌<◌, ◌≤◌, ◌+◌, ◌^◌, Err, IfErr, IfOk, IfSome, None, Ok, length, map, slice_index, slice_index_or, []};
+ghost use Rattle.std.specs.List.Sorted.{IsStrictlyIncreasing};
+ghost use Rattle.toml.specs.View.{table_view};
+ghost use Rattle.pool_settings.specs.Entries.{table_entries};
+ghost use Rattle.pool_settings.specs.Names as names;
+ghost use Rattle.pool_settings.specs.Planning.{instance_of};
+ghost use Rattle.pool_settings.specs.Profile.{IsProfile};
+ghost use Rattle.pool_settings.specs.Reading as spec;
+ghost use Rattle.pool_settings.specs.Rows.{may_do};
+ghost use Rattle.pool_settings.specs.Slots as slots;
+ghost use Rattle.pool_settings.specs.Tree.{entries_at};
+
+use crate::SettingsError;
+use crate::build::{read_counts, read_rows};
+use crate::checks::{
+    has_good_names, has_good_values, has_known_keys, has_needed_keys, has_version,
+};
+use crate::keys::{history_in, job_timeout_in, lull_in, max_runs_in, round_in, server_in};
+use crate::limits::{has_known_functions, has_room};
+use crate::names::Names;
+use crate::planning::live_workers;
+use crate::slots::SlotTable;
+use crate::tree::table_at;
+use crate::worker_name::{parts_of, plain_number};
+use plan_model::{FuncId, Input, InputError, MachineId, SlotId};
+use std::alloc::{AllocError, Global};
+use std::marker::Model;
+use toml::Table;
+
+/// The settings of a pool. Functions and machines are numbered from 0 by name in byte order, and slots by machine and then by
+/// the worker's number in its machine, so names and numbers are one to one.
+#[derive(Drop)]
+pub struct Settings {
+    server: String,
+    job_timeout_ms: u32,
+    max_runs: u32,
+    round_ms: u32,
+    lull_ms: u32,
+    history: u32,
+    functions: Names,
+    least: Vec<u32>,
+    machines: Names,
+    slots: SlotTable,
+    may: Vec<Vec<FuncId>>,
+}
+
+impl Model for Settings {
+    ghost use Rattle.std.specs.Prelude.{map, string_bytes};
+    ghost use Rattle.pool_settings.specs.Profile.{IsProfile, Profile};
+
+    ghost Value = { Profile };
+
+    ghost use Rattle.pool_settings.specs.Kept.{profile_view};
+
+    ghost view = { profile_view };
+
+    ghost invariant = { λ s. IsProfile (profile_view s) };
+}
+
+/// The first check that a tree fails.
+fn first_fault(tree: &Table) -> Option<SettingsError>
+    ensures { result ≡ spec.first_fault (table_view tree.now) }
+{
+    if !has_version(tree) {
+        return Some(SettingsError::Version);
+    }
+    if !has_known_keys(tree) {
+        return Some(SettingsError::UnknownKey);
+    }
+    if !has_needed_keys(tree) {
+        return Some(SettingsError::MissingKey);
+    }
+    if !has_good_names(tree) {
+        return Some(SettingsError::BadName);
+    }
+    if !has_good_values(tree) {
+        return Some(SettingsError::BadValue);
+    }
+    if !has_known_functions(tree) {
+        return Some(SettingsError::UnknownFunction);
+    }
+    if !has_room(tree) {
+        return Some(SettingsError::TooMany);
+    }
+    None
+}
+
+/// The settings of a tree that passes the checks.
+fn settings_of(
+    alloc: Global,
+    tree: &Table,
+    functions: &Table,
+    machines: &Table,
+) -> Result<Settings, AllocError>
+    requires passes { spec.first_fault (table_view tree.now) ≡ None }
+    requires functions { table_entries functions.now ≡ entries_at spec.functions_key (table_view tree.now) }
+    requires machines { table_entries machines.now ≡ entries_at spec.machines_key (table_view tree.now) }
+    ensures { IfOk result (λ s. s ≡ spec.profile_of (table_view tree.now)) }
+{
+    let server = String::from_str(alloc, server_in(tree).unwrap_or(""))?;
+    let names = Names::of_table(alloc, functions)?;
+    let least = read_counts(alloc, functions, "least")?;
+    let machine_names = Names::of_table(alloc, machines)?;
+    let workers = read_counts(alloc, machines, "workers")?;
+    let may = read_rows(alloc, &names, machines)?;
+    Ok(Settings {
+        server,
+        job_timeout_ms: job_timeout_in(tree).unwrap_or(0),
+        max_runs: max_runs_in(tree).unwrap_or(0),
+        round_ms: round_in(tree).unwrap_or(0),
+        lull_ms: lull_in(tree).unwrap_or(0),
+        history: history_in(tree).unwrap_or(0),
+        functions: names,
+        least,
+        machines: machine_names,
+        slots: SlotTable::new(alloc, workers)?,
+        may,
+    })
+}
+
+/// What a tree means, or its refusal.
+fn read_tree(alloc: Global, tree: &Table) -> Result<Settings, SettingsError>
+    ensures ok { IfOk result (λ s. spec.read_tree (table_view tree.now) ≡ Ok s) }
+    ensures refused { IfErr result (λ f. f ≢ SettingsError.Memory → spec.read_tree (table_view tree.now) ≡ Err f) }
+{
+    if let Some(fault) = first_fault(tree) {
+        return Err(fault);
+    }
+    let Some(functions) = table_at(tree, "functions") else {
+        unreachable!()
+    };
+    let Some(machines) = table_at(tree, "machines") else {
+        unreachable!()
+    };
+    Ok(settings_of(alloc, tree, functions, machines)?)
+}
+
+impl Settings {
+    /// Reads a settings file.
+    pub fn read(alloc: Global, bytes: &[u8]) -> Result<Settings, SettingsError>
+        ensures ok { IfOk result (λ s. spec.reading bytes.now ≡ Ok s) }
+        ensures refused { IfErr result (λ f. f ≢ SettingsError.Memory → spec.reading bytes.now ≡ Err f) }
+    {
+        match toml::table_from_slice(alloc, bytes) {
+            Ok(tree) => read_tree(alloc, &tree),
+            Err(error) => {
+                if error.is_memory() {
+                    return Err(SettingsError::Memory);
+                }
+                Err(SettingsError::Text)
+            }
+        }
+    }
+
+    /// Equal settings.
+    pub fn copy(&self, alloc: Global) -> Result<Settings, AllocError>
+        ensures { IfOk result (λ s. s ≡ self.now) }
+    {
+        Ok(Settings {
+            server: String::from_str(alloc, self.server.as_str())?,
+            job_timeout_ms: self.job_timeout_ms,
+            max_runs: self.max_runs,
+            round_ms: self.round_ms,
+            lull_ms: self.lull_ms,
+            history: self.history,
+            functions: self.functions.copy(alloc)?,
+            least: Vec::from_slice(alloc, &self.least)?,
+            machines: self.machines.copy(alloc)?,
+            slots: self.slots.copy(alloc)?,
+            may: copy_rows(alloc, &self.may)?,
+        })
+    }
+}
+
+/// The single keys.
+impl Settings {
+    /// The job server, dialled as `host:port`.
+    pub fn server(&self) -> &str
+        ensures all { result.now ≡ self.now.server }
+        ensures some { 1 ≤ length result.now }
+        ensures few { length result.now ≤ 255 }
+    {
+        self.server.as_str()
+    }
+
+    /// How long a worker may take for a job, in milliseconds: at least 1.
+    pub fn job_timeout_ms(&self) -> u32
+        ensures all { result ≡ self.now.job_timeout_ms }
+        ensures some { 1 ≤ result }
+    {
+        self.job_timeout_ms
+    }
+
+    /// The runs after which a worker is replaced: at least 1.
+    pub fn max_runs(&self) -> u32
+        ensures all { result ≡ self.now.max_runs }
+        ensures some { 1 ≤ result }
+    {
+        self.max_runs
+    }
+
+    /// The pause between two rounds, in milliseconds: from 1 to 3,600,000.
+    pub fn round_ms(&self) -> u32
+        ensures all { result ≡ self.now.round_ms }
+        ensures some { 1 ≤ result }
+        ensures few { result ≤ 3600000 }
+    {
+        self.round_ms
+    }
+
+    /// How long a read waits before it counts as a lull, in milliseconds: from 1 to 3,600,000.
+    pub fn lull_ms(&self) -> u32
+        ensures all { result ≡ self.now.lull_ms }
+        ensures some { 1 ≤ result }
+        ensures few { result ≤ 3600000 }
+    {
+        self.lull_ms
+    }
+
+    /// The most events that the pool keeps: from 1 to 1,048,576.
+    pub fn history(&self) -> u32
+        ensures all { result ≡ self.now.history }
+        ensures some { 1 ≤ result }
+        ensures few { result ≤ 1048576 }
+    {
+        self.history
+    }
+}
+
+/// Functions and machines, by number and by name. A look-up by name is a binary search.
+impl Settings {
+    /// How many functions there are, at most 1,024.
+    pub fn functions(&self) -> u32
+        ensures all { result ≡ length self.now.functions }
+        ensures few { result ≤ 1024 }
+        ensures valid { IsProfile self.now }
+    {
+        self.functions.len() as u32
+    }
+
+    /// How many machines there are, at most 256.
+    pub fn machines(&self) -> u32
+        ensures all { result ≡ length self.now.machines }
+        ensures few { result ≤ 256 }
+        ensures valid { IsProfile self.now }
+    {
+        self.machines.len() as u32
+    }
+
+    /// The function of a name.
+    pub fn function_named(&self, name: &[u8]) -> Option<FuncId>
+        ensures all { result ≡ names.place_of self.now.functions name.now }
+        ensures there { IfSome result (λ f. f < length self.now.functions) }
+    {
+        let place = self.functions.place_of(name)?;
+        Some(FuncId::new(place))
+    }
+
+    /// The name of a function, and the empty text behind the last function.
+    pub fn function_name(&self, function: FuncId) -> &str
+        ensures { result.now ≡ names.name_at self.now.functions function }
+    {
+        self.functions.at(function.number())
+    }
+
+    /// The machine of a name.
+    pub fn machine_named(&self, name: &[u8]) -> Option<MachineId>
+        ensures all { result ≡ names.place_of self.now.machines name.now }
+        ensures there { IfSome result (λ m. m < length self.now.machines) }
+    {
+        let place = self.machines.place_of(name)?;
+        Some(MachineId::new(place))
+    }
+
+    /// The name of a machine, and the empty text behind the last machine.
+    pub fn machine_name(&self, machine: MachineId) -> &str
+        ensures { result.now ≡ names.name_at self.now.machines machine }
+    {
+        self.machines.at(machine.number())
+    }
+
+    /// The least number of workers that a function is to have, at most 4,096.
+    pub fn least(&self, function: FuncId) -> u32
+        requires { function < length self.now.functions }
+        ensures all { result ≡ slice_index self.now.least function }
+        ensures few { result ≤ 4096 }
+    {
+        self.least[function.number() as usize]
+    }
+
+    /// The functions that the workers of a machine may do, in rising order and each once.
+    pub fn permitted(&self, machine: MachineId) -> &[FuncId]
+        requires { machine < length self.now.machines }
+        ensures row { result.now ≡ slice_index_or self.now.may machine [] }
+        ensures rising { IsStrictlyIncreasing result.now }
+    {
+        &self.may[machine.number() as usize]
+    }
+
+    /// Whether the workers of a machine may do a function, by binary search.
+    pub fn may(&self, machine: MachineId, function: FuncId) -> bool
+        requires { machine < length self.now.machines }
+        ensures { result ≡ may_do self.now machine function }
+    {
+        self.permitted(machine).binary_search(&function).is_ok()
+    }
+}
+
+/// Workers and their slots.
+impl Settings {
+    /// How many slots there are, one for each worker: at most 4,096.
+    pub fn slots(&self) -> u32
+        ensures all { result ≡ slots.slots self.now }
+        ensures few { result ≤ 4096 }
+        ensures valid { IsProfile self.now }
+    {
+        self.slots.len()
+    }
+
+    /// How many workers a machine has.
+    pub fn workers(&self, machine: MachineId) -> u32
+        requires { machine < length self.now.machines }
+        ensures { result ≡ slice_index self.now.workers machine }
+    {
+        self.slots.workers()[machine.number() as usize]
+    }
+
+    /// The slot of a machine's first worker, or the slot where it would be.
+    pub fn first_slot(&self, machine: MachineId) -> u32
+        requires { machine < length self.now.machines }
+        ensures all { result ≡ slots.first_slot self.now machine }
+        ensures within { result + slice_index self.now.workers machine ≤ slots.slots self.now }
+        ensures room { result + slice_index self.now.workers machine ≤ 4096 }
+    {
+        self.slots.first(machine)
+    }
+
+    /// The machine of a slot's worker.
+    pub fn machine_of(&self, slot: SlotId) -> MachineId
+        requires { slot < slots.slots self.now }
+        ensures all { result ≡ slots.machine_of self.now slot }
+        ensures there { result < length self.now.machines }
+        ensures from { slots.first_slot self.now result ≤ slot }
+        ensures to { slot < slots.first_slot self.now result + slice_index self.now.workers result }
+    {
+        self.slots.owner(slot)
+    }
+
+    /// The number of a slot's worker in its machine, from 0.
+    pub fn worker_number(&self, slot: SlotId) -> u32
+        requires { slot < slots.slots self.now }
+        ensures { result ≡ slots.worker_number self.now slot }
+    {
+        slot.number() - self.first_slot(self.machine_of(slot))
+    }
+
+    /// The slot of a worker's name, `machine/number`. The number is exact: `a/00` names no slot.
+    pub fn slot_named(&self, name: &[u8]) -> Option<SlotId>
+        ensures all { result ≡ slots.slot_named self.now name.now }
+        ensures there { IfSome result (λ s. s < slots.slots self.now) }
+        ensures few { IfSome result (λ s. s < 4096) }
+    {
+        let (machine, digits) = parts_of(name)?;
+        let machine = self.machine_named(machine)?;
+        self.slot_in(machine, digits)
+    }
+
+    /// The slot of a machine's worker, by the digits of its number.
+    fn slot_in(&self, machine: MachineId, digits: &[u8]) -> Option<SlotId>
+        requires { machine < length self.now.machines }
+        ensures all { result ≡ slots.slot_in self.now digits.now machine }
+        ensures there { IfSome result (λ s. s < slots.slots self.now) }
+        ensures few { IfSome result (λ s. s < 4096) }
+    {
+        let number = plain_number(digits)?;
+        if number < self.workers(machine) {
+            Some(SlotId::new(self.first_slot(machine) + number))
+        } else {
+            None
+        }
+    }
+}
+
+/// What there is to plan for.
+impl Settings {
+    /// The planning problem where the slots that are marked are live and these jobs wait for each function.
+    pub fn input(&self, alloc: Global, live: &[bool], waiting: &[u32]) -> Result<Input, AllocError>
+        requires { length waiting.now ≡ length self.now.functions }
+        ensures { IfOk result (λ input. input ≡ instance_of self.now live.now waiting.now) }
+    {
+        let workers = live_workers(alloc, self.slots.owners(), live)?;
+        match Input::new(alloc, &workers, &self.may, &self.least, waiting) {
+            Ok(input) => Ok(input),
+            Err(error) => match error {
+                InputError::Memory => Err(AllocError),
+                _ => unreachable!(),
+            },
+        }
+    }
+}
+
+fn copy_rows(alloc: Global, rows: &[Vec<FuncId>]) -> Result<Vec<Vec<FuncId>>, AllocError>
+    ensures { IfOk result
+        (λ copy. map (λ row. row.items) copy.items ≡ map (λ row. row.items) rows.now) }
+{
+    let mut copy = Vec::new(alloc);
+    for row in rows {
+        copy.push(Vec::from_slice(alloc, row)?)?;
+    }
+    Ok(copy)
+}
