@@ -1,5 +1,7 @@
 -- The entries of the map beside the lines that they stand for.
 use Rattle.std.proofs.Common.{◌≡◌, ℕ, List, [], ◌∷◌, Bool, true, false, Some, cond, Vec, Global, refl, ap}
+use Rattle.std.specs.Prelude.{vec_len}
+use Rattle.std.specs.List.{AllZip}
 use Rattle.std.specs.Str.{bytes_eq}
 use Rattle.std.specs.Map.{lookup}
 use Rattle.indexmap.specs.IndexMap.{insert_entry}
@@ -27,3 +29,18 @@ put_view (e ∷ es) k v = by (bytes_eq k.items e.0.items) refl (put_view es k v)
 pub counts_view : (es : List Held) (name : List ℕ) → counts_of (lines_view es) name ≡ lookup (λ k. bytes_eq name k.items) es
 counts_view [] name = refl
 counts_view (e ∷ es) name = ap (cond (bytes_eq name e.0.items) (Some e.1)) (counts_view es name)
+
+-- bytes that are copies are the same
+same_bytes : (xs ys : List ℕ) → AllZip (λ x y. y ≡ x) xs ys → ys ≡ xs
+same_bytes [] [] h = refl
+same_bytes [] (y ∷ ys) h = absurd h
+same_bytes (x ∷ xs) [] h = absurd h
+same_bytes (x ∷ xs) (y ∷ ys) h = rw h.0 (ap (λ t. x ∷ t) (same_bytes xs ys h.1))
+
+-- entries that are clones are the same lines
+pub lines_view-clone : (es fs : List Held) → AllZip (λ e f. (AllZip (λ x y. y ≡ x) e.0.items f.0.items × (vec_len f.0 ≡ vec_len e.0)) × (f.1 ≡ e.1)) es fs → lines_view fs ≡ lines_view es
+lines_view-clone [] [] h = refl
+lines_view-clone [] (f ∷ fs) h = absurd h
+lines_view-clone (e ∷ es) [] h = absurd h
+lines_view-clone (e ∷ es) (f ∷ fs) h =
+    rw (same_bytes e.0.items f.0.items h.0.0.0, h.0.1) (ap (λ t. line_view e ∷ t) (lines_view-clone es fs h.1))

@@ -5,3 +5,5 @@ pub mod Device
 pub mod Stream
 pub mod Refusal
 pub mod Memory
+pub mod Script
+pub mod Played

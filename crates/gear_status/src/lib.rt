@@ -7,12 +7,14 @@ mod line;
 mod load;
 mod memory;
 mod reader;
+mod script;
 mod status;
 
 pub use device::{DeviceFault, Given, Sink, Source, Took, give_all};
 pub use error::StatusError;
 pub use load::{Counts, Load};
 pub use memory::{SliceSource, VecSink};
+pub use script::{Cue, Script};
 pub use status::{load_of, read_status, read_status_within};
 
 #[cfg(test)]

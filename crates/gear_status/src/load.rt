@@ -1,6 +1,6 @@
 // A load: the functions of a status text with their counts, in the order of its lines.
 
-ghost use Rattle.std.specs.Prelude.{◌≡◌, [], OnErr, OnOk};
+ghost use Rattle.std.specs.Prelude.{◌≡◌, [], IfOk, OnErr, OnOk};
 ghost use Rattle.gear_status.specs.Status.{put, waiting};
 
 use indexmap::IndexMap;
@@ -76,5 +76,14 @@ impl Load {
             Some(counts) => counts.total.saturating_sub(counts.running),
             None => 0,
         }
+    }
+
+    /// An equal load: the same lines in the same order.
+    pub fn copy(&self) -> Result<Load, AllocError>
+        ensures { IfOk result (λ load. load ≡ self.now) }
+    {
+        Ok(Load {
+            lines: self.lines.clone()?,
+        })
     }
 }

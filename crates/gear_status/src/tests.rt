@@ -1,18 +1,75 @@
-use crate::{SliceSource, StatusError, read_status};
-use std::alloc::Global;
+use crate::{
+    Given, Load, Script, SliceSource, StatusError, VecSink, give_all, load_of, read_status,
+};
+use std::alloc::{AllocError, Global};
 
+const ROW: &[u8] = b"x\t6\t0\t2\ny\t2\t0\t1\n.\n";
+
+/// The waiting jobs of a name, or why the text is not taken.
 fn waiting_of(alloc: Global, text: &[u8], name: &[u8]) -> Result<u32, StatusError> {
     let mut source = SliceSource::new(text);
-    match read_status(alloc, &mut source) {
-        Ok(load) => Ok(load.waiting(name)),
-        Err(fault) => Err(fault),
+    Ok(read_status(alloc, &mut source)?.waiting(name))
+}
+
+/// What the text means, read in two pieces.
+fn waiting_in_two(alloc: Global, text: &[u8], cut: usize) -> Result<u32, StatusError> {
+    let (first, second) = text.split_at(cut.min(text.len()));
+    let mut script = Script::new(alloc);
+    script.piece(first)?;
+    script.lull()?;
+    script.piece(second)?;
+    Ok(read_status(alloc, &mut script)?.waiting(b"x"))
+}
+
+/// What the text means, read byte by byte with a lull before each of the first 60.
+fn waiting_in_bytes(alloc: Global, text: &[u8]) -> Result<u32, StatusError> {
+    let mut script = Script::new(alloc);
+    let mut lulls = 0;
+    for byte in text {
+        if lulls < 60 {
+            script.lull()?;
+            lulls += 1;
+        }
+        script.piece(&[*byte])?;
     }
+    Ok(read_status(alloc, &mut script)?.waiting(b"x"))
+}
+
+/// Row 1's text after so many lulls.
+fn waiting_after(alloc: Global, lulls: u32) -> Result<u32, StatusError> {
+    let mut script = Script::new(alloc);
+    for _ in 0..lulls {
+        script.lull()?;
+    }
+    script.piece(ROW)?;
+    Ok(read_status(alloc, &mut script)?.waiting(b"x"))
+}
+
+/// A line `x TAB 1 TAB 0 TAB 0` whose name is made longer, so that it has so many bytes.
+fn push_long_line(text: &mut Vec<u8>, len: usize) -> Result<(), AllocError> {
+    for _ in 6..len {
+        text.push(b'x')?;
+    }
+    text.extend_from_slice(b"\t1\t0\t0\n")?;
+    Ok(())
+}
+
+/// A text of so many short lines, and then a last line.
+fn lines_then(alloc: Global, count: u32, last: &[u8]) -> Result<Vec<u8>, AllocError> {
+    let mut text = Vec::new(alloc);
+    for _ in 0..count {
+        text.extend_from_slice(b"x\t1\t0\t0\n")?;
+    }
+    text.extend_from_slice(last)?;
+    Ok(text)
 }
 
 #[test]
-fn rows(rt: HostRuntime) {
+fn meanings_of_texts(rt: HostRuntime) {
     let alloc = rt.alloc();
-    assert!(rt; waiting_of(alloc, b"x\t6\t0\t2\ny\t2\t0\t1\n.\n", b"x") == Ok(6));
+    assert!(rt; waiting_of(alloc, ROW, b"x") == Ok(6));
+    assert!(rt; waiting_of(alloc, ROW, b"y") == Ok(2));
+    assert!(rt; waiting_of(alloc, ROW, b"z") == Ok(0));
     assert!(rt; waiting_of(alloc, b"x\t4294967295\t0\t0\n.\n", b"x") == Ok(4294967295));
     assert!(rt; waiting_of(alloc, b"x\t4294967295\t0\t0\n", b"x") == Err(StatusError::Truncated));
     assert!(rt;
@@ -23,4 +80,78 @@ fn rows(rt: HostRuntime) {
     assert!(rt; waiting_of(alloc, b"x\t6\t0\t2\r\n.\r\nrest", b"x") == Ok(6));
     assert!(rt; waiting_of(alloc, b"x\t5\t0\t0\nx\t3\t0\t0\n.\n", b"x") == Ok(3));
     assert!(rt; waiting_of(alloc, b"a\tb\t1\t0\t0\n.\n", b"a\tb") == Ok(1));
+    assert!(rt; waiting_of(alloc, b"\t007\t0\t0\n.\n", b"") == Ok(7));
+    for cut in 0..ROW.len() {
+        assert!(rt; waiting_of(alloc, &ROW[..cut], b"x") == Err(StatusError::Truncated));
+        assert!(rt; matches!(load_of(alloc, &ROW[..cut]), Err(StatusError::Truncated)));
+    }
+}
+
+#[test]
+fn limits_of_lines(rt: HostRuntime) {
+    let alloc = rt.alloc();
+    let mut text = Vec::new(alloc);
+    push_long_line(&mut text, 4096).expect(&rt, "memory");
+    text.extend_from_slice(b".\n").expect(&rt, "memory");
+    assert!(rt; matches!(load_of(alloc, &text), Ok(_)));
+
+    let mut text = Vec::new(alloc);
+    push_long_line(&mut text, 4097).expect(&rt, "memory");
+    assert!(rt; matches!(load_of(alloc, &text), Err(StatusError::LineTooLong(1))));
+
+    let text = lines_then(alloc, 65536, b".\n").expect(&rt, "memory");
+    assert!(rt; waiting_of(alloc, &text, b"x") == Ok(1));
+    let text = lines_then(alloc, 65537, b"").expect(&rt, "memory");
+    assert!(rt; matches!(load_of(alloc, &text), Err(StatusError::TooManyLines)));
+    let mut text = lines_then(alloc, 65536, b"").expect(&rt, "memory");
+    push_long_line(&mut text, 4097).expect(&rt, "memory");
+    assert!(rt; matches!(load_of(alloc, &text), Err(StatusError::LineTooLong(65537))));
+}
+
+#[test]
+fn pieces_and_pauses(rt: HostRuntime) {
+    let alloc = rt.alloc();
+    for cut in 0..ROW.len() + 1 {
+        assert!(rt; waiting_in_two(alloc, ROW, cut) == Ok(6));
+    }
+    assert!(rt; waiting_in_bytes(alloc, ROW) == Ok(6));
+    assert!(rt; waiting_after(alloc, 64) == Ok(6));
+    assert!(rt; waiting_after(alloc, 65) == Err(StatusError::ReadFault));
+}
+
+#[test]
+fn devices_that_fail(rt: HostRuntime) {
+    let alloc = rt.alloc();
+    let mut script = Script::new(alloc);
+    script.piece(&ROW[..5]).expect(&rt, "memory");
+    script.piece(&ROW[5..]).expect(&rt, "memory");
+    script.fail_take(2);
+    assert!(rt; matches!(read_status(alloc, &mut script), Err(StatusError::ReadFault)));
+
+    let mut script = Script::new(alloc);
+    script.give_at_most(1);
+    script.fail_give(3);
+    assert!(rt; give_all(&mut script, b"report") == Err(Given { count: 2 }));
+    assert!(rt; script.output() == b"re".as_slice());
+    assert!(rt; give_all(&mut script, b"port") == Ok(()));
+    assert!(rt; script.output() == b"report".as_slice());
+
+    let mut sink = VecSink::new(alloc);
+    assert!(rt; give_all(&mut sink, b"report") == Ok(()));
+    assert!(rt; sink.bytes() == b"report".as_slice());
+}
+
+#[test]
+fn loads(rt: HostRuntime) {
+    let alloc = rt.alloc();
+    let mut load = Load::new(alloc);
+    load.set(b"x", 5, 0, 0).expect(&rt, "memory");
+    load.set(b"x", 3, 0, 0).expect(&rt, "memory");
+    let copy = load.copy().expect(&rt, "memory");
+    load.set(b"x", 9, 0, 0).expect(&rt, "memory");
+    assert!(rt; copy.waiting(b"x") == 3);
+    assert!(rt; load.waiting(b"x") == 9);
+
+    let error = StatusError::LineTooLong(7);
+    assert!(rt; (error.number(), error.name(), error.line()) == (3, "LineTooLong", Some(7)));
 }
