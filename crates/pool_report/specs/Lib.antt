@@ -1,0 +1,9 @@
+pub mod Report
+pub mod Kept
+pub mod Outcome
+pub mod Lines
+pub mod Told
+pub mod Reading
+pub mod Drafts
+pub mod Answered
+pub mod Refusal

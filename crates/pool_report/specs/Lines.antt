@@ -1,0 +1,117 @@
+-- One line of a report, as it is read: what it tells, less the numbers that an answer does not hold.
+use Rattle.std.specs.Prelude.{ℕ, ◌+◌, ◌^◌, ◌==◌, List, [], ◌∷◌, length, take, drop, Bool, false, ◌&&◌, nat_lt, Option, Some, None, option_map, codes, if◌then◌else◌}
+use Rattle.std.specs.Option.{option_map_or}
+use Rattle.std.specs.Str.{bytes_eq}
+use Rattle.std.specs.Str.Parse.{digits_value}
+use Rattle.pool_settings.specs.Names.{is_machine_name, is_name}
+use Rattle.pool_settings.specs.Slots.{is_plain}
+
+pub data Line : Type 0 where
+  head : Line
+  backlog : ℕ → Line
+  no_plan : Line
+  -- a worker's name, and its function's
+  task : List ℕ → Option (List ℕ) → Line
+  short : Line
+  needed : List ℕ → Line
+  stranded : List ℕ → Line
+  last : Line
+
+-- ---- parts of a line
+
+abbrev pub put_front : ℕ → List ℕ × List ℕ → List ℕ × List ℕ
+put_front b parts = (b ∷ parts.0, parts.1)
+
+-- a text cut at the last byte of one kind, which neither part has
+abbrev pub cut_last : ℕ → List ℕ → Option (List ℕ × List ℕ)
+cut_last c [] = None
+cut_last c (b ∷ bs) =
+    option_map_or (λ parts. Some (put_front b parts)) (cut_last c bs)
+    (if b == c then Some ([], bs) else None)
+
+-- what stands behind a word at the start of a line
+abbrev pub after : List ℕ → List ℕ → Option (List ℕ)
+after word line =
+    if bytes_eq (take (length word) line) word then Some (drop (length word) line) else None
+
+abbrev pub number_below : ℕ → List ℕ → Option ℕ
+number_below bound digits =
+    if is_plain digits && nat_lt (digits_value 10 digits) bound then Some (digits_value 10 digits) else None
+
+-- a worker's name, `machine/number`
+abbrev pub is_worker_parts : List ℕ × List ℕ → Bool
+is_worker_parts parts = is_machine_name parts.0 && is_plain parts.1
+
+abbrev pub is_worker : List ℕ → Bool
+is_worker name = option_map_or is_worker_parts (cut_last 47 name) false
+
+-- ---- each kind of line, from what stands behind its first words
+
+abbrev pub backlog_in : List ℕ → Option Line
+backlog_in rest = option_map (λ k. backlog k) (number_below (2 ^ 32) rest)
+
+abbrev pub above_zero : ℕ → Option Line
+above_zero w = if nat_lt 0 w then Some (backlog (2 ^ 32 + w)) else None
+
+abbrev pub unserved_in : List ℕ → Option Line
+unserved_in rest = option_map_or above_zero (number_below (2 ^ 32) rest) None
+
+abbrev pub work_of : List ℕ × List ℕ → Option Line
+work_of parts = if is_worker parts.0 && is_name parts.1 then Some (task parts.0 (Some parts.1)) else None
+
+abbrev pub work_in : List ℕ → Option Line
+work_in rest = option_map_or work_of (cut_last 32 rest) None
+
+abbrev pub idle_in : List ℕ → Option Line
+idle_in rest = if is_worker rest then Some (task rest None) else None
+
+-- `A WORD N`, as the text A and the number N
+abbrev pub counted_of : List ℕ → ℕ → List ℕ × List ℕ → Option (List ℕ × ℕ)
+counted_of word n parts = if bytes_eq parts.1 word then Some (parts.0, n) else None
+
+abbrev pub numbered : ℕ → List ℕ → List ℕ × List ℕ → Option (List ℕ × ℕ)
+numbered bound word parts =
+    option_map_or (λ n. option_map_or (counted_of word n) (cut_last 32 parts.0) None) (number_below bound parts.1) None
+
+abbrev pub counted : ℕ → List ℕ → List ℕ → Option (List ℕ × ℕ)
+counted bound word rest = option_map_or (numbered bound word) (cut_last 32 rest) None
+
+abbrev pub short_of : List ℕ × ℕ → Option Line
+short_of parts = option_map (λ n. short) (number_below (2 ^ 64) parts.0)
+
+abbrev pub short_in : List ℕ → Option Line
+short_in rest = option_map_or short_of (counted (2 ^ 64) (codes "have") rest) None
+
+abbrev pub needed_of : List ℕ × ℕ → Option Line
+needed_of parts = if is_name parts.0 then Some (needed parts.0) else None
+
+abbrev pub needed_in : List ℕ → Option Line
+needed_in rest = option_map_or needed_of (counted (2 ^ 32) (codes "need") rest) None
+
+abbrev pub stranded_of : List ℕ × List ℕ → Option Line
+stranded_of parts =
+    option_map_or (λ w. if is_name parts.0 then Some (stranded parts.0) else None) (number_below (2 ^ 32) parts.1) None
+
+abbrev pub stranded_in : List ℕ → Option Line
+stranded_in rest = option_map_or stranded_of (cut_last 32 rest) None
+
+-- ---- a line by its first words
+
+abbrev pub keyed : List ℕ → Option Line
+keyed line =
+    option_map_or backlog_in (after (codes "backlog ") line)
+    (option_map_or unserved_in (after (codes "unserved ") line)
+    (option_map_or work_in (after (codes "work ") line)
+    (option_map_or idle_in (after (codes "idle ") line)
+    (option_map_or short_in (after (codes "short need ") line)
+    (option_map_or needed_in (after (codes "in ") line)
+    (option_map_or stranded_in (after (codes "stranded ") line)
+    None))))))
+
+-- what a line tells, if it has the shape of one
+abbrev pub line_of : List ℕ → Option Line
+line_of line =
+    if bytes_eq line (codes "report 1") then Some head
+    else (if bytes_eq line (codes "noplan") then Some no_plan
+    else (if bytes_eq line (codes "end") then Some last
+    else keyed line))

@@ -1,0 +1,71 @@
+-- The text of a report: its lines in order, each ended by a line feed.
+use Rattle.std.specs.Prelude.{ℕ, ◌-◌, ◌^◌, List, [], ◌∷◌, ◌++◌, Option, Some, None, nat_lt, codes, if◌then◌else◌}
+use Rattle.std.specs.List.{flat_map}
+use Rattle.std.specs.Fmt.{decimal}
+
+-- what a report tells, with names in the place of numbers
+pub record Worker : Type 0 where
+  pub machine : List ℕ
+  pub number : ℕ
+  pub function : Option (List ℕ)
+
+pub record Needed : Type 0 where
+  pub function : List ℕ
+  pub need : ℕ
+
+pub record Short : Type 0 where
+  pub need : ℕ
+  pub have : ℕ
+  pub functions : List Needed
+
+pub record Stranded : Type 0 where
+  pub function : List ℕ
+  pub waiting : ℕ
+
+-- a plan with its backlog, or none
+pub data Told : Type 0 where
+  planned : ℕ → List Worker → Option Short → Told
+  no_plan : Short → Told
+
+abbrev pub ended : List ℕ → List ℕ
+ended line = line ++ 10 ∷ []
+
+-- a backlog above all numbers of jobs counts what nobody serves
+abbrev pub backlog_line : ℕ → List ℕ
+backlog_line k =
+    if nat_lt k (2 ^ 32) then ended (codes "backlog " ++ decimal k)
+    else ended (codes "unserved " ++ decimal (k - 2 ^ 32))
+
+abbrev pub worker_name : Worker → List ℕ
+worker_name w = w.machine ++ codes "/" ++ decimal w.number
+
+abbrev pub task_line : List ℕ → Option (List ℕ) → List ℕ
+task_line name (Some function) = ended (codes "work " ++ name ++ codes " " ++ function)
+task_line name None = ended (codes "idle " ++ name)
+
+abbrev pub worker_line : Worker → List ℕ
+worker_line w = task_line (worker_name w) w.function
+
+abbrev pub needed_line : Needed → List ℕ
+needed_line n = ended (codes "in " ++ n.function ++ codes " need " ++ decimal n.need)
+
+abbrev pub short_line : ℕ → ℕ → List ℕ
+short_line need have = ended (codes "short need " ++ decimal need ++ codes " have " ++ decimal have)
+
+abbrev pub short_lines : Short → List ℕ
+short_lines s = short_line s.need s.have ++ flat_map needed_line s.functions
+
+abbrev pub stranded_line : Stranded → List ℕ
+stranded_line s = ended (codes "stranded " ++ s.function ++ codes " " ++ decimal s.waiting)
+
+abbrev pub short_if : Option Short → List ℕ
+short_if None = []
+short_if (Some s) = short_lines s
+
+abbrev pub told_lines : Told → List ℕ
+told_lines (planned k workers short) = backlog_line k ++ flat_map worker_line workers ++ short_if short
+told_lines (no_plan short) = ended (codes "noplan") ++ short_lines short
+
+abbrev pub report : Told → List Stranded → List ℕ
+report told stranded =
+    ended (codes "report 1") ++ told_lines told ++ flat_map stranded_line stranded ++ ended (codes "end")

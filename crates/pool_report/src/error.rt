@@ -1,0 +1,71 @@
+// Why a report is not read, or not written.
+
+ghost use Rattle.std.specs.Prelude.{◌≡◌};
+ghost use Rattle.pool_report.specs.Refusal as spec;
+
+use thiserror::Error;
+
+/// Why a report is not taken. Lines are counted from 1, and the first faulty line decides.
+#[derive(Clone, Copy, Debug, PartialEq, Eq, Error)]
+pub enum ReadError {
+    /// This line has not the shape of a line of a report, stands out of its place or order, or stands
+    /// behind `end`.
+    #[error("line {0} is no line of a report, or out of its place")]
+    BadLine(u64),
+    /// This line is in its place, and its worker or function is none of the settings.
+    #[error("line {0} names a worker or function that the settings do not have")]
+    UnknownName(u64),
+    /// The text ends before the line feed of `end`.
+    #[error("the text ends before its line `end`")]
+    Truncated,
+    /// A growth of the answer was refused.
+    #[error("out of memory")]
+    Memory,
+}
+
+impl ReadError {
+    /// The number of this refusal, from 1 to 4 in the order above, as fault lines give it.
+    pub fn number(self) -> u32
+        ensures { result ≡ spec.number_of self }
+    {
+        match self {
+            ReadError::BadLine(_) => 1,
+            ReadError::UnknownName(_) => 2,
+            ReadError::Truncated => 3,
+            ReadError::Memory => 4,
+        }
+    }
+
+    /// The name of this refusal, as fault lines give it: that of its variant.
+    pub fn name(self) -> &'static str
+        ensures { result.now ≡ spec.name_of self }
+    {
+        match self {
+            ReadError::BadLine(_) => "BadLine",
+            ReadError::UnknownName(_) => "UnknownName",
+            ReadError::Truncated => "Truncated",
+            ReadError::Memory => "Memory",
+        }
+    }
+
+    /// The line that is refused, counted from 1, where it is one line.
+    pub fn line(self) -> Option<u64>
+        ensures { result ≡ spec.line_of self }
+    {
+        match self {
+            ReadError::BadLine(line) | ReadError::UnknownName(line) => Some(line),
+            ReadError::Truncated | ReadError::Memory => None,
+        }
+    }
+}
+
+/// Why a report is not written.
+#[derive(Clone, Copy, Debug, PartialEq, Eq, Error)]
+pub enum WriteError {
+    /// The sink failed when so many bytes of the report had gone out.
+    #[error("the sink failed after {0} bytes")]
+    WriteFault(usize),
+    /// The report found no room, and nothing of it has gone out.
+    #[error("out of memory")]
+    Memory,
+}

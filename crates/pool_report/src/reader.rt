@@ -1,0 +1,53 @@
+// The answer that a report's text tells.
+
+ghost use Rattle.std.specs.Prelude.{◌≡◌, ◌≢◌, ◌∷◌, ◌+◌, ◌<◌, [], IfOk, IfErr, MatchOption, Ok, Err, length};
+ghost use Rattle.std.specs.List.{slice_split};
+ghost use Rattle.pool_report.specs.Reading.{is_line_feed, meaning};
+
+use crate::draft::Draft;
+use crate::error::ReadError;
+use crate::stage::Misread;
+use plan_model::Answer;
+use pool_settings::Settings;
+use std::alloc::Global;
+
+/// The text before and behind the first line feed.
+fn cut_line(text: &[u8]) -> Option<(&[u8], &[u8])>
+    ensures { MatchOption result (slice_split is_line_feed text.now ≡ text.now ∷ [])
+        (λ p. (slice_split is_line_feed text.now ≡ p.0.now ∷ slice_split is_line_feed p.1.now)
+        × (length p.1.now < length text.now)) }
+{
+    for at in 0..text.len() {
+        if text[at] == b'\n' {
+            return Some((&text[..at], &text[at + 1..]));
+        }
+    }
+    None
+}
+
+/// The answer that a report's text tells. The first faulty line decides.
+pub fn read(alloc: Global, settings: &Settings, text: &[u8]) -> Result<Answer, ReadError>
+    ensures ok { IfOk result (λ a. meaning settings.now text.now ≡ Ok a) }
+    ensures refused { IfErr result (λ e. e ≢ ReadError.Memory → meaning settings.now text.now ≡ Err e) }
+{
+    let mut draft = Draft::new(alloc);
+    let mut rest = text;
+    let mut number: u64 = 1;
+    while let Some((line, tail)) = cut_line(rest) {
+        match draft.place_line(settings, line) {
+            Ok(()) => {}
+            Err(Misread::Bad) => return Err(ReadError::BadLine(number)),
+            Err(Misread::Unknown) => return Err(ReadError::UnknownName(number)),
+            Err(Misread::Memory) => return Err(ReadError::Memory),
+        }
+        number += 1;
+        rest = tail;
+    }
+    if !draft.is_done() {
+        return Err(ReadError::Truncated);
+    }
+    if !rest.is_empty() {
+        return Err(ReadError::BadLine(number));
+    }
+    Ok(draft.into_answer())
+}

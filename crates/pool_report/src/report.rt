@@ -1,0 +1,221 @@
+// The report of an answer, and its writing.
+
+ghost use Rattle.std.specs.Prelude.{◌≡◌, ◌+◌, ◌++◌, ◌^◌, ◌-◌, ◌<◌, [], if◌then◌else◌, IfOk, OnOk, All, length, map, option_map, string_bytes};
+ghost use Rattle.std.specs.List.{flat_map};
+ghost use Rattle.plan_model.specs.Planning.{assigned, is_stranded};
+ghost use Rattle.plan_model.specs.Shown.{IsEvidence, Shown};
+ghost use Rattle.pool_report.specs.Answered as spec;
+ghost use Rattle.pool_report.specs.Kept.{needed_view, stranded_view, worker_view};
+ghost use Rattle.pool_report.specs.Outcome.{Wrote, failures_told};
+ghost use Rattle.pool_report.specs.Report.{needed_line, short_if, short_lines, stranded_line, told_lines, worker_line};
+ghost use Rattle.pool_settings.specs.Names.{name_at};
+
+use crate::error::WriteError;
+use crate::lines::{
+    Needed, Stranded, Worker, push_backlog, push_needed, push_short_line, push_stranded_line,
+    push_worker,
+};
+use gear_status::{Sink, give_all};
+use plan_model::{
+    Answer, FuncId, FuncSet, Input, MachineId, Plan, SlotId, TOP_LEVEL, count_neighbours,
+    total_need,
+};
+use pool_settings::Settings;
+use std::alloc::{AllocError, Global};
+
+fn task_of<'s>(settings: &'s Settings, plan: &Plan, slot: SlotId) -> Option<&'s str>
+    ensures { option_map (λ f. f.now) result ≡ option_map (name_at settings.now.functions) (assigned plan.now slot) }
+{
+    match plan.function_of(slot) {
+        Some(function) => Some(settings.function_name(function)),
+        None => None,
+    }
+}
+
+fn worker_of<'s>(
+    settings: &'s Settings,
+    plan: &Plan,
+    slot: SlotId,
+    machine: MachineId,
+) -> Worker<'s>
+    requires { machine < length settings.now.machines }
+    ensures { worker_view result ≡ spec.worker_in settings.now (assigned plan.now) (slot, machine) }
+{
+    Worker {
+        machine: settings.machine_name(machine),
+        number: slot.number().saturating_sub(settings.first_slot(machine)),
+        function: task_of(settings, plan, slot),
+    }
+}
+
+fn push_tasks(
+    out: &mut String,
+    settings: &Settings,
+    input: &Input,
+    plan: &Plan,
+) -> Result<(), AllocError>
+    requires { All (λ worker. worker.1 < length settings.now.machines) input.now.live }
+    ensures { OnOk result (string_bytes out.new ≡ string_bytes out.old ++ flat_map worker_line (map (spec.worker_in settings.now (assigned plan.now)) input.now.live)) }
+{
+    for (slot, machine) in input.live() {
+        push_worker(out, &worker_of(settings, plan, *slot, *machine))?;
+    }
+    Ok(())
+}
+
+fn needed_of<'s>(settings: &'s Settings, input: &Input, level: u64, function: FuncId) -> Needed<'s>
+    requires { function < length input.now.least }
+    ensures { needed_view result ≡ spec.needed_at settings.now input.now level function }
+{
+    Needed {
+        function: settings.function_name(function),
+        need: input.need(level, function),
+    }
+}
+
+fn push_set(
+    out: &mut String,
+    settings: &Settings,
+    input: &Input,
+    level: u64,
+    set: &FuncSet,
+) -> Result<(), AllocError>
+    requires { All (λ f. f < length input.now.least) set.now }
+    ensures { OnOk result (string_bytes out.new ≡ string_bytes out.old ++ short_lines (spec.short_at settings.now input.now level set.now)) }
+{
+    let need = total_need(input, level, set);
+    let have = count_neighbours(input, set);
+    push_short_line(out, need, u64::from(have))?;
+    for function in set.functions() {
+        push_needed(out, &needed_of(settings, input, level, *function))?;
+    }
+    Ok(())
+}
+
+fn push_evidence(
+    out: &mut String,
+    settings: &Settings,
+    input: &Input,
+    backlog: u64,
+    short: &Option<FuncSet>,
+) -> Result<(), AllocError>
+    requires { IsEvidence input.now backlog short.now }
+    ensures { OnOk result (string_bytes out.new ≡ string_bytes out.old ++ short_if (option_map (spec.short_at settings.now input.now (backlog - 1)) short.now)) }
+{
+    match short {
+        Some(set) => push_set(out, settings, input, backlog - 1, set),
+        None => Ok(()),
+    }
+}
+
+fn stranded_of<'s>(settings: &'s Settings, input: &Input, function: FuncId) -> Stranded<'s>
+    requires { function < length input.now.least }
+    ensures { stranded_view result ≡ spec.stranded_in settings.now input.now function }
+{
+    Stranded {
+        function: settings.function_name(function),
+        waiting: input.waiting()[function.number() as usize],
+    }
+}
+
+fn push_if_stranded(
+    out: &mut String,
+    settings: &Settings,
+    input: &Input,
+    number: u32,
+) -> Result<(), AllocError>
+    requires { number < length input.now.least }
+    ensures { OnOk result (string_bytes out.new ≡ string_bytes out.old ++ (if is_stranded input.now number then stranded_line (spec.stranded_in settings.now input.now number) else [])) }
+{
+    let function = FuncId::new(number);
+    if input.is_stranded(function) {
+        push_stranded_line(out, &stranded_of(settings, input, function))
+    } else {
+        Ok(())
+    }
+}
+
+fn push_leftovers(out: &mut String, settings: &Settings, input: &Input) -> Result<(), AllocError>
+    ensures { OnOk result (string_bytes out.new ≡ string_bytes out.old ++ flat_map stranded_line (spec.stranded_all settings.now input.now)) }
+{
+    for number in 0..input.functions() as u32 {
+        push_if_stranded(out, settings, input, number)?;
+    }
+    Ok(())
+}
+
+fn push_told(
+    out: &mut String,
+    settings: &Settings,
+    input: &Input,
+    answer: &Answer,
+) -> Result<(), AllocError>
+    requires workers { All (λ worker. worker.1 < length settings.now.machines) input.now.live }
+    requires shown { Shown input.now answer.now }
+    ensures { OnOk result (string_bytes out.new ≡ string_bytes out.old ++ told_lines (spec.told settings.now input.now answer.now)) }
+{
+    match answer {
+        Answer::Planned {
+            plan,
+            backlog,
+            short,
+        } => {
+            push_backlog(out, *backlog)?;
+            push_tasks(out, settings, input, plan)?;
+            push_evidence(out, settings, input, *backlog, short)
+        }
+        Answer::NoPlan { short } => {
+            out.push_str("noplan\n")?;
+            push_set(out, settings, input, TOP_LEVEL, short)
+        }
+    }
+}
+
+/// The text of the report of an answer that is shown: what `write` writes.
+pub fn report_text(
+    alloc: Global,
+    settings: &Settings,
+    input: &Input,
+    answer: &Answer,
+) -> Result<String, AllocError>
+    requires of_these { input.now.may ≡ settings.now.may }
+    requires shown { Shown input.now answer.now }
+    ensures { IfOk result (λ s. string_bytes s ≡ spec.report_text settings.now input.now answer.now) }
+{
+    let _live = input.live();
+    let _machines = settings.machines();
+    let mut out = String::new(alloc);
+    out.push_str("report 1\n")?;
+    push_told(&mut out, settings, input, answer)?;
+    push_leftovers(&mut out, settings, input)?;
+    out.push_str("end\n")?;
+    Ok(out)
+}
+
+/// Writes the report of an answer that is shown for an input of these settings. Lines end with a line
+/// feed, words are separated by one space, and numbers are decimal without leading zeros.
+///
+/// The text is made whole before its first byte goes out. After `WriteFault` so many bytes of it have
+/// gone out, and after `Memory` none.
+pub fn write<S: Sink>(
+    alloc: Global,
+    settings: &Settings,
+    input: &Input,
+    answer: &Answer,
+    sink: &mut S,
+) -> Result<(), WriteError>
+    requires of_these { input.now.may ≡ settings.now.may }
+    requires shown { Shown input.now answer.now }
+    requires count { S.failures sink.old < 2 ^ 64 - 1 }
+    ensures written { Wrote (S.got sink.old) (spec.report_text settings.now input.now answer.now) (S.got sink.new) result }
+    ensures failures { S.failures sink.new ≡ S.failures sink.old + failures_told result }
+{
+    let text = match report_text(alloc, settings, input, answer) {
+        Ok(text) => text,
+        Err(_) => return Err(WriteError::Memory),
+    };
+    match give_all(sink, text.as_bytes()) {
+        Ok(()) => Ok(()),
+        Err(given) => Err(WriteError::WriteFault(given.count)),
+    }
+}

@@ -1,0 +1,5 @@
+pub mod Rows
+pub mod Chain
+pub mod Marks
+pub mod Posing
+pub mod Ending

@@ -1,0 +1,38 @@
+-- Why there is no problem, by the fault of each text.
+use Rattle.std.proofs.Common.{◌≡◌, ◌≢◌, ℕ, List, [], Ok, Err, false, refl}
+use Rattle.pool_settings.specs.Reading.{reading}
+use Rattle.pool_settings.specs.declared.error.SettingsError.{SettingsError}
+use Rattle.pool_settings.specs.declared.error.SettingsError.TheVariants as settings
+use Rattle.poolman.specs.Fault.{settings_fault}
+use Rattle.pool_settings.specs.Profile.{Profile}
+use Rattle.poolman.specs.Posing.{Poses}
+use Rattle.poolman.specs.Problem.{are_workers}
+use Rattle.poolman.specs.declared.fault.Fault.{Fault}
+use Rattle.poolman.specs.declared.fault.Fault.TheVariants as fault
+
+-- nothing is taken where the settings are refused
+pub settings_refused : (bytes : List ℕ) (lost : List (List ℕ)) (e : SettingsError) → (e ≢ settings.Memory → reading bytes ≡ Err e)
+    → Poses bytes lost [] 0 0 (Err (settings_fault e))
+settings_refused bytes lost settings.Memory due = tt
+settings_refused bytes lost settings.Text due = rw (due (λ p. cc)) refl
+settings_refused bytes lost settings.Version due = rw (due (λ p. cc)) refl
+settings_refused bytes lost settings.UnknownKey due = rw (due (λ p. cc)) refl
+settings_refused bytes lost settings.MissingKey due = rw (due (λ p. cc)) refl
+settings_refused bytes lost settings.BadName due = rw (due (λ p. cc)) refl
+settings_refused bytes lost settings.BadValue due = rw (due (λ p. cc)) refl
+settings_refused bytes lost settings.UnknownFunction due = rw (due (λ p. cc)) refl
+settings_refused bytes lost settings.TooMany due = rw (due (λ p. cc)) refl
+
+-- nor where a lost worker is unknown
+pub lost_refused : (bytes : List ℕ) (lost : List (List ℕ)) (p : Profile) (f : Fault) → reading bytes ≡ Ok p
+    → (f ≢ fault.Memory → (f ≡ fault.UnknownWorker) × (are_workers p lost ≡ false))
+    → Poses bytes lost [] 0 0 (Err f)
+lost_refused bytes lost p fault.Memory good due = tt
+lost_refused bytes lost p fault.UnknownWorker good due = rw (good, (due (λ q. cc)).1) refl
+lost_refused bytes lost p fault.ReadFault good due = (let other = (due (λ q. cc)).0 in cc)
+lost_refused bytes lost p fault.TooLong good due = (let other = (due (λ q. cc)).0 in cc)
+lost_refused bytes lost p fault.WriteFault good due = (let other = (due (λ q. cc)).0 in cc)
+lost_refused bytes lost p fault.NoFile good due = (let other = (due (λ q. cc)).0 in cc)
+lost_refused bytes lost p (fault.Settings e) good due = (let other = (due (λ q. cc)).0 in cc)
+lost_refused bytes lost p (fault.Status e) good due = (let other = (due (λ q. cc)).0 in cc)
+lost_refused bytes lost p (fault.Report e) good due = (let other = (due (λ q. cc)).0 in cc)

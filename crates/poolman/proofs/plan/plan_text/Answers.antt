@@ -1,0 +1,28 @@
+use Rattle.std.proofs.Common.{map}
+use Rattle.poolman.proofs.Ending.{no_problem, unreported}
+use Rattle.poolman.proofs.plan.plan_text.Goals as goal
+
+pub returns-in-Err : goal.returns-in-Err
+returns-in-Err g c =
+    let told = c.in-Err.ensures.posed in (
+      told.0,
+      told.1,
+      told.2,
+      told.3,
+      told.4,
+      told.5,
+      rw c.refused.ensures (no_problem c.args.settings.now (map (λ w. w.now) c.args.lost.now) told.0 told.1 told.2 (g.S.Sink.got c.args.sink.now) c.in-Err.fault told.6),
+    )
+
+pub returns : goal.returns
+returns g c =
+    let told = c.in-Ok.ensures.posed in (
+      told.0,
+      told.1,
+      told.2,
+      told.3,
+      told.4,
+      told.5,
+      rw c.refused-in-Err-report.ensures (unreported c.args.settings.now (map (λ w. w.now) c.args.lost.now) told.0 told.1 told.2 (g.S.Sink.got c.args.sink.now)
+          (g.S.Sink.got c.report.new.sink) c.in-Ok.problem.settings c.in-Ok.problem.input told.6 c.in-Err-report.fault c.in-Err-report.ensures),
+    )

@@ -1,0 +1,45 @@
+-- Faults, with the exit status of each.
+use Rattle.std.specs.Prelude.{ℕ, None, Some}
+use Rattle.gear_status.specs.declared.error.StatusError.{StatusError}
+use Rattle.gear_status.specs.declared.error.StatusError.TheVariants as status
+use Rattle.pool_report.specs.declared.error.WriteError.{WriteError}
+use Rattle.pool_report.specs.declared.error.WriteError.TheVariants as write
+use Rattle.pool_report.specs.declared.error.ReadError.{ReadError}
+use Rattle.pool_report.specs.declared.error.ReadError.TheVariants as read
+use Rattle.pool_settings.specs.declared.error.SettingsError.{SettingsError}
+use Rattle.pool_settings.specs.declared.error.SettingsError.TheVariants as settings
+use Rattle.poolman.specs.declared.fault.Exit.{Exit}
+use Rattle.poolman.specs.declared.fault.Fault.{Fault}
+use Rattle.poolman.specs.declared.fault.Fault.TheVariants as fault
+
+-- 3 where input is refused, 4 where memory or a device failed
+abbrev pub status_of : Fault → ℕ
+status_of fault.ReadFault = 4
+status_of fault.WriteFault = 4
+status_of fault.NoFile = 4
+status_of fault.Memory = 4
+status_of _ = 3
+
+-- Want of memory is one fault, whoever meets it.
+abbrev pub settings_fault : SettingsError → Fault
+settings_fault settings.Memory = fault.Memory
+settings_fault other = fault.Settings other
+
+abbrev pub status_fault : StatusError → Fault
+status_fault status.ReadFault = fault.ReadFault
+status_fault status.Memory = fault.Memory
+status_fault other = fault.Status other
+
+abbrev pub report_fault : ReadError → Fault
+report_fault read.Memory = fault.Memory
+report_fault other = fault.Report other
+
+abbrev pub write_fault : WriteError → Fault
+write_fault (write.WriteFault count) = fault.WriteFault
+write_fault write.Memory = fault.Memory
+
+abbrev pub answered : ℕ → Exit
+answered status = record { status = status; fault = None }
+
+abbrev pub refused : Fault → Exit
+refused f = record { status = status_of f; fault = Some f }

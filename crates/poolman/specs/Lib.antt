@@ -1,0 +1,6 @@
+pub mod Words
+pub mod Named
+pub mod Fault
+pub mod Problem
+pub mod Posing
+pub mod Plan

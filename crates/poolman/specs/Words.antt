@@ -1,0 +1,80 @@
+-- The program's command line: the words that each command takes, and the command that they ask for.
+use Rattle.std.specs.Prelude.{List, [], ◌∷◌, drop, slice_get, Bool, true, false, Option, Some, None, option_map, option_and_then, unwrap_or, codes, if◌then◌else◌}
+use Rattle.std.specs.Option.{option_map_or}
+use Rattle.std.specs.Str.{bytes_eq}
+use Rattle.clap.specs.Lexer.{usize_max}
+use Rattle.clap.specs.Walk.{Text, Row, Rule, first_of, all_of}
+use Rattle.clap.specs.Words.{takes}
+use Rattle.clap.specs.Simple.{App, matches_of, new_app, new_rule, with_rule}
+use Rattle.clap.specs.declared.builder.action.ArgAction.TheVariants.{Set, Append}
+
+-- a word that has to be there
+abbrev pub operand : Text → Rule
+operand id = record (new_rule id) { required = true; action = Some Set }
+
+-- any number of words
+abbrev pub operands : Text → Rule
+operands id = record (new_rule id) {
+  action = Some Append;
+  range = Some (record { start_inclusive = 0; end_inclusive = usize_max });
+}
+
+abbrev pub settings : Text
+settings = codes "SETTINGS"
+
+abbrev pub status : Text
+status = codes "STATUS"
+
+abbrev pub lost : Text
+lost = codes "LOST"
+
+-- a command with these operands, in this order
+abbrev pub with_rules : App → List Rule → App
+with_rules app [] = app
+with_rules app (rule ∷ rules) = with_rules (with_rule app rule) rules
+
+-- `plan SETTINGS [LOST]...`
+abbrev pub plan_app : App
+plan_app = with_rules (new_app (codes "plan")) (operand settings ∷ operands lost ∷ [])
+
+-- `check SETTINGS STATUS [LOST]...`
+abbrev pub check_app : App
+check_app = with_rules (new_app (codes "check")) (operand settings ∷ operand status ∷ operands lost ∷ [])
+
+-- a command with its texts
+pub data Named : Type 0 where
+  plan : Text → List Text → Named
+  check : Text → Text → List Text → Named
+
+abbrev pub lost_in : List Row → List Text
+lost_in rows = unwrap_or (all_of lost rows) []
+
+abbrev pub plan_in : List Row → Option Named
+plan_in rows = option_map (λ s. plan s (lost_in rows)) (first_of settings rows)
+
+abbrev pub check_of : List Row → Text → Option Named
+check_of rows s = option_map (λ t. check s t (lost_in rows)) (first_of status rows)
+
+abbrev pub check_in : List Row → Option Named
+check_in rows = option_and_then (check_of rows) (first_of settings rows)
+
+-- the command of a name, from its own words, of which the name is the first: each command is a command line of its own
+abbrev pub command_named : Text → List Text → Option Named
+command_named name words =
+    if bytes_eq name (codes "plan") then plan_in (matches_of plan_app words)
+    else (if bytes_eq name (codes "check") then check_in (matches_of check_app words)
+    else None)
+
+-- the command that the words ask for, the first of them being the program's name and the second the command's
+abbrev pub command_in : List Text → Option Named
+command_in words = option_and_then (λ name. command_named name (drop 1 words)) (slice_get words 1)
+
+abbrev pub are_taken_by : List Text → Text → Bool
+are_taken_by words name =
+    if bytes_eq name (codes "plan") then takes plan_app words
+    else (if bytes_eq name (codes "check") then takes check_app words
+    else false)
+
+-- the words are those of a command
+abbrev pub are_taken : List Text → Bool
+are_taken words = option_map_or (are_taken_by (drop 1 words)) (slice_get words 1) false

@@ -1,0 +1,95 @@
+//! Standard input as a source and standard output as a sink.
+
+ghost use Rattle.std.specs.Prelude.{◌≡◌};
+
+use gear_status::{DeviceFault, Sink, Source, Took};
+use std::io::{ErrorKind, Read, Write};
+
+/// A reader, of whose bytes nothing is known. It has no time limit, so that it lulls only where a
+/// signal interrupts it.
+#[derive(Drop)]
+pub struct InputSource<R> {
+    reader: R,
+    failures: u64,
+    has_ended: bool,
+}
+
+impl<R: Read + Drop> InputSource<R> {
+    /// A source that has not failed.
+    pub fn new(reader: R) -> InputSource<R>
+        ensures { result.failures ≡ 0 }
+    {
+        InputSource {
+            reader,
+            failures: 0,
+            has_ended: false,
+        }
+    }
+}
+
+impl<R: Read + Drop> Source for InputSource<R> {
+    ghost use Rattle.std.specs.Prelude.{None};
+
+    ghost given = { λ _. None };
+
+    ghost lulls = { λ _. None };
+
+    ghost failures = { λ s. s.failures };
+
+    ghost has_ended = { λ s. s.has_ended };
+
+    fn take(&mut self, buffer: &mut [u8]) -> Result<Took, DeviceFault> {
+        self.has_ended = false;
+        match self.reader.read(buffer) {
+            Ok(0) => {
+                self.has_ended = true;
+                Ok(Took::Ended)
+            }
+            Ok(count) => Ok(Took::Bytes(count)),
+            Err(error) => {
+                if error.kind() == ErrorKind::Interrupted {
+                    return Ok(Took::Lull);
+                }
+                self.failures += 1;
+                Err(DeviceFault)
+            }
+        }
+    }
+}
+
+/// A writer, of whose bytes nothing is known. A write that takes nothing is a failure.
+#[derive(Drop)]
+pub struct OutputSink<W> {
+    writer: W,
+    failures: u64,
+}
+
+impl<W: Write + Drop> OutputSink<W> {
+    /// A sink that has not failed.
+    pub fn new(writer: W) -> OutputSink<W>
+        ensures { result.failures ≡ 0 }
+    {
+        OutputSink {
+            writer,
+            failures: 0,
+        }
+    }
+}
+
+impl<W: Write + Drop> Sink for OutputSink<W> {
+    ghost use Rattle.std.specs.Prelude.{None};
+
+    ghost got = { λ _. None };
+
+    ghost failures = { λ s. s.failures };
+
+    fn give(&mut self, bytes: &[u8]) -> Result<usize, DeviceFault> {
+        match self.writer.write(bytes) {
+            Ok(0) | Err(_) => {
+                self.failures += 1;
+                Err(DeviceFault)
+            }
+            Ok(count) => Ok(count),
+        }
+    }
+}

@@ -1,0 +1,87 @@
+//! `poolman`: plans of a pool of Gearman workers, each shown to be best.
+#![tactic(auto)]
+
+mod command_line;
+mod devices;
+mod fault;
+mod files;
+mod operands;
+mod plan;
+mod problem;
+
+use command_line::{Command, CommandError, command_of};
+use devices::{InputSource, OutputSink};
+use fault::{Exit, Fault};
+use files::read_file;
+use plan::plan_text;
+use std::process::ExitCode;
+use std::{env, io};
+
+/// The status of a command line that is not taken, help included.
+const USAGE: u8 = 2;
+
+fn run_plan(rt: &HostRuntime, settings: &str, lost: &[&str]) -> Exit {
+    let settings = match read_file(rt, settings) {
+        Ok(settings) => settings,
+        Err(fault) => return Exit::refused(fault),
+    };
+    let mut source = InputSource::new(rt.reader());
+    let mut sink = OutputSink::new(std::io::writer(rt));
+    plan_text(rt.alloc(), &settings, lost, &mut source, &mut sink)
+}
+
+fn carry_out(rt: &HostRuntime, command: &Command<'_>) -> Exit {
+    match command {
+        Command::Plan { settings, lost } => run_plan(rt, settings, lost),
+        Command::Check { .. } => Exit::answered(USAGE),
+    }
+}
+
+/// Prints the fault line, if there is a fault, and gives the status.
+fn end(rt: &HostRuntime, exit: Exit) -> u8 {
+    if let Some(fault) = exit.fault {
+        let _ = eprintln!(rt; "poolman: {fault}");
+    }
+    exit.status
+}
+
+fn run(rt: &HostRuntime, words: &[String]) -> u8 {
+    match command_of(rt.alloc(), words) {
+        Ok(command) => end(rt, carry_out(rt, &command)),
+        Err(CommandError::Usage(error)) => {
+            let _ = rt.eprint(error);
+            USAGE
+        }
+        Err(CommandError::Memory) => out_of_memory(rt),
+    }
+}
+
+fn out_of_memory(rt: &HostRuntime) -> u8 {
+    end(rt, Exit::refused(Fault::Memory))
+}
+
+/// The words of the command line, the program's name first.
+fn words(rt: &HostRuntime) -> io::Result<Vec<String>> {
+    let mut words = Vec::new(rt.alloc());
+    for word in env::args(rt)? {
+        words.push(word)?;
+    }
+    Ok(words)
+}
+
+/// Words that are no UTF-8 are no command's.
+fn no_words(rt: &HostRuntime, error: &io::Error) -> u8 {
+    if error.kind() == io::ErrorKind::OutOfMemory {
+        return out_of_memory(rt);
+    }
+    let _ = eprintln!(rt; "poolman: the command line is not UTF-8");
+    USAGE
+}
+
+fn main(rt: HostRuntime) -> ExitCode {
+    let status = match words(&rt) {
+        Ok(words) => run(&rt, &words),
+        Err(error) => no_words(&rt, &error),
+    };
+    ExitCode::from(status)
+}

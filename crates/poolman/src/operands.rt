@@ -1,0 +1,195 @@
+//! The command line of each command, as a command of `clap` of its own.
+
+ghost use Rattle.std.specs.Prelude.{◌≡◌, IfErr, IfOk, Some, [], false, map, true};
+ghost use Rattle.clap.specs.Built.{FitsChain, TakesValue};
+ghost use Rattle.clap.specs.Words.{IsPlainArg, app_of, args_of, found_of, groups_of, kind_of, rows_of, rule_of, takes};
+ghost use Rattle.clap.specs.Simple.{matches_of, new_app};
+ghost use Rattle.clap.specs.Walk.{first_of};
+ghost use Rattle.clap.specs.declared.builder.command.Command.TheViews.{out-Command as fields_of};
+ghost use Rattle.poolman.specs.Words as spec;
+
+use clap::error::ErrorKind;
+use clap::{Arg, ArgAction, ArgMatches, Command, Error};
+use std::alloc::{AllocError, Global};
+use std::convert::AsStr;
+
+const PLAN: &str = "Reads a status text and prints the best plan, with what shows it";
+
+const CHECK: &str =
+    "Reads a report and says whether it is shown, by the settings and the status text alone";
+
+/// A word that has to be there.
+fn operand<'a>(alloc: Global, id: &'a str, help: &'a str) -> Arg<'a>
+    ensures rule { rule_of result ≡ spec.operand id.entry.now }
+    ensures id { result.id ≡ id.entry }
+    ensures plain { IsPlainArg result }
+    ensures value { TakesValue result }
+    ensures local { result.global ≡ false }
+{
+    Arg::new(alloc, id)
+        .required(true)
+        .action(ArgAction::Set)
+        .help(help)
+}
+
+/// Any number of words.
+fn operands<'a>(alloc: Global, id: &'a str, help: &'a str) -> Arg<'a>
+    ensures rule { rule_of result ≡ spec.operands id.entry.now }
+    ensures id { result.id ≡ id.entry }
+    ensures plain { IsPlainArg result }
+    ensures local { result.global ≡ false }
+{
+    Arg::new(alloc, id)
+        .action(ArgAction::Append)
+        .num_args(0..)
+        .help(help)
+}
+
+fn settings<'a>(alloc: Global) -> Arg<'a>
+    ensures rule { rule_of result ≡ spec.operand spec.settings }
+    ensures id { result.id.now ≡ spec.settings }
+    ensures fits { FitsChain result }
+    ensures value { TakesValue result }
+{
+    operand(
+        alloc,
+        "SETTINGS",
+        "The settings file: machines, functions, least numbers",
+    )
+}
+
+fn status<'a>(alloc: Global) -> Arg<'a>
+    ensures rule { rule_of result ≡ spec.operand spec.status }
+    ensures id { result.id.now ≡ spec.status }
+    ensures fits { FitsChain result }
+    ensures value { TakesValue result }
+{
+    operand(
+        alloc,
+        "STATUS",
+        "The status text that the report was made from",
+    )
+}
+
+fn lost<'a>(alloc: Global) -> Arg<'a>
+    ensures rule { rule_of result ≡ spec.operands spec.lost }
+    ensures id { result.id.now ≡ spec.lost }
+    ensures fits { FitsChain result }
+{
+    operands(
+        alloc,
+        "LOST",
+        "Workers that are not live, as a/0; all others are",
+    )
+}
+
+/// A command without operands, with its help.
+fn command<'a>(
+    alloc: Global,
+    name: &'a str,
+    about: &'a str,
+    usage: &'a str,
+    example: &'a str,
+) -> Command<'a>
+    ensures app { app_of result ≡ new_app name.entry.now }
+    ensures arguments { args_of result ≡ [] }
+    ensures groups { groups_of result ≡ [] }
+    ensures local { (fields_of result).has_globals ≡ false }
+    ensures negates { (fields_of result).subcommand_negates_reqs ≡ false }
+{
+    Command::new(alloc, name)
+        .about(about)
+        .override_usage(usage)
+        .after_help(example)
+}
+
+/// The words of several operands, if any were given.
+fn lost_in<'a>(alloc: Global, matches: &ArgMatches<'a>) -> Result<Vec<&'a str>, AllocError>
+    ensures { IfOk result (λ v. map (λ w. w.now) v.items ≡ spec.lost_in (rows_of (found_of matches.now))) }
+{
+    match matches.get_strs("LOST") {
+        Some(words) => Vec::from_slice(alloc, words),
+        None => Ok(Vec::new(alloc)),
+    }
+}
+
+/// The texts of the words of `plan`: its settings and who is lost.
+pub fn plan_words<'a, W: AsStr>(
+    alloc: Global,
+    words: &'a [W],
+) -> Result<(&'a str, Vec<&'a str>), Error>
+    ensures settings { IfOk result (λ m. first_of spec.settings (matches_of spec.plan_app (map W.text words.now)) ≡ Some m.0.now) }
+    ensures lost { IfOk result (λ m. map (λ w. w.now) m.1.items ≡ spec.lost_in (matches_of spec.plan_app (map W.text words.now))) }
+    ensures usage { IfErr result (λ e. takes spec.plan_app (map W.text words.now) ≡ true → kind_of e ≡ ErrorKind.OutOfMemory) }
+{
+    let settings = settings(alloc);
+    let lost = lost(alloc);
+    let command = command(
+        alloc,
+        "plan",
+        PLAN,
+        "poolman plan SETTINGS [LOST]... < STATUS",
+        "Example: poolman plan settings.toml b/0 < status.txt",
+    );
+    let command = command.arg(settings)?.arg(lost)?;
+    let matches = command.try_get_matches_from(words)?;
+    let lost = lost_in(alloc, &matches)?;
+    let Some(settings) = matches.get_str("SETTINGS") else {
+        unreachable!()
+    };
+    Ok((settings, lost))
+}
+
+/// The texts of the words of `check`: its settings, its status text and who is lost.
+pub fn check_words<'a, W: AsStr>(
+    alloc: Global,
+    words: &'a [W],
+) -> Result<(&'a str, &'a str, Vec<&'a str>), Error>
+    ensures settings { IfOk result (λ m. first_of spec.settings (matches_of spec.check_app (map W.text words.now)) ≡ Some m.0.now) }
+    ensures status { IfOk result (λ m. first_of spec.status (matches_of spec.check_app (map W.text words.now)) ≡ Some m.1.now) }
+    ensures lost { IfOk result (λ m. map (λ w. w.now) m.2.items ≡ spec.lost_in (matches_of spec.check_app (map W.text words.now))) }
+    ensures usage { IfErr result (λ e. takes spec.check_app (map W.text words.now) ≡ true → kind_of e ≡ ErrorKind.OutOfMemory) }
+{
+    let settings = settings(alloc);
+    let status = status(alloc);
+    let lost = lost(alloc);
+    let command = command(
+        alloc,
+        "check",
+        CHECK,
+        "poolman check SETTINGS STATUS [LOST]... < REPORT",
+        "Example: poolman check settings.toml status.txt b/0 < report.txt",
+    );
+    let command = command.arg(settings)?.arg(status)?.arg(lost)?;
+    let matches = command.try_get_matches_from(words)?;
+    let lost = lost_in(alloc, &matches)?;
+    let Some(settings) = matches.get_str("SETTINGS") else {
+        unreachable!()
+    };
+    let Some(status) = matches.get_str("STATUS") else {
+        unreachable!()
+    };
+    Ok((settings, status, lost))
+}
+
+/// A command of the overview, which takes any words.
+fn entry<'a>(alloc: Global, name: &'a str, about: &'a str) -> Command<'a> {
+    Command::new(alloc, name).about(about)
+}
+
+/// What to print where the words name no command: the help that they ask for, or what is wrong.
+pub fn overview<W: AsStr>(alloc: Global, words: &[W]) -> Result<Error, AllocError> {
+    let program = Command::new(alloc, "poolman")
+        .about(
+            "Plans which worker of a Gearman pool serves which function, and shows that no plan is better",
+        )
+        .override_usage("poolman COMMAND ...")
+        .after_help("`poolman COMMAND --help` explains a command.")
+        .subcommand_required(true);
+    let program = program.subcommand(entry(alloc, "plan", PLAN))?;
+    let mut program = program.subcommand(entry(alloc, "check", CHECK))?;
+    match program.try_get_matches_from_mut(words) {
+        Ok(_) => program.error(ErrorKind::MissingSubcommand, "a command is wanted"),
+        Err(error) => Ok(error),
+    }
+}

@@ -1,0 +1,78 @@
+//! The command `plan`: from the texts to the report.
+
+ghost use Rattle.std.specs.Prelude.{◌≡◌, ◌+◌, ◌-◌, ◌^◌, ◌<◌, ℕ, IfOk, List, map};
+ghost use Rattle.gear_status.specs.Device.{and_then, counted};
+ghost use Rattle.plan_model.specs.Shown.{Shown};
+ghost use Rattle.poolman.specs.Plan.{Ends, Plans, status_with};
+
+use crate::fault::{Exit, Fault};
+use crate::problem::{Problem, pose};
+use bumpalo::Bump;
+use gear_status::{Sink, Source};
+use level_search::solve;
+use plan_model::Answer;
+use pool_report::write;
+use std::alloc::{AllocError, Global};
+
+/// The best answer to a problem.
+fn answer_of(alloc: Global, problem: &Problem) -> Result<Answer, AllocError>
+    ensures { IfOk result (λ answer. Shown problem.now.input answer) }
+{
+    let bump = Bump::new(alloc);
+    let solved = solve(alloc, &bump, &problem.input, None)?;
+    Ok(solved.answer)
+}
+
+/// 0 with a plan, 1 without.
+fn status_with(answer: &Answer) -> u8
+    ensures { result ≡ status_with answer.now }
+{
+    match answer {
+        Answer::Planned { .. } => 0,
+        Answer::NoPlan { .. } => 1,
+    }
+}
+
+/// Solves the problem and writes the report.
+fn report<S: Sink>(alloc: Global, problem: &Problem, sink: &mut S) -> Result<u8, Fault>
+    requires of_these { problem.now.input.may ≡ problem.now.settings.may }
+    requires count { S.failures sink.old < 2 ^ 64 - 1 }
+    ensures { Ends problem.now.settings problem.now.input (S.got sink.old) (S.got sink.new) result }
+{
+    let answer = answer_of(alloc, problem)?;
+    write(alloc, &problem.settings, &problem.input, &answer, sink)?;
+    Ok(status_with(&answer))
+}
+
+/// Plans for these settings, with all workers live but the lost ones, and for the status text that the
+/// source gives, and writes the report of the answer to the sink. The exit status is 0 with a plan and
+/// 1 where there is none.
+///
+/// Faults are looked for in the settings, then in the names of the lost workers, and then in the
+/// status text, which is read no further than its period line. The report is made whole before its
+/// first byte goes out: after a `WriteFault` a front of it was written, and after any other fault
+/// nothing.
+pub fn plan_text<R: Source, S: Sink>(
+    alloc: Global,
+    settings: &[u8],
+    lost: &[&str],
+    source: &mut R,
+    sink: &mut S,
+) -> Exit
+    requires source { R.failures source.old < 2 ^ 64 - 1 }
+    requires sink { S.failures sink.old < 2 ^ 64 - 1 }
+    ensures { (bytes : List ℕ) × (lulls : ℕ) × (failures : ℕ)
+        × (R.given source.new ≡ and_then (R.given source.old) bytes)
+        × (R.lulls source.new ≡ counted (R.lulls source.old) lulls)
+        × (R.failures source.new ≡ R.failures source.old + failures)
+        × Plans settings.now (map (λ w. w.now) lost.now) bytes lulls failures (S.got sink.old) (S.got sink.new) result.status result.fault }
+{
+    let problem = match pose(alloc, settings, lost, source) {
+        Ok(problem) => problem,
+        Err(fault) => return Exit::refused(fault),
+    };
+    match report(alloc, &problem, sink) {
+        Ok(status) => Exit::answered(status),
+        Err(fault) => Exit::refused(fault),
+    }
+}
