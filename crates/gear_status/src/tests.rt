@@ -24,7 +24,7 @@ fn waiting_in_two(alloc: Global, text: &[u8], cut: usize) -> Result<u32, StatusE
 /// What the text means, read byte by byte with a lull before each of the first 60.
 fn waiting_in_bytes(alloc: Global, text: &[u8]) -> Result<u32, StatusError> {
     let mut script = Script::new(alloc);
-    let mut lulls = 0;
+    let mut lulls: u32 = 0;
     for byte in text {
         if lulls < 60 {
             script.lull()?;

@@ -161,10 +161,12 @@ fn numbers_and_names(rt: HostRuntime) {
 fn planning_problems(rt: HostRuntime) {
     let alloc = rt.alloc();
     let settings = Settings::read(alloc, ALL.as_bytes()).expect(&rt, "settings");
+    assert!(rt; settings.functions() == 2);
     let live = [true, false, true, true];
     let waiting = [7, 8];
     let input = settings.input(alloc, &live, &waiting).expect(&rt, "memory");
-    assert!(rt; input.workers() == 3);
+    assert!(rt; input.workers() == 3 && input.machines() == 3);
+    assert!(rt; input.functions() == 2);
     assert!(rt; input.live()[2] == (SlotId::new(3), MachineId::new(2)));
     assert!(rt; input.may(MachineId::new(2), FuncId::new(0)));
     assert!(rt; input.least()[0] == 3 && input.waiting()[1] == 8);
