@@ -1,0 +1,34 @@
+#!/usr/bin/env bash
+# Time, looks and memory of one round at the limits: bench/planning.sh
+# Builds bench/planning in a scratch copy of the repository and runs it on each kind of input. Where the program is built
+# (crates/poolman/out/poolman), `poolman plan` is timed on the same inputs as files.
+set -eu
+cd "$(dirname "$0")/.."
+program="$PWD/crates/poolman/out/poolman"
+scratch=$(mktemp -d)
+trap 'rm -rf "$scratch"' EXIT
+mkdir -p "$scratch/crates/planning_bench/src"
+git -C "$scratch" init -q
+for crate in plan_model round_arena augment level_search; do
+    cp -r "crates/$crate" "$scratch/crates/"
+    grep "^$crate:" crates.txt >> "$scratch/crates.txt"
+done
+cp bench/planning/main.rt "$scratch/crates/planning_bench/src/main.rt"
+echo 'planning_bench: level_search, plan_model, bumpalo, anyhow' >> "$scratch/crates.txt"
+(cd "$scratch/crates/planning_bench" && rt run -- all > "$scratch/build.log" 2>&1) || { tail -20 "$scratch/build.log"; exit 1; }
+bench="$scratch/crates/planning_bench/out/planning_bench"
+printf '%-10s %12s %12s %10s %10s %12s %12s\n' input backlog looks seconds 'peak KiB' 'plan seconds' 'plan KiB'
+for kind in all half sparse chains triangle; do
+    figures=$(/usr/bin/time -o "$scratch/time" -f '%U %S %M' "$bench" "$kind")
+    read -r user system peak < "$scratch/time"
+    whole='- - -'
+    if [ -x "$program" ]; then
+        python3 bench/planning/generate.py "$kind" "$scratch/$kind"
+        /usr/bin/time -o "$scratch/time" -f '%U %S %M' "$program" plan "$scratch/$kind/settings.toml" \
+            < "$scratch/$kind/status.txt" > "$scratch/$kind/report.txt"
+        whole=$(cat "$scratch/time")
+    fi
+    awk -v kind="$kind" -v figures="$figures" -v user="$user" -v system_time="$system" -v peak="$peak" -v whole="$whole" \
+        'BEGIN { split(figures, f, " "); split(whole, w, " ");
+                 printf "%-10s %12s %12s %10.2f %10s %12s %12s\n", kind, f[1], f[2], user + system_time, peak, (w[1] == "-" ? "-" : sprintf("%.2f", w[1] + w[2])), w[3] }'
+done

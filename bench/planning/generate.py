@@ -1,0 +1,46 @@
+#!/usr/bin/env python3
+"""Writes settings and a status text of 256 machines, 1,024 functions and 4,096 workers: generate.py KIND FOLDER
+
+The kinds are those of main.rt beside this file: all, half, sparse, chains, triangle.
+"""
+import os
+import sys
+
+MACHINES, FUNCTIONS, WORKERS = 256, 1024, 16
+
+
+def mixed(machine, function):
+    return ((machine * 2654435761 + function * 40503) & 0xFFFFFFFF) >> 15
+
+
+MAY = {
+    "all": lambda machine, function: True,
+    "half": lambda machine, function: mixed(machine, function) % 2 == 0,
+    "sparse": lambda machine, function: mixed(machine, function) % 128 == 0,
+    "chains": lambda machine, function: function // 4 in (machine, machine + 1),
+    "triangle": lambda machine, function: function < FUNCTIONS - 4 * machine,
+}
+
+
+def waiting(kind, function):
+    return 1000 if kind == "triangle" else function * 7919 % 1000 + 1
+
+
+def main():
+    kind, folder = sys.argv[1:]
+    names = [f"f{function:04}" for function in range(FUNCTIONS)]
+    os.makedirs(folder, exist_ok=True)
+    with open(os.path.join(folder, "settings.toml"), "w") as settings:
+        settings.write("version = 1\n")
+        for name in names:
+            settings.write(f"[functions.{name}]\n")
+        for machine in range(MACHINES):
+            listed = [f'"{name}"' for function, name in enumerate(names) if MAY[kind](machine, function)]
+            settings.write(f"[machines.m{machine:03}]\nworkers = {WORKERS}\nfunctions = [{', '.join(listed)}]\n")
+    with open(os.path.join(folder, "status.txt"), "w") as status:
+        for function, name in enumerate(names):
+            status.write(f"{name}\t{waiting(kind, function)}\t0\t0\n")
+        status.write(".\n")
+
+
+main()
