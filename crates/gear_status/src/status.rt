@@ -81,6 +81,7 @@ pub fn read_status_within<S: Source>(
 pub fn load_of(alloc: Global, text: &[u8]) -> Result<Load, StatusError>
     ensures ok { IfOk result (λ load. status text.now ≡ Ok load) }
     ensures refused { IfErr result (λ e. e ≢ StatusError.Memory → status text.now ≡ Err e) }
+    ensures no_device { IfErr result (λ e. e ≢ StatusError.ReadFault) }
 {
     let mut unfinished = Unfinished::new(alloc);
     if unfinished.feed(text)? {

@@ -14,7 +14,7 @@ use Rattle.poolman.specs.Posing.{Poses}
 use Rattle.poolman.specs.Problem.{problem}
 use Rattle.poolman.specs.declared.fault.Fault.{Fault}
 use Rattle.poolman.specs.declared.fault.Fault.TheVariants as fault
-use Rattle.std.specs.Prelude.{Some}
+use Rattle.std.specs.Prelude.{None, Some}
 
 -- the report was not written
 pub unwritten : (p : Profile) (i : Instance) (answer : Answer) (old new : Option (List ℕ)) (e : WriteError) → Shown i answer
@@ -35,7 +35,14 @@ no_problem settings lost bytes lulls failures old (fault.Settings e) posed = (po
 no_problem settings lost bytes lulls failures old (fault.Status e) posed = (posed, refl, refl)
 no_problem settings lost bytes lulls failures old (fault.Report e) posed = (posed, refl, refl)
 
--- a problem is posed, and its report was not written
+-- a problem is posed, and its report was written
+pub reported : (settings : List ℕ) (lost : List (List ℕ)) (bytes : List ℕ) (lulls failures : ℕ) (old new : Option (List ℕ)) (p : Profile) (i : Instance)
+    → problem settings lost bytes ≡ Ok (record { profile = p; input = i })
+    → (status : ℕ) → Ends p i old new (Ok status) → Plans settings lost bytes lulls failures old new status None
+reported settings lost bytes lulls failures old new p i posed status ends =
+    (record { profile = p; input = i }, ends.0, posed, ends.1, ends.2)
+
+-- and was not
 pub unreported : (settings : List ℕ) (lost : List (List ℕ)) (bytes : List ℕ) (lulls failures : ℕ) (old new : Option (List ℕ)) (p : Profile) (i : Instance)
     → problem settings lost bytes ≡ Ok (record { profile = p; input = i })
     → (f : Fault) → Ends p i old new (Err f) → Plans settings lost bytes lulls failures old new (status_of f) (Some f)

@@ -3,3 +3,4 @@ pub mod Chain
 pub mod Marks
 pub mod Posing
 pub mod Ending
+pub mod Examining

@@ -4,3 +4,4 @@ pub mod Fault
 pub mod Problem
 pub mod Posing
 pub mod Plan
+pub mod Check

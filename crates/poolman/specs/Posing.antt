@@ -2,7 +2,7 @@
 use Rattle.std.specs.Prelude.{◌≡◌, ℕ, ◌⊎◌, List, Result, Ok, Err}
 use Rattle.gear_status.specs.Status.{Line, status}
 use Rattle.gear_status.specs.declared.error.StatusError.TheVariants.{Truncated}
-use Rattle.poolman.specs.Problem.{load_in, problem}
+use Rattle.poolman.specs.Problem.{load_in, problem, problem_of_text}
 use Rattle.poolman.specs.declared.fault.Fault.{Fault}
 use Rattle.poolman.specs.declared.fault.Fault.TheVariants as fault
 use Rattle.poolman.specs.declared.problem.Problem.{Problem}
@@ -27,3 +27,12 @@ Poses settings lost bytes lulls failures (Err fault.Memory) = Unit {0}
 Poses settings lost bytes lulls failures (Err fault.ReadFault) = IsReadFault bytes lulls failures
 Poses settings lost bytes lulls failures (Err fault.WriteFault) = ⊥
 Poses settings lost bytes lulls failures (Err f) = problem settings lost bytes ≡ Err f
+
+-- the problem that settings, lost workers and a status text pose, or why there is none
+abbrev pub PosesText : List ℕ → List (List ℕ) → List ℕ → Result Problem Fault → Type 0
+PosesText settings lost text (Ok p) = problem_of_text settings lost text ≡ Ok (record { profile = p.settings; input = p.input })
+PosesText settings lost text (Err (fault.Settings e)) = problem_of_text settings lost text ≡ Err (fault.Settings e)
+PosesText settings lost text (Err fault.UnknownWorker) = problem_of_text settings lost text ≡ Err fault.UnknownWorker
+PosesText settings lost text (Err (fault.Status e)) = problem_of_text settings lost text ≡ Err (fault.Status e)
+PosesText settings lost text (Err fault.Memory) = Unit {0}
+PosesText settings lost text (Err other) = ⊥

@@ -59,11 +59,18 @@ load_in bytes =
     if nat_le (length bytes) limit then told status_fault (status bytes)
     else told cut_fault (status (take limit bytes))
 
-abbrev pub problem_with : List (List ℕ) → List ℕ → Profile → Result Problem Fault
-problem_with lost bytes p =
-    if are_workers p lost then then_on (load_in bytes) (λ load. Ok (problem_of p lost load))
-    else Err fault.UnknownWorker
+abbrev pub problem_with : List (List ℕ) → Result (List Line) Fault → Profile → Result Problem Fault
+problem_with lost load p =
+    if are_workers p lost then then_on load (λ lines. Ok (problem_of p lost lines)) else Err fault.UnknownWorker
 
--- the settings are looked at first, then the lost workers and then the status text
+-- the settings are looked at first, then the lost workers and then the load
+abbrev pub posed : List ℕ → List (List ℕ) → Result (List Line) Fault → Result Problem Fault
+posed settings lost load = then_on (told settings_fault (reading settings)) (problem_with lost load)
+
+-- where the status text comes from a device
 abbrev pub problem : List ℕ → List (List ℕ) → List ℕ → Result Problem Fault
-problem settings lost bytes = then_on (told settings_fault (reading settings)) (problem_with lost bytes)
+problem settings lost bytes = posed settings lost (load_in bytes)
+
+-- where the status text is there whole
+abbrev pub problem_of_text : List ℕ → List (List ℕ) → List ℕ → Result Problem Fault
+problem_of_text settings lost text = posed settings lost (told status_fault (status text))

@@ -1,7 +1,7 @@
 //! Files, read whole and no further than their limit.
 
 use crate::fault::Fault;
-use crate::problem::LIMIT;
+use crate::input::LIMIT;
 use std::fs::File;
 use std::io::{ErrorKind, Read};
 

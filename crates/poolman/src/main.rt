@@ -1,14 +1,17 @@
 //! `poolman`: plans of a pool of Gearman workers, each shown to be best.
 #![tactic(auto)]
 
+mod check;
 mod command_line;
 mod devices;
 mod fault;
 mod files;
+mod input;
 mod operands;
 mod plan;
 mod problem;
 
+use check::check_text;
 use command_line::{Command, CommandError, command_of};
 use devices::{InputSource, OutputSink};
 use fault::{Exit, Fault};
@@ -30,10 +33,28 @@ fn run_plan(rt: &HostRuntime, settings: &str, lost: &[&str]) -> Exit {
     plan_text(rt.alloc(), &settings, lost, &mut source, &mut sink)
 }
 
+fn run_check(rt: &HostRuntime, settings: &str, status: &str, lost: &[&str]) -> Exit {
+    let settings = match read_file(rt, settings) {
+        Ok(settings) => settings,
+        Err(fault) => return Exit::refused(fault),
+    };
+    let status = match read_file(rt, status) {
+        Ok(status) => status,
+        Err(fault) => return Exit::refused(fault),
+    };
+    let mut source = InputSource::new(rt.reader());
+    let mut sink = OutputSink::new(std::io::writer(rt));
+    check_text(rt.alloc(), &settings, &status, lost, &mut source, &mut sink)
+}
+
 fn carry_out(rt: &HostRuntime, command: &Command<'_>) -> Exit {
     match command {
         Command::Plan { settings, lost } => run_plan(rt, settings, lost),
-        Command::Check { .. } => Exit::answered(USAGE),
+        Command::Check {
+            settings,
+            status,
+            lost,
+        } => run_check(rt, settings, status, lost),
     }
 }
 

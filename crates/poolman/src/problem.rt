@@ -3,17 +3,15 @@
 ghost use Rattle.std.specs.Prelude.{◌≡◌, ◌≢◌, ◌+◌, ◌-◌, ◌^◌, ◌<◌, ℕ, List, Err, IfErr, IfOk, false, map, true};
 ghost use Rattle.gear_status.specs.Device.{and_then, counted};
 ghost use Rattle.pool_settings.specs.Planning.{instance_of};
-ghost use Rattle.poolman.specs.Posing.{Loads, Poses};
+ghost use Rattle.poolman.specs.Posing.{Loads, Poses, PosesText};
 ghost use Rattle.poolman.specs.Problem as spec;
 
 use crate::fault::Fault;
-use gear_status::{Load, Source, read_status_within};
+use crate::input::LIMIT;
+use gear_status::{Load, Source, load_of, read_status_within};
 use plan_model::{FuncId, Input};
 use pool_settings::Settings;
 use std::alloc::{AllocError, Global};
-
-/// The most bytes that a file or standard input may have.
-pub const LIMIT: u64 = 16_777_216;
 
 /// What there is to plan for, with the settings that name its workers and functions.
 #[derive(Drop)]
@@ -97,6 +95,24 @@ pub fn pose<S: Source>(
     let settings = Settings::read(alloc, settings)?;
     let live = live_marks(alloc, &settings, lost)?;
     let load = read_load(alloc, source)?;
+    let input = input_of(alloc, &settings, &live, &load)?;
+    Ok(Problem { settings, input })
+}
+
+/// The problem that the settings, the lost workers and a status text that is there whole pose. Faults
+/// are looked for in this order.
+pub fn pose_text(
+    alloc: Global,
+    settings: &[u8],
+    lost: &[&str],
+    status: &[u8],
+) -> Result<Problem, Fault>
+    ensures posed { PosesText settings.now (map (λ w. w.now) lost.now) status.now result }
+    ensures of_these { IfOk result (λ p. p.input.may ≡ p.settings.may) }
+{
+    let settings = Settings::read(alloc, settings)?;
+    let live = live_marks(alloc, &settings, lost)?;
+    let load = load_of(alloc, status)?;
     let input = input_of(alloc, &settings, &live, &load)?;
     Ok(Problem { settings, input })
 }

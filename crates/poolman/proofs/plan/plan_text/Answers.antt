@@ -1,5 +1,5 @@
 use Rattle.std.proofs.Common.{map}
-use Rattle.poolman.proofs.Ending.{no_problem, unreported}
+use Rattle.poolman.proofs.Ending.{no_problem, reported, unreported}
 use Rattle.poolman.proofs.plan.plan_text.Goals as goal
 
 pub returns-in-Err : goal.returns-in-Err
@@ -25,4 +25,17 @@ returns g c =
       told.5,
       rw c.refused-in-Err-report.ensures (unreported c.args.settings.now (map (λ w. w.now) c.args.lost.now) told.0 told.1 told.2 (g.S.Sink.got c.args.sink.now)
           (g.S.Sink.got c.report.new.sink) c.in-Ok.problem.settings c.in-Ok.problem.input told.6 c.in-Err-report.fault c.in-Err-report.ensures),
+    )
+
+pub returns-in-Ok-report : goal.returns-in-Ok-report
+returns-in-Ok-report g c =
+    let told = c.in-Ok.ensures.posed in (
+      told.0,
+      told.1,
+      told.2,
+      told.3,
+      told.4,
+      told.5,
+      rw c.answered.ensures (reported c.args.settings.now (map (λ w. w.now) c.args.lost.now) told.0 told.1 told.2 (g.S.Sink.got c.args.sink.now)
+          (g.S.Sink.got c.report.new.sink) c.in-Ok.problem.settings c.in-Ok.problem.input told.6 c.in-Ok-report.status c.in-Ok-report.ensures),
     )
