@@ -1,5 +1,5 @@
 -- What a report's text means: the answer that it tells, or its first fault.
-use Rattle.std.specs.Prelude.{ℕ, ◌+◌, ◌==◌, List, [], ◌∷◌, ◌++◌, length, Bool, true, false, not, nat_lt, Option, Some, None, Result, Ok, Err, if◌then◌else◌}
+use Rattle.std.specs.Prelude.{ℕ, ◌+◌, ◌==◌, List, [], ◌∷◌, ◌++◌, length, Bool, true, false, not, nat_lt, Option, Some, None, option_map, unwrap_or, Result, Ok, Err, if◌then◌else◌}
 use Rattle.std.specs.List.{slice_split}
 use Rattle.std.specs.Option.{option_map_or}
 use Rattle.plan_model.specs.declared.answer.Answer.{Answer}
@@ -21,15 +21,15 @@ pub record Draft : Type 0 where
   -- none after `noplan`
   pub backlog : Option ℕ
   pub entries : List (ℕ × Option ℕ)
-  pub has_set : Bool
-  pub set : List ℕ
+  -- none before the line `short`
+  pub set : Option (List ℕ)
   -- the least numbers that the next worker, function of the set and stranded function may have
   pub next_slot : ℕ
   pub next_function : ℕ
   pub next_stranded : ℕ
 
 abbrev pub start : Draft
-start = record { stage = stage.Start; backlog = None; entries = []; has_set = false; set = []; next_slot = 0; next_function = 0; next_stranded = 0 }
+start = record { stage = stage.Start; backlog = None; entries = []; set = None; next_slot = 0; next_function = 0; next_stranded = 0 }
 
 abbrev pub is_start : Stage → Bool
 is_start stage.Start = true
@@ -65,22 +65,22 @@ is_complete stage.Leftovers = true
 is_complete _ = false
 
 abbrev pub moved : Stage → Draft → Draft
-moved s d = record { stage = s; backlog = d.backlog; entries = d.entries; has_set = d.has_set; set = d.set; next_slot = d.next_slot; next_function = d.next_function; next_stranded = d.next_stranded }
+moved s d = record { stage = s; backlog = d.backlog; entries = d.entries; set = d.set; next_slot = d.next_slot; next_function = d.next_function; next_stranded = d.next_stranded }
 
 abbrev pub with_backlog : ℕ → Draft → Draft
-with_backlog k d = record { stage = stage.Tasks; backlog = Some k; entries = d.entries; has_set = d.has_set; set = d.set; next_slot = d.next_slot; next_function = d.next_function; next_stranded = d.next_stranded }
+with_backlog k d = record { stage = stage.Tasks; backlog = Some k; entries = d.entries; set = d.set; next_slot = d.next_slot; next_function = d.next_function; next_stranded = d.next_stranded }
 
 abbrev pub with_entry : ℕ → Option ℕ → Draft → Draft
-with_entry slot function d = record { stage = d.stage; backlog = d.backlog; entries = d.entries ++ (slot, function) ∷ []; has_set = d.has_set; set = d.set; next_slot = slot + 1; next_function = d.next_function; next_stranded = d.next_stranded }
+with_entry slot function d = record { stage = d.stage; backlog = d.backlog; entries = d.entries ++ (slot, function) ∷ []; set = d.set; next_slot = slot + 1; next_function = d.next_function; next_stranded = d.next_stranded }
 
 abbrev pub with_set : Draft → Draft
-with_set d = record { stage = stage.Set; backlog = d.backlog; entries = d.entries; has_set = true; set = d.set; next_slot = d.next_slot; next_function = d.next_function; next_stranded = d.next_stranded }
+with_set d = record { stage = stage.Set; backlog = d.backlog; entries = d.entries; set = Some []; next_slot = d.next_slot; next_function = d.next_function; next_stranded = d.next_stranded }
 
 abbrev pub with_needed : ℕ → Draft → Draft
-with_needed f d = record { stage = d.stage; backlog = d.backlog; entries = d.entries; has_set = d.has_set; set = d.set ++ f ∷ []; next_slot = d.next_slot; next_function = f + 1; next_stranded = d.next_stranded }
+with_needed f d = record { stage = d.stage; backlog = d.backlog; entries = d.entries; set = option_map (λ set. set ++ f ∷ []) d.set; next_slot = d.next_slot; next_function = f + 1; next_stranded = d.next_stranded }
 
 abbrev pub with_stranded : ℕ → Draft → Draft
-with_stranded f d = record { stage = stage.Leftovers; backlog = d.backlog; entries = d.entries; has_set = d.has_set; set = d.set; next_slot = d.next_slot; next_function = d.next_function; next_stranded = f + 1 }
+with_stranded f d = record { stage = stage.Leftovers; backlog = d.backlog; entries = d.entries; set = d.set; next_slot = d.next_slot; next_function = d.next_function; next_stranded = f + 1 }
 
 -- a line out of place is bad; a name that the settings do not have is unknown
 abbrev pub in_place : Bool → Result Draft Misread → Result Draft Misread
@@ -122,11 +122,8 @@ place p d last = in_place (is_complete d.stage) (Ok (moved stage.Done d))
 abbrev pub place_line : Profile → Draft → List ℕ → Result Draft Misread
 place_line p d line = option_map_or (place p d) (line_of line) (Err misread.Bad)
 
-abbrev pub set_of : Draft → Option (List ℕ)
-set_of d = if d.has_set then Some d.set else None
-
 abbrev pub answer_of : Draft → Answer
-answer_of d = option_map_or (λ k. Planned d.entries k (set_of d)) d.backlog (NoPlan d.set)
+answer_of d = option_map_or (λ k. Planned d.entries k d.set) d.backlog (NoPlan (unwrap_or d.set []))
 
 abbrev pub is_line_feed : ℕ → Bool
 is_line_feed b = b == 10

@@ -4,6 +4,7 @@ ghost use Rattle.std.specs.Prelude.{◌≡◌, ◌≢◌, [], OnOk, IfErr, IfOk,
 ghost use Rattle.pool_report.specs.Reading as spec;
 ghost use Rattle.pool_report.specs.Told.{line_view};
 ghost use Rattle.std.specs.Prelude.{option_map};
+ghost use Rattle.std.specs.List.Sorted.{IsStrictlyIncreasing};
 
 use crate::line::{Line, read_line};
 use crate::stage::{Misread, Stage};
@@ -18,22 +19,22 @@ pub struct Draft {
     stage: Stage,
     backlog: Option<u64>,
     entries: Vec<(SlotId, Option<FuncId>)>,
-    has_set: bool,
-    set: Vec<FuncId>,
+    set: Option<Vec<FuncId>>,
     next_slot: u32,
     next_function: u32,
     next_stranded: u32,
 }
 
 impl Model for Draft {
+    ghost use Rattle.std.specs.Prelude.{option_map};
     ghost use Rattle.pool_report.specs.Reading.{Draft as Value_};
     ghost use Rattle.pool_report.specs.Drafts.{IsDraft};
 
     ghost Value = { Value_ };
 
-    ghost view = { λ d. record { stage = d.stage; backlog = d.backlog; entries = d.entries.items; has_set = d.has_set; set = d.set.items; next_slot = d.next_slot; next_function = d.next_function; next_stranded = d.next_stranded } };
+    ghost view = { λ d. record { stage = d.stage; backlog = d.backlog; entries = d.entries.items; set = option_map (λ s. s.items) d.set; next_slot = d.next_slot; next_function = d.next_function; next_stranded = d.next_stranded } };
 
-    ghost invariant = { λ d. IsDraft (record { stage = d.stage; backlog = d.backlog; entries = d.entries.items; has_set = d.has_set; set = d.set.items; next_slot = d.next_slot; next_function = d.next_function; next_stranded = d.next_stranded }) };
+    ghost invariant = { λ d. IsDraft (record { stage = d.stage; backlog = d.backlog; entries = d.entries.items; set = option_map (λ s. s.items) d.set; next_slot = d.next_slot; next_function = d.next_function; next_stranded = d.next_stranded }) };
 }
 
 fn is_complete(stage: Stage) -> bool
@@ -54,6 +55,17 @@ fn before_set(stage: Stage) -> bool
     }
 }
 
+/// The set of functions in rising order.
+fn set_of(functions: Vec<FuncId>) -> FuncSet
+    requires { IsStrictlyIncreasing functions.items }
+    ensures { result ≡ functions.items }
+{
+    let Ok(set) = FuncSet::new(functions) else {
+        unreachable!()
+    };
+    set
+}
+
 impl Draft {
     pub fn new(alloc: Global) -> Draft
         ensures { result ≡ spec.start }
@@ -62,8 +74,7 @@ impl Draft {
             stage: Stage::Start,
             backlog: None,
             entries: Vec::new(alloc),
-            has_set: false,
-            set: Vec::new(alloc),
+            set: None,
             next_slot: 0,
             next_function: 0,
             next_stranded: 0,
@@ -118,7 +129,7 @@ impl Draft {
             return Err(Misread::Bad);
         }
         self.stage = Stage::Set;
-        self.has_set = true;
+        self.set = Some(Vec::new(*self.entries.allocator()));
         Ok(())
     }
 
@@ -191,7 +202,9 @@ impl Draft {
         if function.number() < self.next_function {
             return Err(Misread::Bad);
         }
-        self.set.push(function)?;
+        if let Some(set) = &mut self.set {
+            set.push(function)?;
+        }
         self.next_function = function.number() + 1;
         Ok(())
     }
@@ -250,25 +263,30 @@ impl Draft {
             stage: _,
             backlog,
             entries,
-            has_set,
             set,
             next_slot: _,
             next_function: _,
             next_stranded: _,
         } = self;
+        let alloc = *entries.allocator();
         let Ok(plan) = Plan::new(entries) else {
-            unreachable!()
-        };
-        let Ok(short) = FuncSet::new(set) else {
             unreachable!()
         };
         match backlog {
             Some(backlog) => Answer::Planned {
                 plan,
                 backlog,
-                short: if has_set { Some(short) } else { None },
+                short: match set {
+                    Some(set) => Some(set_of(set)),
+                    None => None,
+                },
             },
-            None => Answer::NoPlan { short },
+            None => Answer::NoPlan {
+                short: match set {
+                    Some(set) => set_of(set),
+                    None => set_of(Vec::new(alloc)),
+                },
+            },
         }
     }
 }

@@ -5,20 +5,22 @@ ghost use Rattle.pool_report.specs.Refusal as spec;
 
 use thiserror::Error;
 
-/// Why a report is not taken. Lines are counted from 1, and the first faulty line decides.
+/// Why a report is not taken. Lines are counted from 1, each with the line feed that ends it, and the first
+/// faulty line decides.
 #[derive(Clone, Copy, Debug, PartialEq, Eq, Error)]
 pub enum ReadError {
     /// This line has not the shape of a line of a report, stands out of its place or order, or stands
-    /// behind `end`.
+    /// behind `end`. A name that no settings can have, as one of 65 bytes, is a wrong shape; a worker or
+    /// function that is not above the one before it is out of order.
     #[error("line {0} is no line of a report, or out of its place")]
     BadLine(u64),
     /// This line is in its place, and its worker or function is none of the settings.
     #[error("line {0} names a worker or function that the settings do not have")]
     UnknownName(u64),
-    /// The text ends before the line feed of `end`.
+    /// The text ends before the line feed of `end`, and each line that it has is right.
     #[error("the text ends before its line `end`")]
     Truncated,
-    /// A growth of the answer was refused.
+    /// Memory for the answer was refused.
     #[error("out of memory")]
     Memory,
 }
@@ -59,13 +61,13 @@ impl ReadError {
     }
 }
 
-/// Why a report is not written.
+/// Why a report is not written, or not whole.
 #[derive(Clone, Copy, Debug, PartialEq, Eq, Error)]
 pub enum WriteError {
-    /// The sink failed when so many bytes of the report had gone out.
+    /// The sink failed when so many bytes of the report had gone out, and those are its front.
     #[error("the sink failed after {0} bytes")]
     WriteFault(usize),
-    /// The report found no room, and nothing of it has gone out.
+    /// Memory for the report was refused, and nothing of it has gone out.
     #[error("out of memory")]
     Memory,
 }

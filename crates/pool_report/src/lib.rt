@@ -1,4 +1,33 @@
-//! The text of a report, and its reading.
+//! A report: the text that tells an answer with its evidence, and the reading of such a text.
+//!
+//! [`write`] gives the report of an answer that is shown to a [`Sink`](gear_status::Sink), and [`report_text`]
+//! makes its text. [`read`] takes exactly the texts of this shape whose workers and functions the settings
+//! have, and gives the answer that they tell, for [`check`](plan_model::check) to hold against its input. So
+//! a report is evidence that anybody can carry and anybody can test.
+//!
+//! ```text
+//! report 1
+//! backlog 6
+//! work a/0 x
+//! work b/0 y
+//! short need 3 have 2
+//! in x need 2
+//! in y need 1
+//! end
+//! ```
+//!
+//! Each line ends with a line feed, its words are separated by one space, and its numbers are decimal without
+//! leading zeros. The lines stand in this order:
+//!
+//! 1. `report 1`.
+//! 2. `backlog K` for a backlog below 2^32, `unserved W` for the backlog 2^32 + W, where W is at least 1, or
+//!    `noplan`.
+//! 3. With a plan, for each live worker in the order of slots `work MACHINE/NUMBER FUNCTION`, or `idle
+//!    MACHINE/NUMBER` for a worker without a function.
+//! 4. With a set of functions, `short need N have H`, and for each function of the set in the order of names
+//!    `in FUNCTION need N`.
+//! 5. For each function that no live worker may do, in the order of names, `stranded FUNCTION WAITING`.
+//! 6. `end`.
 #![tactic(auto)]
 
 mod draft;
@@ -8,6 +37,8 @@ mod lines;
 mod reader;
 mod report;
 mod stage;
+#[cfg(test)]
+mod tests;
 
 pub use error::{ReadError, WriteError};
 pub use reader::read;

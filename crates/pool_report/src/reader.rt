@@ -25,7 +25,20 @@ fn cut_line(text: &[u8]) -> Option<(&[u8], &[u8])>
     None
 }
 
-/// The answer that a report's text tells. The first faulty line decides.
+/// The answer that a report's text tells, under these settings.
+///
+/// Taken is exactly a text of a report's shape, as [the crate's page](crate) gives it, whose workers and
+/// functions the settings have, in rising order: a plan with any backlog, or none, and with or without a set
+/// (without a plan the set must be there). Numbers are decimal without leading zeros; the numbers of `short`
+/// are below 2^64, the others below 2^32, and a worker's number has any length.
+///
+/// An answer holds neither what a set needs and has nor the stranded functions, so the reading drops them, and
+/// says nothing of whether the answer is right: that is what [`check`](plan_model::check) tells. A text that is
+/// read and is not its answer's very report can be told by [`report_text`](crate::report_text).
+///
+/// The first faulty line decides. `BadLine` and `UnknownName` give its number, `BadLine` where both are true of
+/// it; `Truncated` is a text whose lines are all right and of which the end is missing. What is kept of a text
+/// is bounded by the settings, at most 4,096 workers and 1,024 functions, however long the text is.
 pub fn read(alloc: Global, settings: &Settings, text: &[u8]) -> Result<Answer, ReadError>
     ensures ok { IfOk result (λ a. meaning settings.now text.now ≡ Ok a) }
     ensures refused { IfErr result (λ e. e ≢ ReadError.Memory → meaning settings.now text.now ≡ Err e) }

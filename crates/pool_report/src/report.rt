@@ -171,7 +171,13 @@ fn push_told(
     }
 }
 
-/// The text of the report of an answer that is shown: what `write` writes.
+/// The text of the report of an answer that is shown for an input of these settings: what [`write`] writes,
+/// as [the crate's page](crate) gives it.
+///
+/// The needs in it are those at the level one below the backlog, or at [`TOP_LEVEL`] without a plan, so that
+/// each number can be tested by hand: the set needs more workers than may do any of its functions, and by
+/// Hall's theorem no plan reaches that level. A live worker that the plan does not list is `idle`. Memory
+/// refused is the only error.
 pub fn report_text(
     alloc: Global,
     settings: &Settings,
@@ -192,11 +198,11 @@ pub fn report_text(
     Ok(out)
 }
 
-/// Writes the report of an answer that is shown for an input of these settings. Lines end with a line
-/// feed, words are separated by one space, and numbers are decimal without leading zeros.
+/// Writes the report of an answer that is shown for an input of these settings: the text of [`report_text`],
+/// byte by byte.
 ///
 /// The text is made whole before its first byte goes out. After `WriteFault` so many bytes of it have
-/// gone out, and after `Memory` none.
+/// gone out, which are its front, and after `Memory` none. A sink that fails is not tried again.
 pub fn write<S: Sink>(
     alloc: Global,
     settings: &Settings,
