@@ -9,3 +9,4 @@ pub mod Numbers
 pub mod Cuts
 pub mod Risen
 pub mod Planned
+pub mod WorkerNames

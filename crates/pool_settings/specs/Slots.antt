@@ -3,7 +3,8 @@ use Rattle.std.specs.Prelude.{◌≡◌, ℕ, ◌≤◌, ◌+◌, ◌-◌, ◌^�
 use Rattle.std.specs.List.{after_last, before_last, enumerate_from, list_any, list_all}
 use Rattle.std.specs.Char.{is_ascii_digit}
 use Rattle.std.specs.Str.Parse.{digits_value}
-use Rattle.pool_settings.specs.Names.{place_of}
+use Rattle.std.specs.Fmt.{decimal}
+use Rattle.pool_settings.specs.Names.{name_at, place_of}
 use Rattle.pool_settings.specs.Profile.{Profile}
 
 -- the machine of each slot, where the workers of each machine from m on are given
@@ -75,6 +76,10 @@ slot_of_parts p parts = option_and_then (slot_in p parts.1) (place_of p.machines
 -- the slot of a worker's name
 abbrev pub slot_named : Profile → List ℕ → Option ℕ
 slot_named p name = option_and_then (slot_of_parts p) (parts_of name)
+
+-- the name of a slot's worker
+abbrev pub worker_name : Profile → ℕ → List ℕ
+worker_name p slot = name_at p.machines (machine_of p slot) ++ 47 ∷ decimal (worker_number p slot)
 
 -- ---- live workers
 

@@ -1,6 +1,6 @@
 // The settings of a pool.
 
-ghost use Rattle.std.specs.Prelude.{◌≡◌, ◌≢◌, ◌<◌, ◌≤◌, ◌+◌, ◌^◌, Err, IfErr, IfOk, IfSome, None, Ok, length, map, slice_index, slice_index_or, []};
+ghost use Rattle.std.specs.Prelude.{◌≡◌, ◌≢◌, ◌<◌, ◌≤◌, ◌+◌, ◌^◌, Err, IfErr, IfOk, IfSome, None, Ok, Some, length, map, slice_index, slice_index_or, []};
 ghost use Rattle.std.specs.List.Sorted.{IsStrictlyIncreasing};
 ghost use Rattle.toml.specs.View.{table_view};
 ghost use Rattle.pool_settings.specs.Entries.{table_entries};
@@ -341,6 +341,7 @@ impl Settings {
     pub fn machine_of(&self, slot: SlotId) -> MachineId
         requires { slot < slots.slots self.now }
         ensures all { result ≡ slots.machine_of self.now slot }
+        ensures valid { IsProfile self.now }
         ensures there { result < length self.now.machines }
         ensures from { slots.first_slot self.now result ≤ slot }
         ensures to { slot < slots.first_slot self.now result + slice_index self.now.workers result }
@@ -348,10 +349,13 @@ impl Settings {
         self.slots.owner(slot)
     }
 
-    /// The number of a slot's worker in its machine, from 0.
+    /// The number of a slot's worker in its machine, from 0. The machine's name, a slash and this number in decimal are the
+    /// worker's name, which names this slot and no other.
     pub fn worker_number(&self, slot: SlotId) -> u32
         requires { slot < slots.slots self.now }
-        ensures { result ≡ slots.worker_number self.now slot }
+        ensures all { result ≡ slots.worker_number self.now slot }
+        ensures within { result < slice_index self.now.workers (slots.machine_of self.now slot) }
+        ensures named { slots.slot_named self.now (slots.worker_name self.now slot) ≡ Some slot }
     {
         slot.number() - self.first_slot(self.machine_of(slot))
     }

@@ -51,68 +51,84 @@ fn error_of(alloc: Global, text: &[u8]) -> Option<SettingsError> {
 }
 
 #[test]
-fn refusals(rt: HostRuntime) {
+fn refusals_of_texts(rt: HostRuntime) {
     let alloc = rt.alloc();
     assert!(rt; error_of(alloc, b"version = ") == Some(SettingsError::Text));
     assert!(rt; error_of(alloc, b"version = 1 # \xff\n") == Some(SettingsError::Text));
     assert!(rt; error_of(alloc, b"") == Some(SettingsError::Version));
     assert!(rt; error_of(alloc, b"version = 1\n") == Some(SettingsError::MissingKey));
-    assert!(rt; S1.error(alloc) == None);
-    let file = File {
-        version: "1.0",
-        ..S1
-    };
-    assert!(rt; file.error(alloc) == Some(SettingsError::Version));
-    let file = File {
-        top: "speed = 3",
-        ..S1
-    };
-    assert!(rt; file.error(alloc) == Some(SettingsError::UnknownKey));
-    let file = File {
-        function: "most = 3",
-        ..S1
-    };
-    assert!(rt; file.error(alloc) == Some(SettingsError::UnknownKey));
-    let file = File {
-        machine: "\"a/b\"",
-        ..S1
-    };
-    assert!(rt; file.error(alloc) == Some(SettingsError::BadName));
-    let file = File {
-        workers: "-1",
-        ..S1
-    };
-    assert!(rt; file.error(alloc) == Some(SettingsError::BadValue));
-    let file = File {
-        top: "server = \"\"",
-        ..S1
-    };
-    assert!(rt; file.error(alloc) == Some(SettingsError::BadValue));
-    let file = File {
-        listed: "\"z\"",
-        ..S1
-    };
-    assert!(rt; file.error(alloc) == Some(SettingsError::UnknownFunction));
-    let file = File {
-        workers: "4096",
-        ..S1
-    };
-    assert!(rt; file.error(alloc) == Some(SettingsError::TooMany));
-    let file = File {
-        workers: "4095",
-        ..S1
-    };
-    assert!(rt; file.error(alloc) == None);
-    // An earlier check goes before a later one.
-    let file = File {
-        workers: "-1",
-        listed: "\"z\"",
-        top: "speed = 3",
-        ..S1
-    };
-    assert!(rt; file.error(alloc) == Some(SettingsError::UnknownKey));
-    let error = SettingsError::BadValue;
-    assert!(rt; (error.number(), error.name()) == (6, "BadValue"));
+}
+
+/// S1 with its parts put differently, and the refusal of it.
+fn changed_files() -> [(File<'static>, Option<SettingsError>); 9] {
+    [
+        (S1, None),
+        (
+            File {
+                version: "1.0",
+                ..S1
+            },
+            Some(SettingsError::Version),
+        ),
+        (
+            File {
+                top: "speed = 3",
+                ..S1
+            },
+            Some(SettingsError::UnknownKey),
+        ),
+        (
+            File {
+                function: "most = 3",
+                workers: "-1",
+                ..S1
+            },
+            Some(SettingsError::UnknownKey),
+        ),
+        (
+            File {
+                machine: "\"a/b\"",
+                ..S1
+            },
+            Some(SettingsError::BadName),
+        ),
+        (
+            File {
+                workers: "-1",
+                ..S1
+            },
+            Some(SettingsError::BadValue),
+        ),
+        (
+            File {
+                listed: "\"z\"",
+                ..S1
+            },
+            Some(SettingsError::UnknownFunction),
+        ),
+        (
+            File {
+                workers: "4095",
+                ..S1
+            },
+            None,
+        ),
+        (
+            File {
+                workers: "4096",
+                ..S1
+            },
+            Some(SettingsError::TooMany),
+        ),
+    ]
+}
+
+#[test]
+fn refusals_of_parts(rt: HostRuntime) {
+    let alloc = rt.alloc();
+    for (file, error) in changed_files() {
+        assert!(rt; file.error(alloc) == error);
+    }
 }
 
 #[test]
@@ -121,53 +137,79 @@ fn defaults(rt: HostRuntime) {
     let text = S1.text(alloc).expect(&rt, "memory");
     let settings = Settings::read(alloc, text.as_bytes()).expect(&rt, "settings");
     assert!(rt; settings.server() == "127.0.0.1:4730");
-    assert!(rt; settings.job_timeout_ms() == 60_000);
-    assert!(rt; settings.max_runs() == 4_294_967_295);
-    assert!(rt; settings.round_ms() == 1_000);
-    assert!(rt; settings.lull_ms() == 100);
-    assert!(rt; settings.history() == 1_048_576);
+    assert!(rt; (settings.job_timeout_ms(), settings.max_runs()) == (60_000, 4_294_967_295));
+    assert!(rt;
+        (settings.round_ms(), settings.lull_ms(), settings.history()) == (1_000, 100, 1_048_576)
+    );
+}
+
+/// The settings of `ALL`, copied.
+fn all_settings(alloc: Global) -> Result<Settings, SettingsError> {
+    let settings = Settings::read(alloc, ALL.as_bytes())?;
+    Ok(settings.copy(alloc)?)
 }
 
 #[test]
-fn numbers_and_names(rt: HostRuntime) {
-    let alloc = rt.alloc();
-    let read = Settings::read(alloc, ALL.as_bytes()).expect(&rt, "settings");
-    let settings = read.copy(alloc).expect(&rt, "memory");
-    assert!(rt; (settings.functions(), settings.machines(), settings.slots()) == (2, 3, 5));
+fn single_keys(rt: HostRuntime) {
+    let settings = all_settings(rt.alloc()).expect(&rt, "settings");
     assert!(rt; settings.server() == "jobs.example:7003");
     assert!(rt; (settings.job_timeout_ms(), settings.max_runs()) == (5000, 2));
     assert!(rt; (settings.round_ms(), settings.lull_ms(), settings.history()) == (10, 20, 5));
-    let (x, z) = (FuncId::new(0), FuncId::new(1));
-    assert!(rt; settings.function_named(b"x") == Some(x));
+    assert!(rt; (settings.functions(), settings.machines(), settings.slots()) == (2, 3, 5));
+}
+
+#[test]
+fn names_in_byte_order(rt: HostRuntime) {
+    let settings = all_settings(rt.alloc()).expect(&rt, "settings");
+    assert!(rt; settings.function_named(b"x") == Some(FuncId::new(0)));
     assert!(rt; settings.function_named(b"y") == None);
-    assert!(rt; settings.function_name(z) == "z");
-    assert!(rt; settings.least(x) == 3 && settings.least(z) == 0);
-    let (a, c) = (MachineId::new(0), MachineId::new(2));
-    assert!(rt; settings.machine_named(b"c") == Some(c));
-    assert!(rt; settings.machine_name(a) == "a");
-    assert!(rt; !settings.may(a, x) && settings.may(a, z) && settings.may(c, x));
-    assert!(rt; settings.permitted(c).len() == 2);
+    assert!(rt; settings.function_name(FuncId::new(1)) == "z");
+    assert!(rt; settings.machine_named(b"c") == Some(MachineId::new(2)));
+    assert!(rt; settings.machine_name(MachineId::new(0)) == "a");
+}
+
+#[test]
+fn permissions(rt: HostRuntime) {
+    let settings = all_settings(rt.alloc()).expect(&rt, "settings");
+    assert!(rt; settings.functions() == 2);
+    assert!(rt; settings.machines() == 3);
+    assert!(rt; settings.least(FuncId::new(0)) == 3);
+    assert!(rt; !settings.may(MachineId::new(0), FuncId::new(0)));
+    assert!(rt; settings.may(MachineId::new(2), FuncId::new(0)));
+    assert!(rt; settings.permitted(MachineId::new(2)).len() == 2);
+}
+
+#[test]
+fn slots_by_name(rt: HostRuntime) {
+    let settings = all_settings(rt.alloc()).expect(&rt, "settings");
     assert!(rt; settings.slot_named(b"a/2") == Some(SlotId::new(2)));
     assert!(rt; settings.slot_named(b"c/0") == Some(SlotId::new(3)));
     assert!(rt; settings.slot_named(b"c/00") == None);
     assert!(rt; settings.slot_named(b"b/0") == None);
     assert!(rt; settings.slot_named(b"c") == None);
-    assert!(rt; settings.machine_of(SlotId::new(4)) == c);
+}
+
+#[test]
+fn slots_by_number(rt: HostRuntime) {
+    let settings = all_settings(rt.alloc()).expect(&rt, "settings");
+    assert!(rt; settings.slots() == 5);
+    assert!(rt; settings.machine_of(SlotId::new(4)) == MachineId::new(2));
     assert!(rt; settings.worker_number(SlotId::new(4)) == 1);
-    assert!(rt; settings.first_slot(c) == 3 && settings.workers(c) == 2);
+    assert!(rt; settings.machines() == 3);
+    assert!(rt; settings.first_slot(MachineId::new(2)) == 3);
+    assert!(rt; settings.workers(MachineId::new(2)) == 2);
 }
 
 #[test]
 fn planning_problems(rt: HostRuntime) {
     let alloc = rt.alloc();
-    let settings = Settings::read(alloc, ALL.as_bytes()).expect(&rt, "settings");
+    let settings = all_settings(alloc).expect(&rt, "settings");
     assert!(rt; settings.functions() == 2);
-    let live = [true, false, true, true];
-    let waiting = [7, 8];
-    let input = settings.input(alloc, &live, &waiting).expect(&rt, "memory");
-    assert!(rt; input.workers() == 3 && input.machines() == 3);
-    assert!(rt; input.functions() == 2);
-    assert!(rt; input.live()[2] == (SlotId::new(3), MachineId::new(2)));
-    assert!(rt; input.may(MachineId::new(2), FuncId::new(0)));
-    assert!(rt; input.least()[0] == 3 && input.waiting()[1] == 8);
+    let input = settings
+        .input(alloc, &[true, false, true, true], &[7, 8])
+        .expect(&rt, "memory");
+    assert!(rt; input.workers() == 3);
+    assert!(rt; input.live().last() == Some(&(SlotId::new(3), MachineId::new(2))));
+    assert!(rt; input.least().first() == Some(&3));
+    assert!(rt; input.waiting().last() == Some(&8));
 }

@@ -1,7 +1,7 @@
 use Rattle.std.proofs.Common.{◌≡◌, ◌<◌, ◌≤◌, ◌+◌, length, get_or, subst, sym, arith}
 use Rattle.std.specs.Prelude.{sum}
 use Rattle.pool_settings.specs.Kept.{profile_view}
-use Rattle.pool_settings.specs.Profile.{Profile}
+use Rattle.pool_settings.specs.Profile.{IsProfile, Profile}
 use Rattle.pool_settings.specs.Slots.{first_slot}
 use Rattle.pool_settings.proofs.SlotSums.{machine_found}
 use Rattle.pool_settings.proofs.settings.Settings.machine_of.Goals as goal
@@ -23,3 +23,6 @@ returns-clause-to c =
     let below = subst (λ (p : Profile). c.args.slot < sum p.workers) (sym c.self.view_is) c.requires in
     let found = machine_found (profile_view c.self.inside) c.args.slot c.owner.result c.self.invariant below c.owner.ensures in
     subst (λ (p : Profile). c.args.slot < first_slot p c.owner.result + get_or p.workers c.owner.result 0) c.self.view_is found.to
+
+pub returns-clause-valid : goal.returns-clause-valid
+returns-clause-valid c = subst IsProfile c.self.view_is c.self.invariant
