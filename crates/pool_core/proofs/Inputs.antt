@@ -1,0 +1,141 @@
+-- The input of now, by its parts.
+use Rattle.std.proofs.Common.{◌≡◌, ℕ, zero, suc, ◌+◌, ◌<◌, ◌≤◌, Bool, true, false, List, [], ◌∷◌, ◌++◌, length, map, get_or, take, drop, subst, refl, sym, ap, ◌∙◌, arith, length-append, append_assoc}
+use Rattle.std.specs.Prelude.{replicate, sum, filter, slice_index_or}
+use Rattle.std.specs.List.{enumerate_from}
+use Rattle.std.specs.Prelude.{IsTrue, nat_eq, slice_get, Some}
+use Rattle.std.proofs.lemmas.Option.{slice_get_within, get_or_from_slice_get}
+use Rattle.std.proofs.lemmas.Bool.{eqb-true, eq-eqb}
+use Rattle.std.proofs.lemmas.List.Sums.{sum_by-cons}
+use Rattle.std.proofs.lemmas.List.{drop_more, take_more, take_all, length-take, length-drop, nil_from_length, append-nil}
+use Rattle.worker_state.specs.declared.slot.Slot.TheVariants.{Empty}
+use Rattle.plan_model.specs.Planning.{Instance}
+use Rattle.pool_settings.specs.Profile.{Profile}
+use Rattle.pool_settings.specs.Slots.{owners, owners_from, live_workers, slots as slot_count}
+use Rattle.pool_settings.specs.Planning.{instance_of}
+use Rattle.worker_state.specs.declared.slot.Slot.{Slot}
+use Rattle.worker_state.specs.Slots.{is_live}
+use Rattle.pool_core.specs.Walk.{live_from}
+
+length-copies : (n x : ℕ) → length (replicate n x) ≡ n
+length-copies zero x = refl
+length-copies (suc n) x = ap suc (length-copies n x)
+
+pub length-owners_from : (m : ℕ) (ns : List ℕ) → length (owners_from m ns) ≡ sum ns
+length-owners_from m [] = refl
+length-owners_from m (n ∷ ns) =
+    length-append (replicate n m) (owners_from (m + 1) ns) ∙ omega (arith, length-copies n m, length-owners_from (m + 1) ns, sum_by-cons (λ (x : ℕ). x) n ns)
+
+-- the mark at the place behind a front
+mark_at : (front marks : List Bool) (mark : Bool) → slice_index_or (front ++ mark ∷ marks) (length front) false ≡ mark
+mark_at [] marks mark = refl
+mark_at (b ∷ front) marks mark = mark_at front marks mark
+
+walk_from : (front : List Bool) (machines : List ℕ) (slots : List Slot) → length slots ≡ length machines
+    → filter (λ worker. slice_index_or (front ++ map is_live slots) worker.0 false) (enumerate_from (length front) machines) ≡ live_from (length front) machines slots
+walk_from front [] slots e = refl
+walk_from front (machine ∷ machines) [] e = absurd (omega arith)
+walk_from front (machine ∷ machines) (slot ∷ slots) e =
+    let here : slice_index_or (front ++ is_live slot ∷ map is_live slots) (length front) false ≡ is_live slot = mark_at front (map is_live slots) (is_live slot) in
+    let next : length (front ++ is_live slot ∷ []) ≡ length front + 1 = length-append front (is_live slot ∷ []) in
+    let later : filter (λ worker. slice_index_or (front ++ is_live slot ∷ map is_live slots) worker.0 false) (enumerate_from (length front + 1) machines) ≡ live_from (length front + 1) machines slots =
+    subst (λ (n : ℕ). filter (λ worker. slice_index_or (front ++ is_live slot ∷ map is_live slots) worker.0 false) (enumerate_from n machines) ≡ live_from n machines slots) next
+    (subst (λ (all : List Bool). filter (λ worker. slice_index_or all worker.0 false) (enumerate_from (length (front ++ is_live slot ∷ [])) machines) ≡ live_from (length (front ++ is_live slot ∷ [])) machines slots) (append_assoc front (is_live slot ∷ []) (map is_live slots)) (walk_from (front ++ is_live slot ∷ []) machines slots (omega arith))) in
+    rw (here, later) refl
+
+-- what stands at a place that is there, whatever stands for one that is not
+pub same_place : {X : Type 0} (xs : List X) (i : ℕ) (d e : X) → i < length xs → get_or xs i d ≡ get_or xs i e
+same_place [] i d e h = absurd (omega arith)
+same_place (x ∷ xs) zero d e h = refl
+same_place (x ∷ xs) (suc i) d e h = same_place xs i d e (omega arith)
+
+pub same_worker : (a b c d : ℕ) → a ≡ c → b ≡ d → (let w : ℕ × ℕ = (a, b) in w) ≡ (let v : ℕ × ℕ = (c, d) in v)
+same_worker a b c d e f = ap (λ (x : ℕ). let w : ℕ × ℕ = (x, b) in w) e ∙ ap (λ (x : ℕ). let w : ℕ × ℕ = (c, x) in w) f
+
+-- one step of a walk
+pub walk_live : (machines : List ℕ) (slots : List Slot) (n : ℕ) → n < length machines → n < length slots → is_live (get_or slots n (Empty 0)) ≡ true
+    → live_from n (drop n machines) (drop n slots) ≡ (n, get_or machines n 0) ∷ live_from (n + 1) (drop (n + 1) machines) (drop (n + 1) slots)
+walk_live machines slots n a b live = rw (drop_more machines n 0 a, drop_more slots n (Empty 0) b, live) refl
+
+pub walk_empty : (machines : List ℕ) (slots : List Slot) (n : ℕ) → n < length machines → n < length slots → is_live (get_or slots n (Empty 0)) ≡ false
+    → live_from n (drop n machines) (drop n slots) ≡ live_from (n + 1) (drop (n + 1) machines) (drop (n + 1) slots)
+walk_empty machines slots n a b live = rw (drop_more machines n 0 a, drop_more slots n (Empty 0) b, live) refl
+
+-- a live worker that is listed
+pub walk_meets : (machines : List ℕ) (slots : List Slot) (listed all : List (ℕ × ℕ)) (next n : ℕ) → n < length machines → n < length slots → is_live (get_or slots n (Empty 0)) ≡ true
+    → take next listed ++ live_from n (drop n machines) (drop n slots) ≡ all → slice_get listed next ≡ Some (n, get_or machines n 0)
+    → (next + 1 ≤ length listed) × (take (next + 1) listed ++ live_from (n + 1) (drop (n + 1) machines) (drop (n + 1) slots) ≡ all)
+walk_meets machines slots listed all next n a b live so_far here =
+    let within = slice_get_within listed next (n, get_or machines n 0) here in
+    let found = get_or_from_slice_get listed next (n, get_or machines n 0) (0, 0) here in
+    let rest = live_from (n + 1) (drop (n + 1) machines) (drop (n + 1) slots) in
+    let more : take (next + 1) listed ≡ take next listed ++ (n, get_or machines n 0) ∷ [] = take_more listed next (0, 0) within ∙ ap (λ (w : ℕ × ℕ). take next listed ++ w ∷ []) found in (
+      omega (arith, within),
+      ap (λ (front : List (ℕ × ℕ)). front ++ rest) more ∙ append_assoc (take next listed) ((n, get_or machines n 0) ∷ []) rest
+          ∙ ap (λ (back : List (ℕ × ℕ)). take next listed ++ back) (sym (walk_live machines slots n a b live)) ∙ so_far,
+    )
+
+-- an empty slot
+pub walk_passes : (machines : List ℕ) (slots : List Slot) (listed all : List (ℕ × ℕ)) (next n : ℕ) → n < length machines → n < length slots → is_live (get_or slots n (Empty 0)) ≡ false
+    → take next listed ++ live_from n (drop n machines) (drop n slots) ≡ all
+    → take next listed ++ live_from (n + 1) (drop (n + 1) machines) (drop (n + 1) slots) ≡ all
+walk_passes machines slots listed all next n a b live so_far =
+    ap (λ (back : List (ℕ × ℕ)). take next listed ++ back) (sym (walk_empty machines slots n a b live)) ∙ so_far
+
+get_behind : {X : Type 0} (xs ys : List X) (y : X) → slice_get (xs ++ y ∷ ys) (length xs) ≡ Some y
+get_behind [] ys y = refl
+get_behind (x ∷ xs) ys y = get_behind xs ys y
+
+-- a live worker that is not listed
+pub walk_misses : (machines : List ℕ) (slots : List Slot) (listed all : List (ℕ × ℕ)) (next n : ℕ) → n < length machines → n < length slots → next ≤ length listed → is_live (get_or slots n (Empty 0)) ≡ true
+    → take next listed ++ live_from n (drop n machines) (drop n slots) ≡ all → listed ≡ all → slice_get listed next ≡ Some (n, get_or machines n 0)
+walk_misses machines slots listed all next n a b within live so_far same =
+    let rest = live_from (n + 1) (drop (n + 1) machines) (drop (n + 1) slots) in
+    let long : length (take next listed) ≡ next = omega (arith, within, length-take next listed) in
+    let parts_are : listed ≡ take next listed ++ (n, get_or machines n 0) ∷ rest = same ∙ sym so_far ∙ ap (λ (back : List (ℕ × ℕ)). take next listed ++ back) (walk_live machines slots n a b live) in
+    ap (λ (xs : List (ℕ × ℕ)). slice_get xs next) parts_are
+    ∙ subst (λ (i : ℕ). slice_get (take next listed ++ (n, get_or machines n 0) ∷ rest) i ≡ Some (n, get_or machines n 0)) long (get_behind (take next listed) rest (n, get_or machines n 0))
+
+-- the end of a walk
+pub walk_over : (machines : List ℕ) (slots : List Slot) (front all : List (ℕ × ℕ)) (n : ℕ) → length machines ≤ n → front ++ live_from n (drop n machines) (drop n slots) ≡ all → front ≡ all
+walk_over machines slots front all n over so_far =
+    let none : drop n machines ≡ [] = nil_from_length (drop n machines) (omega (arith, over, length-drop n machines)) in
+    sym (append-nil front) ∙ ap (λ (ms : List ℕ). front ++ live_from n ms (drop n slots)) (sym none) ∙ so_far
+
+-- all that a walk met are listed where the list ends with it
+pub walk_end : (listed live : List (ℕ × ℕ)) (next : ℕ) → next ≤ length listed → take next listed ≡ live
+    → (IsTrue (nat_eq next (length listed)) → listed ≡ live) × (listed ≡ live → IsTrue (nat_eq next (length listed)))
+walk_end listed live next within met = (
+  λ ends. sym (take_all next listed (omega (arith, eqb-true next (length listed) ends))) ∙ met,
+  λ same. eq-eqb next (length listed) (let e = ap length (same ∙ sym met) in omega (arith, within, e, length-take next listed)),
+)
+
+-- rows that agree so far and at the next place
+pub rows_more : (xs ys : List (List ℕ)) (n : ℕ) → n < length xs → n < length ys → take n xs ≡ take n ys → get_or xs n [] ≡ get_or ys n [] → take (n + 1) xs ≡ take (n + 1) ys
+rows_more xs ys n a b so_far here = rw (take_more xs n [] a, take_more ys n [] b, so_far, here) refl
+
+pub rows_differ : (xs ys : List (List ℕ)) (n : ℕ) → xs ≡ ys → get_or xs n [] ≡ get_or ys n []
+rows_differ xs ys n e = ap (λ (zs : List (List ℕ)). get_or zs n []) e
+
+-- the workers whose slots are live
+pub walked : (p : Profile) (slots : List Slot) → length slots ≡ slot_count p → live_workers p (map is_live slots) ≡ live_from 0 (owners p) slots
+walked p slots e = walk_from [] (owners p) slots (e ∙ sym (length-owners_from 0 p.workers))
+
+abbrev parts : List (ℕ × ℕ) → List (List ℕ) → List ℕ → List ℕ → Instance
+parts live may least waiting = record { live = live; may = may; least = least; waiting = waiting }
+
+pub is_instance : (i : Instance) (p : Profile) (slots : List Slot) (waiting : List ℕ) → length slots ≡ slot_count p
+    → i.live ≡ live_from 0 (owners p) slots → i.may ≡ p.may → i.least ≡ p.least → i.waiting ≡ waiting
+    → i ≡ instance_of p (map is_live slots) waiting
+is_instance i p slots waiting e live may least jobs =
+    let live_is : i.live ≡ live_workers p (map is_live slots) = live ∙ sym (walked p slots e) in
+    same i (instance_of p (map is_live slots) waiting) live_is may least jobs
+  where
+    same : (a b : Instance) → a.live ≡ b.live → a.may ≡ b.may → a.least ≡ b.least → a.waiting ≡ b.waiting → a ≡ b
+    same a b l m n w =
+        ap (λ (x : List (ℕ × ℕ)). parts x a.may a.least a.waiting) l
+        ∙ ap (λ (x : List (List ℕ)). parts b.live x a.least a.waiting) m
+        ∙ ap (λ (x : List ℕ). parts b.live b.may x a.waiting) n
+        ∙ ap (λ (x : List ℕ). parts b.live b.may b.least x) w
+
+pub live_of : (i : Instance) (p : Profile) (slots : List Slot) (waiting : List ℕ) → length slots ≡ slot_count p → i ≡ instance_of p (map is_live slots) waiting → i.live ≡ live_from 0 (owners p) slots
+live_of i p slots waiting e h = ap (λ (x : Instance). x.live) h ∙ walked p slots e

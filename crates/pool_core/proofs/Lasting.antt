@@ -1,0 +1,194 @@
+-- The laws over every history.
+use Rattle.pool_settings.specs.Slots.{slots as slot_count}
+use Rattle.std.proofs.Common.{◌≡◌, ◌≢◌, ℕ, ◌+◌, ◌-◌, ◌<◌, ◌≤◌, zero, suc, true, false, List, [], ◌∷◌, ◌++◌, length, get_or, set, Option, None, Some, refl, sym, ap, ◌∙◌, subst, arith, length-append, length-set, append_assoc, append-nil}
+use Rattle.std.specs.Prelude.{count_by, ◌==◌, slice_get, replicate}
+use Rattle.std.proofs.lemmas.List.{get_or-set_other, get_or_append_left}
+use Rattle.std.proofs.lemmas.List.Sums.{sum_by-cons}
+use Rattle.std.proofs.lemmas.Option.{slice_get-get_or}
+use Rattle.std.proofs.lemmas.Bool.{both_ways, cond-false, ne_eqb}
+use Rattle.pool_settings.specs.Profile.{Profile, IsProfile}
+use Rattle.plan_model.specs.declared.answer.Answer.{Answer}
+use Rattle.plan_model.specs.declared.answer.Answer.TheVariants as answers
+use Rattle.worker_state.specs.declared.slot.WorkerName.{WorkerName}
+use Rattle.worker_state.specs.declared.cause.Cause.{Cause}
+use Rattle.worker_state.specs.declared.slot.Slot.TheVariants.{Empty}
+use Rattle.worker_state.specs.declared.job.Standing.{Standing}
+use Rattle.worker_state.specs.declared.job.Standing.TheVariants as standing
+use Rattle.worker_state.specs.Slots.{is_open, is_reported, last_generation, runs_of, ticket_of}
+use Rattle.pool_core.specs.declared.event.Assignment.{Assignment}
+use Rattle.pool_core.specs.declared.event.Event.{Event}
+use Rattle.pool_core.specs.declared.event.Event.TheVariants as event
+use Rattle.pool_core.specs.Machine.{State, first, standing_in, replay, IsHistory, IsPossible, after, after_round, with_lost, open_ticket}
+use Rattle.pool_core.specs.Kept.{IsSound, IsOpen, OpensAt}
+use Rattle.pool_core.specs.Laws.{Extends, is_grab, is_report, HistoriesExtend, HistoriesCount, RoundsAreShown, HistoriesJoin}
+use Rattle.pool_core.proofs.Tables.{standing_given}
+use Rattle.pool_core.proofs.Sound.{sound_after}
+use Rattle.pool_core.proofs.Steps.{replay-append, history-append}
+use Rattle.pool_core.proofs.Sums.{counts_all, reported_reported, reported_begin, counts_lost, count_by-push, one_if, as_number}
+
+pub standing_from : (standings : List Standing) (k : ℕ) (x d : Standing) → 0 < k → k ≤ length standings → get_or standings (k - 1) d ≡ x → standing_in standings k ≡ Some x
+standing_from standings k x d from_one given is =
+    cond-false (k == 0) None (slice_get standings (k - 1)) (ne_eqb k 0 (λ e. omega arith))
+    ∙ slice_get-get_or standings (k - 1) d (omega arith) ∙ ap (λ (s : Standing). Some s) is
+
+-- a write of a standing that goes on leaves those that do not
+written_keeps : (standings : List Standing) (i : ℕ) (y : Standing) → is_open (get_or standings i standing.Running) ≡ true → (k : ℕ) (x : Standing) → standing_in standings k ≡ Some x → is_open x ≡ false → standing_in (set standings i y) k ≡ Some x
+written_keeps standings i y goes k x is closed =
+    let t = standing_given standings k x standing.Running is in
+    let other : k - 1 ≢ i = λ e. both_ways (is_open x) closed (sym (ap is_open t.2) ∙ ap (λ (n : ℕ). is_open (get_or standings n standing.Running)) e ∙ goes) in
+    standing_from (set standings i y) k x standing.Running t.0 (omega (arith, t.1, length-set standings i y)) (get_or-set_other standings i (k - 1) y standing.Running other ∙ t.2)
+
+pushed_keeps : (standings : List Standing) (y : Standing) (k : ℕ) (x : Standing) → standing_in standings k ≡ Some x → standing_in (standings ++ y ∷ []) k ≡ Some x
+pushed_keeps standings y k x is =
+    let t = standing_given standings k x standing.Running is in
+    standing_from (standings ++ y ∷ []) k x standing.Running t.0 (omega (arith, t.1, length-append standings (y ∷ []))) (get_or_append_left standings (y ∷ []) standing.Running (k - 1) (omega (arith, t.0, t.1)) ∙ t.2)
+
+lost_keeps : (standings : List Standing) (o : Option ℕ) (w : WorkerName) (cause : Cause) → ((k : ℕ) → o ≡ Some k → IsOpen standings k) → (k : ℕ) (x : Standing) → standing_in standings k ≡ Some x → is_open x ≡ false → standing_in (with_lost standings o w cause) k ≡ Some x
+lost_keeps standings None w cause h k x is closed = is
+lost_keeps standings (Some j) w cause h k x is closed = written_keeps standings (j - 1) (standing.Lost w cause) (h j refl).goes_on k x is closed
+
+same_jobs : (old new : State) → new.assignments ≡ old.assignments → ((k : ℕ) (x : Standing) → standing_in old.standings k ≡ Some x → is_open x ≡ false → standing_in new.standings k ≡ Some x) → Extends old new
+same_jobs old new is h = record { jobs = ([], is ∙ sym (append-nil old.assignments)); closed = h }
+
+round_keeps : (answer : Answer) (state : State) → Extends state (after_round answer state)
+round_keeps (answers.Planned plan backlog short) state = same_jobs state (after_round (answers.Planned plan backlog short) state) refl (λ k x is closed. is)
+round_keeps (answers.NoPlan short) state = same_jobs state (after_round (answers.NoPlan short) state) refl (λ k x is closed. is)
+
+pub extends_after : (rules : Profile) (e : Event) (state : State) → IsSound rules state → IsPossible rules e state → Extends state (after rules e state)
+extends_after rules (event.Join slot) state h p = same_jobs state (after rules (event.Join slot) state) refl (λ k x is closed. is)
+extends_after rules (event.Load load) state h p = same_jobs state (after rules (event.Load load) state) refl (λ k x is closed. is)
+extends_after rules (event.Round answer) state h p = round_keeps answer state
+extends_after rules (event.Grab worker handle function now) state h p =
+    record {
+      jobs = (record { handle = handle; function = function } ∷ [], refl);
+      closed = λ k x is closed. pushed_keeps state.standings standing.Running k x is;
+    }
+extends_after rules (event.Begin worker ticket) state h p =
+    same_jobs state (after rules (event.Begin worker ticket) state) refl
+    (written_keeps state.standings (ticket - 1) standing.Reporting (ap is_open (standing_given state.standings ticket standing.Running standing.Running p.2).2))
+extends_after rules (event.Reported worker ticket end) state h p =
+    same_jobs state (after rules (event.Reported worker ticket end) state) refl
+    (written_keeps state.standings (ticket - 1) (standing.Reported end) (ap is_open (standing_given state.standings ticket standing.Reporting standing.Running p.2).2))
+extends_after rules (event.Lost worker cause) state h p =
+    same_jobs state (after rules (event.Lost worker cause) state) refl
+    (lost_keeps state.standings (open_ticket state worker) worker cause (λ k e. h.tickets worker.slot k e))
+
+extends_trans : (a b c : State) → Extends a b → Extends b c → Extends a c
+extends_trans a b c h k =
+    record {
+      jobs = (h.jobs.0 ++ k.jobs.0, k.jobs.1 ∙ ap (λ (xs : List Assignment). xs ++ k.jobs.0) h.jobs.1 ∙ append_assoc a.assignments h.jobs.0 k.jobs.0);
+      closed = λ t x is closed. k.closed t x (h.closed t x is closed) closed;
+    }
+
+extends_all : (rules : Profile) → 0 < rules.max_runs → (events : List Event) (state : State) → IsSound rules state → IsHistory rules state events → Extends state (replay rules state events)
+extends_all rules some [] state h p = same_jobs state state refl (λ k x is closed. is)
+extends_all rules some (e ∷ events) state h p =
+    extends_trans state (after rules e state) (replay rules (after rules e state) events) (extends_after rules e state h p.0)
+    (extends_all rules some events (after rules e state) (sound_after rules e state some h p.0) p.1)
+
+sound_all : (rules : Profile) → 0 < rules.max_runs → (events : List Event) (state : State) → IsSound rules state → IsHistory rules state events → IsSound rules (replay rules state events)
+sound_all rules some [] state h p = h
+sound_all rules some (e ∷ events) state h p = sound_all rules some events (after rules e state) (sound_after rules e state some h p.0) p.1
+
+-- a joined history, cut
+history_cut : (rules : Profile) (base : State) (xs ys : List Event) → IsHistory rules base (xs ++ ys) → IsHistory rules base xs × IsHistory rules (replay rules base xs) ys
+history_cut rules base [] ys h = (tt, h)
+history_cut rules base (x ∷ xs) ys h =
+    let t = history_cut rules (after rules x base) xs ys h.1 in ((h.0, t.0), t.1)
+
+-- the first state is sound
+empty_at : (n s : ℕ) → get_or (replicate n (Empty 0)) s (Empty 0) ≡ Empty 0
+empty_at zero s = refl
+empty_at (suc n) zero = refl
+empty_at (suc n) (suc s) = empty_at n s
+
+length-copies : {X : Type 0} (n : ℕ) (x : X) → length (replicate n x) ≡ n
+length-copies zero x = refl
+length-copies (suc n) x = ap suc (length-copies n x)
+
+pub sound_first : (rules : Profile) → IsProfile rules → IsSound rules (first rules)
+sound_first rules r =
+    record {
+      slots = length-copies (slot_count rules) _;
+      grab_times = length-copies (slot_count rules) _;
+      orders = length-copies (slot_count rules) _;
+      assignments = refl;
+      generations = λ s. omega (arith, ap last_generation (empty_at (slot_count rules) s));
+      runs = λ s. omega (arith, ap runs_of (empty_at (slot_count rules) s), r.max_runs_some);
+      tickets = λ s k o. absurd (none_open s k o);
+      alone = λ s t k o q. absurd (none_open s k o);
+    }
+  where
+    none_open : (s : ℕ) (k : ℕ) → OpensAt (first rules).slots s k → ⊥
+    none_open s k o = let e = sym (ap ticket_of (empty_at (slot_count rules) s)) ∙ o in cc
+
+pub histories_extend_lem : HistoriesExtend
+histories_extend_lem rules r earlier later h =
+    let t = history_cut rules (first rules) earlier later h in
+    subst (Extends (replay rules (first rules) earlier)) (sym (replay-append rules (first rules) earlier later))
+    (extends_all rules r.max_runs_some later (replay rules (first rules) earlier) (sound_all rules r.max_runs_some earlier (first rules) (sound_first rules r) t.0) t.1)
+
+pub rounds_are_shown_lem : RoundsAreShown
+rounds_are_shown_lem rules base earlier later answer h =
+    (history_cut rules base earlier (event.Round answer ∷ later) h).1.0
+
+pub histories_join_lem : HistoriesJoin
+histories_join_lem rules base earlier later h k =
+    (history-append rules base earlier later h k, replay-append rules base earlier later)
+
+length-with_lost : (standings : List Standing) (o : Option ℕ) (w : WorkerName) (cause : Cause) → length (with_lost standings o w cause) ≡ length standings
+length-with_lost standings None w cause = refl
+length-with_lost standings (Some k) w cause = length-set standings (k - 1) (standing.Lost w cause)
+
+-- what one event adds to the two counts
+pub record Adds (e : Event) (old new : State) : Type 0 where
+  pub grabs : length new.standings ≡ length old.standings + one_if is_grab e
+  pub reports : count_by is_reported new.standings ≡ count_by is_reported old.standings + one_if is_report e
+
+same_counts : (e : Event) (old new : State) → is_grab e ≡ false → is_report e ≡ false → length new.standings ≡ length old.standings → count_by is_reported new.standings ≡ count_by is_reported old.standings → Adds e old new
+same_counts e old new g r len counts =
+    record { grabs = omega (arith, len, ap as_number g); reports = omega (arith, counts, ap as_number r) }
+
+round_adds : (answer : Answer) (state : State) → Adds (event.Round answer) state (after_round answer state)
+round_adds (answers.Planned plan backlog short) state = same_counts (event.Round (answers.Planned plan backlog short)) state (after_round (answers.Planned plan backlog short) state) refl refl refl refl
+round_adds (answers.NoPlan short) state = same_counts (event.Round (answers.NoPlan short)) state (after_round (answers.NoPlan short) state) refl refl refl refl
+
+adds_after : (rules : Profile) (e : Event) (state : State) → IsSound rules state → IsPossible rules e state → Adds e state (after rules e state)
+adds_after rules (event.Join slot) state h p = same_counts (event.Join slot) state (after rules (event.Join slot) state) refl refl refl refl
+adds_after rules (event.Load load) state h p = same_counts (event.Load load) state (after rules (event.Load load) state) refl refl refl refl
+adds_after rules (event.Round answer) state h p = round_adds answer state
+adds_after rules (event.Grab worker handle function now) state h p =
+    record {
+      grabs = omega (arith, length-append state.standings (standing.Running ∷ []));
+      reports = omega (arith, count_by-push is_reported state.standings standing.Running);
+    }
+adds_after rules (event.Begin worker ticket) state h p =
+    same_counts (event.Begin worker ticket) state (after rules (event.Begin worker ticket) state) refl refl (length-set state.standings (ticket - 1) standing.Reporting) (reported_begin rules state worker ticket p).0
+adds_after rules (event.Reported worker ticket end) state h p =
+    record {
+      grabs = omega (arith, length-set state.standings (ticket - 1) (standing.Reported end));
+      reports = omega (arith, (reported_reported rules state worker ticket end p).0);
+    }
+adds_after rules (event.Lost worker cause) state h p =
+    same_counts (event.Lost worker cause) state (after rules (event.Lost worker cause) state) refl refl (length-with_lost state.standings (open_ticket state worker) worker cause) (counts_lost rules state worker cause h p).1
+
+-- what a history adds to the two counts
+pub counts_replayed : (rules : Profile) → 0 < rules.max_runs → (events : List Event) (state : State) → IsSound rules state → IsHistory rules state events
+    → (length (replay rules state events).standings ≡ length state.standings + count_by is_grab events)
+    × (count_by is_reported (replay rules state events).standings ≡ count_by is_reported state.standings + count_by is_report events)
+counts_replayed rules some [] state h p = (omega arith, omega arith)
+counts_replayed rules some (e ∷ events) state h p =
+    let a = adds_after rules e state h p.0 in
+    let t = counts_replayed rules some events (after rules e state) (sound_after rules e state some h p.0) p.1 in (
+      omega (arith, t.0, a.grabs, sum_by-cons (one_if is_grab) e events),
+      omega (arith, t.1, a.reports, sum_by-cons (one_if is_report) e events),
+    )
+
+pub histories_count_lem : HistoriesCount
+histories_count_lem rules r events h =
+    let t = counts_replayed rules r.max_runs_some events (first rules) (sound_first rules r) h in
+    record {
+      sum = sym (counts_all (replay rules (first rules) events).standings);
+      grabs = omega (arith, t.0);
+      reports = omega (arith, t.1);
+    }

@@ -1,0 +1,8 @@
+pub mod Tables
+pub mod Sums
+pub mod Sound
+pub mod Steps
+pub mod Refusals
+pub mod Calls
+pub mod Lasting
+mod Inputs

@@ -1,0 +1,214 @@
+-- Every event keeps a state sound.
+use Rattle.std.proofs.Common.{◌≡◌, ◌≢◌, ℕ, ◌+◌, ◌-◌, ◌<◌, ◌≤◌, suc, true, List, [], ◌∷◌, ◌++◌, length, get_or, set, Option, None, Some, inl, inr, refl, sym, ap, ◌∙◌, subst, arith, length-append, length-set}
+use Rattle.std.specs.Prelude.{nat_lt}
+use Rattle.std.proofs.lemmas.List.{get_or-set_other, get_or_append_left, get_or-append_right}
+use Rattle.std.proofs.lemmas.Bool.{cond_both, ltb-true, false≢true}
+use Rattle.std.proofs.lemmas.Bool.Decides.{nat_tests}
+use Rattle.pool_settings.specs.Profile.{Profile}
+use Rattle.plan_model.specs.declared.answer.Answer.{Answer}
+use Rattle.plan_model.specs.declared.answer.Answer.TheVariants as answers
+use Rattle.worker_state.specs.declared.order.Order.{Order}
+use Rattle.pool_core.specs.declared.event.Event.{Event}
+use Rattle.worker_state.specs.declared.slot.Slot.{Slot}
+use Rattle.worker_state.specs.declared.slot.Slot.TheVariants.{Empty, Live}
+use Rattle.worker_state.specs.declared.slot.WorkerName.{WorkerName}
+use Rattle.worker_state.specs.declared.cause.Cause.{Cause}
+use Rattle.worker_state.specs.declared.job.EndKind.{EndKind}
+use Rattle.worker_state.specs.declared.job.Standing.{Standing}
+use Rattle.worker_state.specs.declared.job.Standing.TheVariants as standing
+use Rattle.worker_state.specs.Slots.{ticket_of, is_open, last_generation, runs_of}
+use Rattle.pool_core.specs.declared.event.Event.TheVariants as event
+use Rattle.pool_core.specs.Machine.{State, has_generation, slot_in, is_live_in, open_ticket, after, IsPossible, slot_after_run, with_lost, orders_from, after_round}
+use Rattle.pool_core.specs.Kept.{OpensAt, IsOpen, IsSound}
+use Rattle.pool_core.proofs.Tables.{at_set, live_within, live_has, opens_elsewhere, opens_here, open_is}
+
+-- the generation of a live worker is its slot's last
+pub generation_last : (x : Slot) (g : ℕ) → has_generation x g ≡ true → last_generation x ≡ g
+generation_last (Empty last) g h = absurd (false≢true h)
+generation_last (Live own runs ticket) g h = grind (arith, nat_tests)
+
+-- one standing written, by one that goes on
+open_stays : (standings : List Standing) (i : ℕ) (y : Standing) (k : ℕ) → is_open y ≡ true → IsOpen standings k → IsOpen (set standings i y) k
+open_stays standings i y k goes h =
+    record {
+      from_one = h.from_one;
+      given = omega (arith, length-set standings i y, h.given);
+      goes_on = at_set (λ x. is_open x ≡ true) standings i y standing.Running (k - 1) h.goes_on goes;
+    }
+
+-- one standing written, of another ticket
+open_beside : (standings : List Standing) (j : ℕ) (y : Standing) (k : ℕ) → 0 < j → k ≢ j → IsOpen standings k → IsOpen (set standings (j - 1) y) k
+open_beside standings j y k from_one other h =
+    record {
+      from_one = h.from_one;
+      given = omega (arith, length-set standings (j - 1) y, h.given);
+      goes_on = ap is_open (get_or-set_other standings (j - 1) (k - 1) y standing.Running (λ e. other (omega (arith, h.from_one, from_one)))) ∙ h.goes_on;
+    }
+
+-- one more standing
+open_pushed : (standings : List Standing) (y : Standing) (k : ℕ) → IsOpen standings k → IsOpen (standings ++ y ∷ []) k
+open_pushed standings y k h =
+    record {
+      from_one = h.from_one;
+      given = omega (arith, length-append standings (y ∷ []), h.given);
+      goes_on = ap is_open (get_or_append_left standings (y ∷ []) standing.Running (k - 1) (omega (arith, h.from_one, h.given))) ∙ h.goes_on;
+    }
+
+pub sound_join : (rules : Profile) (state : State) (slot : ℕ) → 0 < rules.max_runs → IsSound rules state → IsPossible rules (event.Join slot) state → IsSound rules (after rules (event.Join slot) state)
+sound_join rules state slot some h p =
+    let last = last_generation (slot_in state.slots slot) in
+    let new = Live (last + 1) 0 None in
+    record {
+      slots = length-set state.slots slot new ∙ h.slots;
+      grab_times = h.grab_times;
+      orders = length-set state.orders slot _ ∙ h.orders;
+      assignments = h.assignments;
+      generations = λ s. at_set (λ x. last_generation x ≤ 262143) state.slots slot new (Empty 0) s (h.generations s) (omega (arith, p.2));
+      runs = λ s. at_set (λ x. runs_of x < rules.max_runs) state.slots slot new (Empty 0) s (h.runs s) some;
+      tickets = λ s k o. h.tickets s k (opens_elsewhere state.slots slot new s k p.0 refl o).1;
+      alone = λ s t k o q. h.alone s t k (opens_elsewhere state.slots slot new s k p.0 refl o).1 (opens_elsewhere state.slots slot new t k p.0 refl q).1;
+    }
+
+pub sound_begin : (rules : Profile) (state : State) (w : WorkerName) (k : ℕ) → IsSound rules state → IsSound rules (after rules (event.Begin w k) state)
+sound_begin rules state w k h =
+    record {
+      slots = h.slots;
+      grab_times = h.grab_times;
+      orders = h.orders;
+      assignments = h.assignments ∙ sym (length-set state.standings (k - 1) standing.Reporting);
+      generations = h.generations;
+      runs = h.runs;
+      tickets = λ s t o. open_stays state.standings (k - 1) standing.Reporting t refl (h.tickets s t o);
+      alone = h.alone;
+    }
+
+-- runs of the worker that is there
+runs_there : (rules : Profile) (state : State) → IsSound rules state → (slot : ℕ) → runs_of (slot_in state.slots slot) < rules.max_runs
+runs_there rules state h slot = h.runs slot
+
+generation_there : (rules : Profile) (state : State) → IsSound rules state → (w : WorkerName) → is_live_in state w ≡ true → w.generation ≤ 262143
+generation_there rules state h w live =
+    omega (arith, generation_last (slot_in state.slots w.slot) w.generation live, h.generations w.slot)
+
+-- the worker's slot is there
+pub worker_within : (state : State) (w : WorkerName) → is_live_in state w ≡ true → w.slot < length state.slots
+worker_within state w live = live_within state.slots w.slot (live_has (slot_in state.slots w.slot) w.generation live)
+
+-- a ticket that is open in one slot is another than one that is open in another
+other_ticket : (rules : Profile) (state : State) → IsSound rules state → (s t : ℕ) (k j : ℕ) → OpensAt state.slots s k → OpensAt state.slots t j → s ≢ t → k ≢ j
+other_ticket rules state h s t k j o q apart e =
+    apart (h.alone s t k o (q ∙ ap (λ (n : ℕ). let o : Option ℕ = Some n in o) (sym e)))
+
+pub sound_grab : (rules : Profile) (state : State) (w : WorkerName) (handle function : List ℕ) (now : ℕ) → IsSound rules state → is_live_in state w ≡ true → IsSound rules (after rules (event.Grab w handle function now) state)
+sound_grab rules state w handle function now h live =
+    let next : ℕ = (length state.standings + 1) in
+    let new = Live w.generation (runs_of (slot_in state.slots w.slot)) (Some next) in
+    let fresh : IsOpen (state.standings ++ standing.Running ∷ []) next = record {
+      from_one = omega arith;
+      given = omega (arith, length-append state.standings (standing.Running ∷ []));
+      goes_on = ap is_open (get_or-append_right state.standings (standing.Running ∷ []) (length state.standings) (length state.standings + 1 - 1) standing.Running refl (omega arith)) ∙ ap (λ n. is_open (get_or (standing.Running ∷ []) n standing.Running)) (let e : length state.standings + 1 - 1 - length state.standings ≡ 0 = omega arith in e);
+    } in
+    let not_given : (t : ℕ) → OpensAt state.slots t next → ⊥ = λ t o. omega (arith, (h.tickets t next o).given) in
+    record {
+      slots = length-set state.slots w.slot new ∙ h.slots;
+      grab_times = length-set state.grab_times w.slot now ∙ h.grab_times;
+      orders = h.orders;
+      assignments = omega (arith, h.assignments, length-append state.assignments (record { handle = handle; function = function } ∷ []), length-append state.standings (standing.Running ∷ []));
+      generations = λ s. at_set (λ x. last_generation x ≤ 262143) state.slots w.slot new (Empty 0) s (h.generations s) (generation_there rules state h w live);
+      runs = λ s. at_set (λ x. runs_of x < rules.max_runs) state.slots w.slot new (Empty 0) s (h.runs s) (runs_there rules state h w.slot);
+      tickets = λ s k o. elim (opens_here state.slots w.slot new s k o) [
+        | inl t ↦ subst (IsOpen (state.standings ++ standing.Running ∷ [])) (let e : next ≡ k = cc in e) fresh
+        | inr t ↦ open_pushed state.standings standing.Running k (h.tickets s k t.1)
+      ];
+      alone = λ s t k o q. elim (opens_here state.slots w.slot new s k o) [
+        | inl a ↦ elim (opens_here state.slots w.slot new t k q) [
+          | inl b ↦ a.0 ∙ sym b.0
+          | inr b ↦ absurd (not_given t (b.1 ∙ sym a.1))
+        ]
+        | inr a ↦ elim (opens_here state.slots w.slot new t k q) [
+          | inl b ↦ absurd (not_given s (a.1 ∙ sym b.1))
+          | inr b ↦ h.alone s t k a.1 b.1
+        ]
+      ];
+    }
+
+-- a slot that is given up, with its ticket's standing
+cleared : (rules : Profile) (state : State) (slot : ℕ) (new : Slot) (k : ℕ) (y : Standing) → IsSound rules state → slot < length state.slots → ticket_of new ≡ None → last_generation new ≤ 262143 → runs_of new < rules.max_runs → OpensAt state.slots slot k
+    → IsSound rules (record state { slots = set state.slots slot new; standings = set state.standings (k - 1) y })
+cleared rules state slot new k y h within none generation runs own =
+    record {
+      slots = length-set state.slots slot new ∙ h.slots;
+      grab_times = h.grab_times;
+      orders = h.orders;
+      assignments = h.assignments ∙ sym (length-set state.standings (k - 1) y);
+      generations = λ s. at_set (λ x. last_generation x ≤ 262143) state.slots slot new (Empty 0) s (h.generations s) generation;
+      runs = λ s. at_set (λ x. runs_of x < rules.max_runs) state.slots slot new (Empty 0) s (h.runs s) runs;
+      tickets = λ s j o.
+          let e = opens_elsewhere state.slots slot new s j within none o in
+          open_beside state.standings k y j (h.tickets slot k own).from_one (other_ticket rules state h s slot j k e.1 own e.0) (h.tickets s j e.1);
+      alone = λ s t j o q. h.alone s t j (opens_elsewhere state.slots slot new s j within none o).1 (opens_elsewhere state.slots slot new t j within none q).1;
+    }
+
+-- a slot that is given up without a ticket
+cleared_idle : (rules : Profile) (state : State) (slot : ℕ) (new : Slot) → IsSound rules state → slot < length state.slots → ticket_of new ≡ None → last_generation new ≤ 262143 → runs_of new < rules.max_runs
+    → IsSound rules (record state { slots = set state.slots slot new })
+cleared_idle rules state slot new h within none generation runs =
+    record {
+      slots = length-set state.slots slot new ∙ h.slots;
+      grab_times = h.grab_times;
+      orders = h.orders;
+      assignments = h.assignments;
+      generations = λ s. at_set (λ x. last_generation x ≤ 262143) state.slots slot new (Empty 0) s (h.generations s) generation;
+      runs = λ s. at_set (λ x. runs_of x < rules.max_runs) state.slots slot new (Empty 0) s (h.runs s) runs;
+      tickets = λ s j o. h.tickets s j (opens_elsewhere state.slots slot new s j within none o).1;
+      alone = λ s t j o q. h.alone s t j (opens_elsewhere state.slots slot new s j within none o).1 (opens_elsewhere state.slots slot new t j within none q).1;
+    }
+
+-- the slot after one more run: its ticket, generation and runs
+run_none : (rules : Profile) (g r : ℕ) → ticket_of (slot_after_run rules g r) ≡ None
+run_none rules g r = cond_both (nat_lt (r + 1) rules.max_runs) (Live g (r + 1) None) (Empty g) (λ x. ticket_of x ≡ None) (λ e. refl) (λ e. refl)
+
+run_generation : (rules : Profile) (g r : ℕ) → last_generation (slot_after_run rules g r) ≡ g
+run_generation rules g r = cond_both (nat_lt (r + 1) rules.max_runs) (Live g (r + 1) None) (Empty g) (λ x. last_generation x ≡ g) (λ e. refl) (λ e. refl)
+
+run_runs : (rules : Profile) (g r : ℕ) → 0 < rules.max_runs → runs_of (slot_after_run rules g r) < rules.max_runs
+run_runs rules g r some = cond_both (nat_lt (r + 1) rules.max_runs) (Live g (r + 1) None) (Empty g) (λ x. runs_of x < rules.max_runs) (λ e. ltb-true (r + 1) rules.max_runs e) (λ e. some)
+
+pub sound_reported : (rules : Profile) (state : State) (w : WorkerName) (k : ℕ) (end : EndKind) → 0 < rules.max_runs → IsSound rules state → IsPossible rules (event.Reported w k end) state → IsSound rules (after rules (event.Reported w k end) state)
+sound_reported rules state w k end some h p =
+    let r = runs_of (slot_in state.slots w.slot) in
+    cleared rules state w.slot (slot_after_run rules w.generation r) k (standing.Reported end) h (worker_within state w p.0)
+    (run_none rules w.generation r) (omega (arith, run_generation rules w.generation r, generation_there rules state h w p.0)) (run_runs rules w.generation r some)
+    (open_is (open_ticket state w) k p.1)
+
+lost_with : (rules : Profile) (state : State) (w : WorkerName) (cause : Cause) (o : Option ℕ) → o ≡ open_ticket state w → 0 < rules.max_runs → IsSound rules state → is_live_in state w ≡ true
+    → IsSound rules (record state { slots = set state.slots w.slot (Empty w.generation); standings = with_lost state.standings o w cause })
+lost_with rules state w cause None e some h live =
+    cleared_idle rules state w.slot (Empty w.generation) h (worker_within state w live) refl (generation_there rules state h w live) some
+lost_with rules state w cause (Some k) e some h live =
+    cleared rules state w.slot (Empty w.generation) k (standing.Lost w cause) h (worker_within state w live) refl (generation_there rules state h w live) some (sym e)
+
+pub sound_lost : (rules : Profile) (state : State) (w : WorkerName) (cause : Cause) → 0 < rules.max_runs → IsSound rules state → is_live_in state w ≡ true → IsSound rules (after rules (event.Lost w cause) state)
+sound_lost rules state w cause some h live = lost_with rules state w cause (open_ticket state w) refl some h live
+
+pub length-orders_from : (plan : List (ℕ × Option ℕ)) (round number : ℕ) (slots : List Slot) (orders : List Order) → length slots ≡ length orders → length (orders_from number plan round slots orders) ≡ length orders
+length-orders_from plan round number [] orders e = refl
+length-orders_from plan round number (slot ∷ slots) [] e = refl
+length-orders_from plan round number (slot ∷ slots) (order ∷ orders) e = ap suc (length-orders_from plan round (number + 1) slots orders (omega arith))
+
+sound_round : (rules : Profile) (answer : Answer) (state : State) → IsSound rules state → IsSound rules (after_round answer state)
+sound_round rules (answers.Planned plan backlog short) state h =
+    record { slots = h.slots; grab_times = h.grab_times; orders = length-orders_from plan (state.rounds + 1) 0 state.slots state.orders (h.slots ∙ sym h.orders) ∙ h.orders; assignments = h.assignments; generations = h.generations; runs = h.runs; tickets = h.tickets; alone = h.alone }
+sound_round rules (answers.NoPlan short) state h =
+    record { slots = h.slots; grab_times = h.grab_times; orders = h.orders; assignments = h.assignments; generations = h.generations; runs = h.runs; tickets = h.tickets; alone = h.alone }
+
+-- every event keeps a state sound
+pub sound_after : (rules : Profile) (e : Event) (state : State) → 0 < rules.max_runs → IsSound rules state → IsPossible rules e state → IsSound rules (after rules e state)
+sound_after rules (event.Join slot) state some h p = sound_join rules state slot some h p
+sound_after rules (event.Load load) state some h p =
+    record { slots = h.slots; grab_times = h.grab_times; orders = h.orders; assignments = h.assignments; generations = h.generations; runs = h.runs; tickets = h.tickets; alone = h.alone }
+sound_after rules (event.Round answer) state some h p = sound_round rules answer state h
+sound_after rules (event.Grab worker handle function now) state some h p = sound_grab rules state worker handle function now h p.0
+sound_after rules (event.Begin worker ticket) state some h p = sound_begin rules state worker ticket h
+sound_after rules (event.Reported worker ticket end) state some h p = sound_reported rules state worker ticket end some h p
+sound_after rules (event.Lost worker cause) state some h p = sound_lost rules state worker cause some h p

@@ -1,0 +1,44 @@
+-- A history that grows by one event, and what a pool keeps then.
+use Rattle.std.proofs.Common.{◌≡◌, ℕ, ◌+◌, ◌≤◌, List, [], ◌∷◌, ◌++◌, length, refl, sym, ap, ◌∙◌, subst, arith, length-append}
+use Rattle.std.specs.Prelude.{count_by}
+use Rattle.pool_settings.specs.Profile.{Profile}
+use Rattle.worker_state.specs.Slots.{is_reported, is_lost}
+use Rattle.pool_core.specs.declared.event.Event.{Event}
+use Rattle.pool_core.specs.Machine.{State, after, IsPossible, replay, IsHistory, Replays, owed}
+use Rattle.pool_core.specs.Kept.{IsKept}
+use Rattle.pool_core.proofs.Sound.{sound_after}
+
+-- joined lists replay one after the other
+pub replay-append : (rules : Profile) (base : State) (xs ys : List Event) → replay rules base (xs ++ ys) ≡ replay rules (replay rules base xs) ys
+replay-append rules base [] ys = refl
+replay-append rules base (x ∷ xs) ys = replay-append rules (after rules x base) xs ys
+
+pub history-append : (rules : Profile) (base : State) (xs ys : List Event) → IsHistory rules base xs → IsHistory rules (replay rules base xs) ys → IsHistory rules base (xs ++ ys)
+history-append rules base [] ys h k = k
+history-append rules base (x ∷ xs) ys h k = (h.0, history-append rules (after rules x base) xs ys h.1 k)
+
+-- one more event
+pub replays_more : (rules : Profile) (base : State) (events : List Event) (state : State) (e : Event) → Replays rules base events state → IsPossible rules e state → Replays rules base (events ++ e ∷ []) (after rules e state)
+replays_more rules base events state e h p =
+    record {
+      history = history-append rules base events (e ∷ []) h.history (subst (IsPossible rules e) h.replayed p, tt);
+      replayed = ap (after rules e) h.replayed ∙ sym (replay-append rules base events (e ∷ []));
+    }
+
+pub kept_more : (rules : Profile) (events : List Event) (state : State) (owes reported lost capacity : ℕ) → IsKept rules events state owes reported lost capacity
+    → (e : Event) → IsPossible rules e state
+    → (owes' reported' lost' capacity' : ℕ) → owes' ≡ owed (after rules e state)
+    → reported' ≡ count_by is_reported (after rules e state).standings → lost' ≡ count_by is_lost (after rules e state).standings
+    → length events + 1 + owes' ≤ rules.history → length events + 1 + owes' ≤ capacity'
+    → IsKept rules (events ++ e ∷ []) (after rules e state) owes' reported' lost' capacity'
+kept_more rules events state owes reported lost capacity h e p owes' reported' lost' capacity' o r l within reserved =
+    record {
+      in_range = h.in_range;
+      history = record { base = h.history.base; sound = h.history.sound; replays = replays_more rules h.history.base events state e h.history.replays p };
+      sound = sound_after rules e state h.in_range.max_runs_some h.sound p;
+      owes_is = o;
+      reported_is = r;
+      lost_is = l;
+      within = omega (arith, length-append events (e ∷ []), within);
+      reserved = omega (arith, length-append events (e ∷ []), reserved);
+    }

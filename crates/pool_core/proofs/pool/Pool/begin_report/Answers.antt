@@ -1,0 +1,15 @@
+use Rattle.std.proofs.Common.{ap, ◌∙◌, sym}
+use Rattle.pool_core.specs.Book.{Book, begin_refusal}
+use Rattle.pool_core.specs.View.{state_of}
+use Rattle.pool_core.proofs.Calls.{kept_begin}
+use Rattle.pool_core.proofs.pool.Pool.begin_report.Goals as goal
+
+pub invariant_of-self : goal.invariant_of-self
+invariant_of-self c =
+    let p = c.self.inside in
+    kept_begin p.settings p.events.items (state_of p) p.owed p.reported p.lost _ c.self.invariant
+    c.name-worker.result c.args.ticket
+    (ap (λ (b : Book). begin_refusal b c.name-worker.result c.args.ticket) c.self.view_is ∙ (sym c.begin_refusal.ensures ∙ c.in_default.is))
+    c.push_reserved.new.self.items c.push_reserved.ensures.items
+    c.put_standing.new.standings.items c.put_standing.ensures
+    _ c.push_reserved.ensures.capacity

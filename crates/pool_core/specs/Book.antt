@@ -1,0 +1,233 @@
+-- What contracts see of a pool, and what its calls answer.
+use Rattle.std.specs.Prelude.{◌≡◌, ℕ, ◌+◌, ◌-◌, ◌^◌, ◌&&◌, nat_lt, nat_le, List, [], ◌∷◌, ◌++◌, length, Option, None, Some, Result, Ok, Err, is_some, Bool, true, false, not, if◌then◌else◌, slice_index, count_by}
+use Rattle.pool_settings.specs.Profile.{Profile}
+use Rattle.worker_state.specs.declared.slot.Slot.{Slot}
+use Rattle.worker_state.specs.declared.order.Order.{Order}
+use Rattle.worker_state.specs.declared.slot.WorkerName.{WorkerName}
+use Rattle.worker_state.specs.declared.job.Standing.{Standing}
+use Rattle.worker_state.specs.declared.job.Standing.TheVariants as standing
+use Rattle.worker_state.specs.Slots.{is_live, last_generation, runs_of, is_open, is_reported, is_lost}
+use Rattle.pool_core.specs.declared.event.Event.{Event}
+use Rattle.pool_core.specs.declared.error.JoinError.{JoinError}
+use Rattle.pool_core.specs.declared.error.JoinError.TheVariants as join
+use Rattle.pool_core.specs.declared.error.LoadError.{LoadError}
+use Rattle.pool_core.specs.declared.error.LoadError.TheVariants as load
+use Rattle.pool_core.specs.declared.answer.Totals.{Totals}
+use Rattle.pool_core.specs.declared.answer.Ran.{Ran}
+use Rattle.pool_core.specs.declared.error.RoundError.{RoundError}
+use Rattle.pool_core.specs.declared.error.RoundError.TheVariants as round
+use Rattle.plan_model.specs.declared.answer.Answer.{Answer}
+use Rattle.plan_model.specs.declared.answer.Answer.TheVariants as answers
+use Rattle.plan_model.specs.Planning.{Instance}
+use Rattle.gear_status.specs.Status.{Line}
+use Rattle.pool_core.specs.declared.error.ChapterError.{ChapterError}
+use Rattle.pool_core.specs.declared.error.ChapterError.TheVariants as chapter
+use Rattle.pool_core.specs.declared.error.ViewError.{ViewError}
+use Rattle.pool_core.specs.declared.error.ViewError.TheVariants as view
+use Rattle.pool_core.specs.declared.error.AdoptError.{AdoptError}
+use Rattle.pool_core.specs.declared.error.AdoptError.TheVariants as adopt
+use Rattle.pool_core.specs.declared.error.GrabError.{GrabError}
+use Rattle.pool_core.specs.declared.error.GrabError.TheVariants as grab
+use Rattle.pool_core.specs.declared.error.BeginError.{BeginError}
+use Rattle.pool_core.specs.declared.error.BeginError.TheVariants as begin
+use Rattle.pool_core.specs.declared.error.ReportError.{ReportError}
+use Rattle.pool_core.specs.declared.error.ReportError.TheVariants as report
+use Rattle.pool_core.specs.declared.error.LoseError.{LoseError}
+use Rattle.pool_core.specs.declared.error.LoseError.TheVariants as lose
+use Rattle.pool_core.specs.declared.error.ExpireError.{ExpireError}
+use Rattle.pool_core.specs.declared.error.ExpireError.TheVariants as expire
+use Rattle.pool_core.specs.declared.answer.StayOrRetire.{StayOrRetire}
+use Rattle.pool_core.specs.declared.answer.StayOrRetire.TheVariants.{Stay, Retire}
+use Rattle.pool_core.specs.Machine.{State, slot_in, has_open, is_live_in, open_ticket, standing_in, IsPossible, after, owed, same_what, input_of, orders_from}
+
+-- The value of a pool: what the settings say, its history, and its state
+pub record Book : Type 0 where
+  pub rules : Profile
+  pub events : List Event
+  pub state : State
+  pub chapters : ℕ
+
+-- the event happened, and nothing else
+pub record IsStep (event : Event) (old new : Book) : Type 0 where
+  pub possible : IsPossible old.rules event old.state
+  pub state : new.state ≡ after old.rules event old.state
+  pub events : new.events ≡ old.events ++ event ∷ []
+  pub rules : new.rules ≡ old.rules
+  pub chapters : new.chapters ≡ old.chapters
+
+-- there is room for q events beside those owed
+abbrev pub has_room : Book → ℕ → Bool
+has_room book q = nat_le (length book.events + owed book.state + q) book.rules.history
+
+-- The refusal that is due, want of memory aside: the one of the lowest number.
+
+abbrev pub join_refusal : Book → ℕ → Option JoinError
+join_refusal book slot =
+    if is_live (slot_in book.state.slots slot) then Some join.AlreadyLive
+    else if nat_lt (last_generation (slot_in book.state.slots slot)) 262143
+    then (if has_room book 2 then None else Some join.HistoryFull)
+    else Some join.GenerationsUsed
+
+abbrev pub grab_refusal : Book → WorkerName → Option GrabError
+grab_refusal book worker =
+    if is_live_in book.state worker
+    then (if is_some (open_ticket book.state worker) then Some grab.Busy
+    else if has_room book 3 && nat_lt (length book.state.standings) (2 ^ 64 - 1) then None
+    else Some grab.HistoryFull)
+    else Some grab.Gone
+
+abbrev pub is_running : Option Standing → Bool
+is_running None = false
+is_running (Some standing.Running) = true
+is_running (Some standing.Reporting) = false
+is_running (Some (standing.Reported end)) = false
+is_running (Some (standing.Lost worker cause)) = false
+
+abbrev pub is_reporting : Option Standing → Bool
+is_reporting None = false
+is_reporting (Some standing.Running) = false
+is_reporting (Some standing.Reporting) = true
+is_reporting (Some (standing.Reported end)) = false
+is_reporting (Some (standing.Lost worker cause)) = false
+
+abbrev pub begin_refusal : Book → WorkerName → ℕ → Option BeginError
+begin_refusal book worker ticket =
+    if is_live_in book.state worker
+    then (if has_open (open_ticket book.state worker) ticket
+    then (if is_running (standing_in book.state.standings ticket) then None else Some begin.AlreadyReporting)
+    else Some begin.WrongTicket)
+    else Some begin.Gone
+
+abbrev pub report_refusal : Book → WorkerName → ℕ → Option ReportError
+report_refusal book worker ticket =
+    if is_live_in book.state worker
+    then (if has_open (open_ticket book.state worker) ticket
+    then (if is_reporting (standing_in book.state.standings ticket) then None else Some report.NotReporting)
+    else Some report.WrongTicket)
+    else Some report.Gone
+
+abbrev pub lose_refusal : Book → WorkerName → Option LoseError
+lose_refusal book worker = if is_live_in book.state worker then None else Some lose.Gone
+
+-- the job of an open ticket is late, or why not
+abbrev pub late_refusal : Book → WorkerName → ℕ → Option ℕ → Option ExpireError
+late_refusal book worker now None = Some expire.NoJob
+late_refusal book worker now (Some ticket) =
+    if is_reporting (standing_in book.state.standings ticket) then Some expire.Reporting
+    else if nat_le (slice_index book.state.grab_times worker.slot + book.rules.job_timeout_ms) now then None
+    else Some expire.NotLate
+
+abbrev pub expire_refusal : Book → WorkerName → ℕ → Option ExpireError
+expire_refusal book worker now =
+    if is_live_in book.state worker
+    then late_refusal book worker now (open_ticket book.state worker)
+    else Some expire.Gone
+
+-- what a worker is told after a report
+abbrev pub stay_or_retire : Book → WorkerName → StayOrRetire
+stay_or_retire book worker =
+    if nat_lt (runs_of (slot_in book.state.slots worker.slot) + 1) book.rules.max_runs then Stay else Retire
+
+-- memory is no refusal of the machine
+abbrev pub join_due : {A : Type 0} → Result A JoinError → Option JoinError
+join_due (Ok x) = None
+join_due (Err join.Memory) = None
+join_due (Err join.AlreadyLive) = Some join.AlreadyLive
+join_due (Err join.GenerationsUsed) = Some join.GenerationsUsed
+join_due (Err join.HistoryFull) = Some join.HistoryFull
+
+abbrev pub grab_due : {A : Type 0} → Result A GrabError → Option GrabError
+grab_due (Ok x) = None
+grab_due (Err grab.Memory) = None
+grab_due (Err grab.Gone) = Some grab.Gone
+grab_due (Err grab.Busy) = Some grab.Busy
+grab_due (Err grab.HistoryFull) = Some grab.HistoryFull
+
+abbrev pub load_refusal : Book → Option LoadError
+load_refusal book = if has_room book 1 then None else Some load.HistoryFull
+
+abbrev pub load_due : {A : Type 0} → Result A LoadError → Option LoadError
+load_due (Ok x) = None
+load_due (Err load.Memory) = None
+load_due (Err load.HistoryFull) = Some load.HistoryFull
+
+abbrev pub totals_of : Book → Totals
+totals_of book =
+    record {
+      grabbed = length book.state.standings;
+      running = count_by is_open book.state.standings;
+      reported = count_by is_reported book.state.standings;
+      lost = count_by is_lost book.state.standings;
+      rounds = book.state.rounds;
+      events = length book.events;
+    }
+
+-- 1 where a live worker got another function
+abbrev pub one_moved : Slot → Order → Order → ℕ
+one_moved slot old new = if is_live slot && not (same_what old.what new.what) then 1 else 0
+
+-- how many live workers got another function
+abbrev pub moved_in : List Slot → List Order → List Order → ℕ
+moved_in [] old new = 0
+moved_in (slot ∷ slots) [] new = 0
+moved_in (slot ∷ slots) (o ∷ old) [] = 0
+moved_in (slot ∷ slots) (o ∷ old) (n ∷ new) =
+    one_moved slot o n + moved_in slots old new
+
+abbrev pub round_refusal : Book → Option RoundError
+round_refusal book =
+    if is_some book.state.load
+    then (if has_room book 1 && nat_lt book.state.rounds (2 ^ 32 - 1) then None else Some round.HistoryFull)
+    else Some round.NoLoad
+
+abbrev pub round_due : {A : Type 0} → Result A RoundError → Option RoundError
+round_due (Ok x) = None
+round_due (Err round.Memory) = None
+round_due (Err round.NoLoad) = Some round.NoLoad
+round_due (Err round.HistoryFull) = Some round.HistoryFull
+
+-- the input now
+abbrev pub IsInput : Book → Instance → Type 0
+IsInput book input = (load : List Line) × (book.state.load ≡ Some load) × (input ≡ input_of book.rules book.state load)
+
+-- what a round with this answer tells
+abbrev pub ran_of : Answer → State → Ran
+ran_of (answers.Planned plan backlog short) state =
+    record {
+      number = state.rounds + 1;
+      backlog = Some backlog;
+      moved = moved_in state.slots state.orders (orders_from 0 plan (state.rounds + 1) state.slots state.orders);
+    }
+ran_of (answers.NoPlan short) state = record { number = state.rounds + 1; backlog = None; moved = 0 }
+
+abbrev pub view_refusal : Book → Option ViewError
+view_refusal book = if is_some book.state.load then None else Some view.NoLoad
+
+abbrev pub view_due : {A : Type 0} → Result A ViewError → Option ViewError
+view_due (Ok x) = None
+view_due (Err view.Memory) = None
+view_due (Err view.NoLoad) = Some view.NoLoad
+
+-- a round is admitted
+abbrev pub has_round : Book → Bool
+has_round book = has_room book 1 && nat_lt book.state.rounds (2 ^ 32 - 1)
+
+-- what each answer to an offered input says
+abbrev pub Adopts : {A : Type 0} → Book → Instance → Result A AdoptError → Type 0
+Adopts book input (Ok x) = IsInput book input × (has_round book ≡ true)
+Adopts book input (Err adopt.NoLoad) = book.state.load ≡ None
+Adopts book input (Err adopt.Stale) = (is_some book.state.load ≡ true) × (IsInput book input → ⊥)
+Adopts book input (Err adopt.HistoryFull) = IsInput book input × (has_round book ≡ false)
+Adopts book input (Err adopt.Memory) = IsInput book input × (has_round book ≡ true)
+
+abbrev pub chapter_refusal : Book → Option ChapterError
+chapter_refusal book = if nat_lt book.chapters (2 ^ 32 - 1) then None else Some chapter.ChaptersUsed
+
+abbrev pub chapter_due : {A : Type 0} → Result A ChapterError → Option ChapterError
+chapter_due (Ok x) = None
+chapter_due (Err chapter.Memory) = None
+chapter_due (Err chapter.ChaptersUsed) = Some chapter.ChaptersUsed
+
+-- the next chapter begins where the last one ended
+abbrev pub next_chapter : Book → Book
+next_chapter book = record book { events = []; chapters = book.chapters + 1 }

@@ -1,0 +1,58 @@
+-- What every state that a history leads to has, and what a pool keeps beside its state.
+use Rattle.pool_settings.specs.Slots.{slots as slot_count}
+use Rattle.std.specs.Prelude.{◌≡◌, ℕ, ◌+◌, ◌-◌, ◌<◌, ◌≤◌, List, length, Option, None, Some, true, slice_index_or, count_by}
+use Rattle.pool_settings.specs.Profile.{Profile, IsProfile}
+use Rattle.worker_state.specs.declared.slot.Slot.{Slot}
+use Rattle.worker_state.specs.declared.slot.Slot.TheVariants.{Empty}
+use Rattle.worker_state.specs.declared.job.Standing.{Standing}
+use Rattle.worker_state.specs.declared.job.Standing.TheVariants.{Running}
+use Rattle.worker_state.specs.Slots.{last_generation, runs_of, ticket_of, is_open, is_reported, is_lost, closing_events}
+use Rattle.pool_core.specs.declared.event.Event.{Event}
+use Rattle.pool_core.specs.Machine.{State, Replays, owed}
+
+-- the ticket is open in the slot of that number
+abbrev pub OpensAt : List Slot → ℕ → ℕ → Type 0
+OpensAt slots slot ticket = ticket_of (slice_index_or slots slot (Empty 0)) ≡ Some ticket
+
+-- the ticket was given, and its job is running or being reported
+pub record IsOpen (standings : List Standing) (ticket : ℕ) : Type 0 where
+  pub from_one : 0 < ticket
+  pub given : ticket ≤ length standings
+  pub goes_on : is_open (slice_index_or standings (ticket - 1) Running) ≡ true
+
+pub record IsSound (rules : Profile) (state : State) : Type 0 where
+  pub slots : length state.slots ≡ slot_count rules
+  pub grab_times : length state.grab_times ≡ slot_count rules
+  pub orders : length state.orders ≡ slot_count rules
+  pub assignments : length state.assignments ≡ length state.standings
+  pub generations : (s : ℕ) → last_generation (slice_index_or state.slots s (Empty 0)) ≤ 262143
+  pub runs : (s : ℕ) → runs_of (slice_index_or state.slots s (Empty 0)) < rules.max_runs
+  pub tickets : (s : ℕ) (k : ℕ) → OpensAt state.slots s k → IsOpen state.standings k
+  pub alone : (s t : ℕ) (k : ℕ) → OpensAt state.slots s k → OpensAt state.slots t k → s ≡ t
+
+-- how many events are owed for the job of the ticket that is open
+abbrev pub closing_of : List Standing → Option ℕ → ℕ
+closing_of standings None = 0
+closing_of standings (Some ticket) = closing_events (slice_index_or standings (ticket - 1) Running)
+
+-- how many jobs end where the worker with this open ticket is lost
+abbrev pub lost_of : Option ℕ → ℕ
+lost_of None = 0
+lost_of (Some ticket) = 1
+
+-- the events lead from a base to the state
+pub record IsChapter (rules : Profile) (events : List Event) (state : State) : Type 0 where
+  pub base : State
+  pub sound : IsSound rules base
+  pub replays : Replays rules base events state
+
+-- the running counts and the room that a pool keeps
+pub record IsKept (rules : Profile) (events : List Event) (state : State) (owes reported lost capacity : ℕ) : Type 0 where
+  pub in_range : IsProfile rules
+  pub history : IsChapter rules events state
+  pub sound : IsSound rules state
+  pub owes_is : owes ≡ owed state
+  pub reported_is : reported ≡ count_by is_reported state.standings
+  pub lost_is : lost ≡ count_by is_lost state.standings
+  pub within : length events + owes ≤ rules.history
+  pub reserved : length events + owes ≤ capacity

@@ -1,0 +1,6 @@
+pub mod Machine
+pub mod Walk
+pub mod Book
+pub mod Kept
+pub mod View
+pub mod Laws

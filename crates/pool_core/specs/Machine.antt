@@ -1,0 +1,205 @@
+-- The pool as a machine: its state, the events, where each is possible and what it does.
+use Rattle.std.specs.Prelude.{◌≡◌, ℕ, ◌+◌, ◌-◌, ◌<◌, ◌==◌, ◌&&◌, nat_lt, List, [], ◌∷◌, ◌++◌, length, Option, None, Some, Bool, true, false, IsTrue, if◌then◌else◌, slice_get, slice_set, slice_index_or, map, replicate, count_by, sum_by}
+use Rattle.plan_model.specs.declared.answer.Answer.{Answer}
+use Rattle.plan_model.specs.declared.answer.Answer.TheVariants as answers
+use Rattle.pool_settings.specs.Profile.{Profile}
+use Rattle.plan_model.specs.Planning.{Instance, assigned}
+use Rattle.gear_status.specs.Status.{Line, waiting}
+use Rattle.pool_settings.specs.Slots.{slots as slot_count}
+use Rattle.pool_settings.specs.Planning.{instance_of}
+use Rattle.plan_model.specs.Shown.{Shown}
+use Rattle.worker_state.specs.declared.slot.Slot.{Slot}
+use Rattle.worker_state.specs.declared.slot.Slot.TheVariants.{Empty, Live}
+use Rattle.worker_state.specs.declared.slot.WorkerName.{WorkerName}
+use Rattle.worker_state.specs.declared.order.Order.{Order}
+use Rattle.worker_state.specs.declared.order.What.{What}
+use Rattle.worker_state.specs.declared.order.What.TheVariants.{Idle, Work, Stop}
+use Rattle.worker_state.specs.declared.cause.Cause.{Cause}
+use Rattle.worker_state.specs.declared.job.Standing.{Standing}
+use Rattle.worker_state.specs.declared.job.Standing.TheVariants as standing
+use Rattle.worker_state.specs.Slots.{is_live, last_generation, runs_of, ticket_of, closing_events}
+use Rattle.worker_state.specs.Orders.{no_order}
+use Rattle.pool_core.specs.declared.event.Assignment.{Assignment}
+use Rattle.pool_core.specs.declared.event.Event.{Event}
+use Rattle.pool_core.specs.declared.event.Event.TheVariants as event
+
+-- The state. By slot: what it holds, when its last grab was, its order. By ticket, from 1: what was assigned, and how it stands
+pub record State : Type 0 where
+  pub slots : List Slot
+  pub grab_times : List ℕ
+  pub orders : List Order
+  pub load : Option (List Line)
+  pub assignments : List Assignment
+  pub standings : List Standing
+  pub previous : Option (List (ℕ × Option ℕ))
+  pub rounds : ℕ
+
+abbrev pub first : Profile → State
+first rules =
+    record {
+      slots = replicate (slot_count rules) (Empty 0);
+      grab_times = replicate (slot_count rules) 0;
+      orders = replicate (slot_count rules) no_order;
+      load = None;
+      assignments = [];
+      standings = [];
+      previous = None;
+      rounds = 0;
+    }
+
+-- what the slot holds; a slot that is not there holds nothing
+abbrev pub slot_in : List Slot → ℕ → Slot
+slot_in slots slot = slice_index_or slots slot (Empty 0)
+
+-- the worker of that generation is in the slot
+abbrev pub has_generation : Slot → ℕ → Bool
+has_generation (Empty last) generation = false
+has_generation (Live own runs ticket) generation = own == generation
+
+-- the ticket is open in the slot
+abbrev pub has_open : Option ℕ → ℕ → Bool
+has_open None ticket = false
+has_open (Some own) ticket = own == ticket
+
+-- how the ticket stands, if it was given
+abbrev pub standing_in : List Standing → ℕ → Option Standing
+standing_in standings ticket = if ticket == 0 then None else slice_get standings (ticket - 1)
+
+abbrev pub assignment_in : List Assignment → ℕ → Option Assignment
+assignment_in assignments ticket = if ticket == 0 then None else slice_get assignments (ticket - 1)
+
+abbrev pub is_live_in : State → WorkerName → Bool
+is_live_in state worker = has_generation (slot_in state.slots worker.slot) worker.generation
+
+abbrev pub open_ticket : State → WorkerName → Option ℕ
+open_ticket state worker = ticket_of (slot_in state.slots worker.slot)
+
+abbrev pub next_ticket : State → ℕ
+next_ticket state = length state.standings + 1
+
+-- the jobs that wait for each function, as the load tells them
+abbrev pub waiting_of : Profile → List Line → List ℕ
+waiting_of rules load = map (waiting load) rules.functions
+
+-- what a round has to plan for
+abbrev pub input_of : Profile → State → List Line → Instance
+input_of rules state load = instance_of rules (map is_live state.slots) (waiting_of rules load)
+
+abbrev pub IsPossible : Profile → Event → State → Type 0
+IsPossible rules (event.Join slot) state =
+    (slot < length state.slots) × (is_live (slot_in state.slots slot) ≡ false)
+    × (last_generation (slot_in state.slots slot) < 262143)
+IsPossible rules (event.Load load) state = Unit {0}
+IsPossible rules (event.Round answer) state =
+    (load : List Line) × (state.load ≡ Some load) × Shown (input_of rules state load) answer
+IsPossible rules (event.Grab worker handle function now) state =
+    IsTrue (is_live_in state worker) × (open_ticket state worker ≡ None)
+IsPossible rules (event.Begin worker ticket) state =
+    IsTrue (is_live_in state worker) × IsTrue (has_open (open_ticket state worker) ticket)
+    × (standing_in state.standings ticket ≡ Some standing.Running)
+IsPossible rules (event.Reported worker ticket end) state =
+    IsTrue (is_live_in state worker) × IsTrue (has_open (open_ticket state worker) ticket)
+    × (standing_in state.standings ticket ≡ Some standing.Reporting)
+IsPossible rules (event.Lost worker cause) state = IsTrue (is_live_in state worker)
+
+-- what a worker is to do with this function, or without one
+abbrev pub what_of : Option ℕ → What
+what_of None = Idle
+what_of (Some function) = Work function
+
+abbrev pub same_what : What → What → Bool
+same_what Idle Idle = true
+same_what (Work f) (Work g) = f == g
+same_what Stop Stop = true
+same_what Idle (Work g) = false
+same_what Idle Stop = false
+same_what (Work f) Idle = false
+same_what (Work f) Stop = false
+same_what Stop Idle = false
+same_what Stop (Work g) = false
+
+-- the order of a slot after a round: one whose function and generation stay keeps its number
+abbrev pub ordered : What → ℕ → Slot → Order → Order
+ordered what round (Empty last) order = order
+ordered what round (Live generation runs ticket) order =
+    if (order.generation == generation) && same_what order.what what
+    then order
+    else record { generation = generation; round = round; what = what }
+
+abbrev pub orders_from : ℕ → List (ℕ × Option ℕ) → ℕ → List Slot → List Order → List Order
+orders_from number plan round [] orders = orders
+orders_from number plan round (slot ∷ slots) [] = []
+orders_from number plan round (slot ∷ slots) (order ∷ orders) =
+    ordered (what_of (assigned plan number)) round slot order ∷ orders_from (number + 1) plan round slots orders
+
+abbrev pub after_round : Answer → State → State
+after_round (answers.Planned plan backlog short) state =
+    record state {
+      orders = orders_from 0 plan (state.rounds + 1) state.slots state.orders;
+      previous = Some plan;
+      rounds = state.rounds + 1;
+    }
+after_round (answers.NoPlan short) state = record state { rounds = state.rounds + 1 }
+
+abbrev pub with_slot : State → ℕ → Slot → List Slot
+with_slot state slot to = slice_set state.slots slot to
+
+abbrev pub with_standing : List Standing → ℕ → Standing → List Standing
+with_standing standings ticket to = slice_set standings (ticket - 1) to
+
+-- an open ticket is lost
+abbrev pub with_lost : List Standing → Option ℕ → WorkerName → Cause → List Standing
+with_lost standings None worker cause = standings
+with_lost standings (Some ticket) worker cause = with_standing standings ticket (standing.Lost worker cause)
+
+-- the slot after one more run
+abbrev pub slot_after_run : Profile → ℕ → ℕ → Slot
+slot_after_run rules generation runs =
+    if nat_lt (runs + 1) rules.max_runs then Live generation (runs + 1) None else Empty generation
+
+abbrev pub after : Profile → Event → State → State
+after rules (event.Join slot) state =
+    record state {
+      slots = with_slot state slot (Live (last_generation (slot_in state.slots slot) + 1) 0 None);
+      orders = slice_set state.orders slot (record { generation = last_generation (slot_in state.slots slot) + 1; round = 0; what = Idle });
+    }
+after rules (event.Load load) state = record state { load = Some load }
+after rules (event.Round answer) state = after_round answer state
+after rules (event.Grab worker handle function now) state =
+    record state {
+      slots = with_slot state worker.slot (Live worker.generation (runs_of (slot_in state.slots worker.slot)) (Some (next_ticket state)));
+      grab_times = slice_set state.grab_times worker.slot now;
+      assignments = state.assignments ++ record { handle = handle; function = function } ∷ [];
+      standings = state.standings ++ standing.Running ∷ [];
+    }
+after rules (event.Begin worker ticket) state =
+    record state { standings = with_standing state.standings ticket standing.Reporting }
+after rules (event.Reported worker ticket end) state =
+    record state {
+      slots = with_slot state worker.slot (slot_after_run rules worker.generation (runs_of (slot_in state.slots worker.slot)));
+      standings = with_standing state.standings ticket (standing.Reported end);
+    }
+after rules (event.Lost worker cause) state =
+    record state {
+      slots = with_slot state worker.slot (Empty worker.generation);
+      standings = with_lost state.standings (open_ticket state worker) worker cause;
+    }
+
+-- the state after a list of events
+abbrev pub replay : Profile → State → List Event → State
+replay rules state [] = state
+replay rules state (event ∷ events) = replay rules (after rules event state) events
+
+-- each event was possible where it stood
+abbrev pub IsHistory : Profile → State → List Event → Type 0
+IsHistory rules state [] = Unit {0}
+IsHistory rules state (event ∷ events) = IsPossible rules event state × IsHistory rules (after rules event state) events
+
+-- the events are a history from the base, and the state is their replay
+pub record Replays (rules : Profile) (base : State) (events : List Event) (state : State) : Type 0 where
+  pub history : IsHistory rules base events
+  pub replayed : state ≡ replay rules base events
+
+-- events that may still come without asking: a worker's last one, and those that close its job
+abbrev pub owed : State → ℕ
+owed state = count_by is_live state.slots + sum_by closing_events state.standings

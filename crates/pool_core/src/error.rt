@@ -1,0 +1,233 @@
+//! Why a call of the pool was refused. The variants of each are in the order in which they are looked at: where more than one
+//! is true, the first is answered, and nothing has changed.
+
+use std::alloc::AllocError;
+use thiserror::Error;
+
+/// Why no worker joined.
+#[derive(Clone, Copy, Debug, PartialEq, Eq, Error)]
+pub enum JoinError {
+    /// The slot has a worker.
+    #[error("the slot has a worker")]
+    AlreadyLive,
+    /// The slot has had 262,143 workers.
+    #[error("the slot has no generation left")]
+    GenerationsUsed,
+    /// The history has no room for the worker's two events.
+    #[error("the history is full")]
+    HistoryFull,
+    /// There was no memory.
+    #[error("out of memory")]
+    Memory,
+}
+
+/// Why a load was not taken.
+#[derive(Clone, Copy, Debug, PartialEq, Eq, Error)]
+pub enum LoadError {
+    /// The history has no room for one more event.
+    #[error("the history is full")]
+    HistoryFull,
+    /// There was no memory.
+    #[error("out of memory")]
+    Memory,
+}
+
+/// Why no round was made.
+#[derive(Clone, Copy, Debug, PartialEq, Eq, Error)]
+pub enum RoundError {
+    /// There is no load yet.
+    #[error("there is no load")]
+    NoLoad,
+    /// The history has no room for one more event, or there were 4,294,967,295 rounds.
+    #[error("the history is full")]
+    HistoryFull,
+    /// There was no memory.
+    #[error("out of memory")]
+    Memory,
+}
+
+/// Why there is nothing to plan for.
+#[derive(Clone, Copy, Debug, PartialEq, Eq, Error)]
+pub enum ViewError {
+    /// There is no load yet.
+    #[error("there is no load")]
+    NoLoad,
+    /// There was no memory.
+    #[error("out of memory")]
+    Memory,
+}
+
+/// Why an answer was not adopted.
+#[derive(Clone, Copy, Debug, PartialEq, Eq, Error)]
+pub enum AdoptError {
+    /// There is no load yet.
+    #[error("there is no load")]
+    NoLoad,
+    /// The answer's input is not that of now.
+    #[error("the plan is for another input")]
+    Stale,
+    /// The history has no room for one more event, or there were 4,294,967,295 rounds.
+    #[error("the history is full")]
+    HistoryFull,
+    /// There was no memory.
+    #[error("out of memory")]
+    Memory,
+}
+
+/// Why a job was not booked.
+#[derive(Clone, Copy, Debug, PartialEq, Eq, Error)]
+pub enum GrabError {
+    /// The worker is not in its slot any more.
+    #[error("the worker is gone")]
+    Gone,
+    /// The worker has a job.
+    #[error("the worker has a job")]
+    Busy,
+    /// The history has no room for the job's three events, or all tickets were given.
+    #[error("the history is full")]
+    HistoryFull,
+    /// There was no memory.
+    #[error("out of memory")]
+    Memory,
+}
+
+/// Why a report may not begin.
+#[derive(Clone, Copy, Debug, PartialEq, Eq, Error)]
+pub enum BeginError {
+    /// The worker is not in its slot any more.
+    #[error("the worker is gone")]
+    Gone,
+    /// The worker has no job, or another one.
+    #[error("the worker does not have that job")]
+    WrongTicket,
+    /// The report has begun before.
+    #[error("the report has begun already")]
+    AlreadyReporting,
+}
+
+/// Why a report was not taken.
+#[derive(Clone, Copy, Debug, PartialEq, Eq, Error)]
+pub enum ReportError {
+    /// The worker is not in its slot any more.
+    #[error("the worker is gone")]
+    Gone,
+    /// The worker has no job, or another one.
+    #[error("the worker does not have that job")]
+    WrongTicket,
+    /// The report has not begun.
+    #[error("the report has not begun")]
+    NotReporting,
+}
+
+/// Why a worker was not lost.
+#[derive(Clone, Copy, Debug, PartialEq, Eq, Error)]
+pub enum LoseError {
+    /// The worker is not in its slot any more.
+    #[error("the worker is gone")]
+    Gone,
+}
+
+/// Why a worker was not expired.
+#[derive(Clone, Copy, Debug, PartialEq, Eq, Error)]
+pub enum ExpireError {
+    /// The worker is not in its slot any more.
+    #[error("the worker is gone")]
+    Gone,
+    /// The worker has no job.
+    #[error("the worker has no job")]
+    NoJob,
+    /// The worker has begun to report its job.
+    #[error("the worker reports its job")]
+    Reporting,
+    /// The job is not late.
+    #[error("the job is not late")]
+    NotLate,
+}
+
+/// Why no chapter ended.
+#[derive(Clone, Copy, Debug, PartialEq, Eq, Error)]
+pub enum ChapterError {
+    /// 4,294,967,295 chapters have ended.
+    #[error("all chapters are used")]
+    ChaptersUsed,
+    /// There was no memory.
+    #[error("out of memory")]
+    Memory,
+}
+
+impl From<AllocError> for JoinError {
+    ghost use Rattle.std.specs.Prelude.{◌≡◌};
+    ghost use Rattle.pool_core.specs.declared.error.JoinError.TheVariants.{Memory};
+
+    ghost from_gives = { λ _ e. e ≡ Memory };
+
+    fn from(_: AllocError) -> JoinError {
+        JoinError::Memory
+    }
+}
+
+impl From<AllocError> for LoadError {
+    ghost use Rattle.std.specs.Prelude.{◌≡◌};
+    ghost use Rattle.pool_core.specs.declared.error.LoadError.TheVariants.{Memory};
+
+    ghost from_gives = { λ _ e. e ≡ Memory };
+
+    fn from(_: AllocError) -> LoadError {
+        LoadError::Memory
+    }
+}
+
+impl From<AllocError> for RoundError {
+    ghost use Rattle.std.specs.Prelude.{◌≡◌};
+    ghost use Rattle.pool_core.specs.declared.error.RoundError.TheVariants.{Memory};
+
+    ghost from_gives = { λ _ e. e ≡ Memory };
+
+    fn from(_: AllocError) -> RoundError {
+        RoundError::Memory
+    }
+}
+
+impl From<AllocError> for ViewError {
+    ghost use Rattle.std.specs.Prelude.{◌≡◌};
+    ghost use Rattle.pool_core.specs.declared.error.ViewError.TheVariants.{Memory};
+
+    ghost from_gives = { λ _ e. e ≡ Memory };
+
+    fn from(_: AllocError) -> ViewError {
+        ViewError::Memory
+    }
+}
+
+impl From<AllocError> for AdoptError {
+    ghost use Rattle.std.specs.Prelude.{◌≡◌};
+    ghost use Rattle.pool_core.specs.declared.error.AdoptError.TheVariants.{Memory};
+
+    ghost from_gives = { λ _ e. e ≡ Memory };
+
+    fn from(_: AllocError) -> AdoptError {
+        AdoptError::Memory
+    }
+}
+
+impl From<AllocError> for GrabError {
+    ghost use Rattle.std.specs.Prelude.{◌≡◌};
+    ghost use Rattle.pool_core.specs.declared.error.GrabError.TheVariants.{Memory};
+
+    ghost from_gives = { λ _ e. e ≡ Memory };
+
+    fn from(_: AllocError) -> GrabError {
+        GrabError::Memory
+    }
+}
+
+impl From<AllocError> for ChapterError {
+    ghost use Rattle.std.specs.Prelude.{◌≡◌};
+    ghost use Rattle.pool_core.specs.declared.error.ChapterError.TheVariants.{Memory};
+
+    ghost from_gives = { λ _ e. e ≡ Memory };
+
+    fn from(_: AllocError) -> ChapterError {
+        ChapterError::Memory
+    }
+}

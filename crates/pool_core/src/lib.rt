@@ -1,0 +1,22 @@
+//! The pool: worker slots, jobs by ticket, orders and rounds, with the history that led to them.
+//!
+//! Each call on a `Pool` either answers its lowest true refusal and changes nothing, or is one event of a machine that the
+//! definitions describe; the state is always the replay of the events.
+#![tactic(auto)]
+
+mod answer;
+mod error;
+mod event;
+mod laws;
+mod pool;
+mod rounds;
+mod table;
+
+pub use answer::{Ran, StayOrRetire, Totals};
+pub use error::{
+    AdoptError, BeginError, ChapterError, ExpireError, GrabError, JoinError, LoadError, LoseError,
+    ReportError, RoundError, ViewError,
+};
+pub use event::{Assignment, Chapter, Event, FunctionName};
+pub use laws::{calls_replay, histories_count, histories_extend, histories_join, rounds_are_shown};
+pub use pool::{Pass, Pool};

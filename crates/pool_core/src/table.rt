@@ -1,0 +1,298 @@
+//! Reads and writes of the tables by slot and by ticket.
+ghost use Rattle.std.specs.Prelude.{◌≡◌, ◌+◌, ◌-◌, ◌^◌, ◌<◌, ◌≤◌, ℕ, slice_set, slice_index, length, vec_len, vec_capacity, if◌then◌else◌, IfSome, IfOk, OnOk, replicate};
+ghost use Rattle.worker_state.specs.Slots.{is_live, ticket_of, closing_events, last_generation, runs_of};
+ghost use Rattle.pool_core.specs.Machine.{slot_in, has_generation, has_open, standing_in, with_lost};
+ghost use Rattle.pool_core.specs.Book.{is_running, is_reporting};
+ghost use Rattle.pool_core.specs.Kept.{closing_of, lost_of};
+ghost use Rattle.worker_state.specs.Orders.{no_order};
+ghost use Rattle.worker_state.specs.declared.slot.Slot.TheVariants.{Empty, Live};
+ghost use Rattle.pool_core.specs.declared.answer.StayOrRetire.TheVariants.{Stay, Retire};
+
+use crate::answer::StayOrRetire;
+use crate::event::{Assignment, Event};
+use plan_model::SlotId;
+use std::alloc::{AllocError, Global};
+use worker_state::{Cause, Order, Slot, Standing, Ticket, WorkerName};
+
+/// What the slot holds; a slot that is not there holds nothing.
+pub fn slot_of(slots: &[Slot], slot: SlotId) -> Slot
+    ensures { result ≡ slot_in slots.now slot }
+{
+    let at = slot.number() as usize;
+    if at < slots.len() {
+        slots[at]
+    } else {
+        Slot::Empty(0)
+    }
+}
+
+pub fn put_slot(slots: &mut Vec<Slot>, slot: SlotId, to: Slot)
+    requires { slot < vec_len slots.old }
+    ensures { slots.new.items ≡ slice_set slots.old.items slot to }
+{
+    slots[slot.number() as usize] = to;
+}
+
+/// Whether the worker of that generation is in the slot.
+pub fn is_of(slot: &Slot, generation: u32) -> bool
+    ensures { result ≡ has_generation slot.now generation }
+{
+    match slot {
+        Slot::Empty(_) => false,
+        Slot::Live {
+            generation: own,
+            runs: _,
+            ticket: _,
+        } => *own == generation,
+    }
+}
+
+pub fn open_in(slot: &Slot) -> Option<Ticket>
+    ensures { result ≡ ticket_of slot.now }
+{
+    match slot {
+        Slot::Empty(_) => None,
+        Slot::Live {
+            generation: _,
+            runs: _,
+            ticket,
+        } => *ticket,
+    }
+}
+
+pub fn is_open(ticket_of_slot: Option<Ticket>, ticket: Ticket) -> bool
+    ensures { result ≡ has_open ticket_of_slot ticket }
+{
+    match ticket_of_slot {
+        None => false,
+        Some(own) => own == ticket,
+    }
+}
+
+/// How the ticket stands, if it was given.
+pub fn standing_of(standings: &[Standing], ticket: Ticket) -> Option<Standing>
+    ensures { result ≡ standing_in standings.now ticket }
+{
+    if ticket.number() == 0 {
+        return None;
+    }
+    let at = (ticket.number() - 1) as usize;
+    if at < standings.len() {
+        Some(standings[at])
+    } else {
+        None
+    }
+}
+
+pub fn put_standing(standings: &mut Vec<Standing>, ticket: Ticket, to: Standing)
+    requires from_one { 0 < ticket }
+    requires given { ticket ≤ vec_len standings.old }
+    ensures { standings.new.items ≡ slice_set standings.old.items (ticket - 1) to }
+{
+    standings[(ticket.number() - 1) as usize] = to;
+}
+
+pub fn runs(standing: Option<Standing>) -> bool
+    ensures { result ≡ is_running standing }
+{
+    match standing {
+        Some(Standing::Running) => true,
+        _ => false,
+    }
+}
+
+pub fn reports(standing: Option<Standing>) -> bool
+    ensures { result ≡ is_reporting standing }
+{
+    match standing {
+        Some(Standing::Reporting) => true,
+        _ => false,
+    }
+}
+
+/// How many events are owed for a job.
+pub fn closing(standing: Standing) -> u32
+    ensures { result ≡ closing_events standing }
+{
+    match standing {
+        Standing::Running => 2,
+        Standing::Reporting => 1,
+        Standing::Reported(_) => 0,
+        Standing::Lost(_, _) => 0,
+    }
+}
+
+pub fn last_of(slot: &Slot) -> u32
+    ensures { result ≡ last_generation slot.now }
+{
+    match slot {
+        Slot::Empty(last) => *last,
+        Slot::Live {
+            generation,
+            runs: _,
+            ticket: _,
+        } => *generation,
+    }
+}
+
+pub fn runs_in(slot: &Slot) -> u32
+    ensures { result ≡ runs_of slot.now }
+{
+    match slot {
+        Slot::Empty(_) => 0,
+        Slot::Live {
+            generation: _,
+            runs,
+            ticket: _,
+        } => *runs,
+    }
+}
+
+pub fn lives(slot: &Slot) -> bool
+    ensures { result ≡ is_live slot.now }
+{
+    match slot {
+        Slot::Empty(_) => false,
+        Slot::Live {
+            generation: _,
+            runs: _,
+            ticket: _,
+        } => true,
+    }
+}
+
+pub fn put_order(orders: &mut Vec<Order>, slot: SlotId, order: Order)
+    requires { slot < vec_len orders.old }
+    ensures { orders.new.items ≡ slice_set orders.old.items slot order }
+{
+    orders[slot.number() as usize] = order;
+}
+
+pub fn put_time(times: &mut Vec<u64>, slot: SlotId, now_ms: u64)
+    requires { slot < vec_len times.old }
+    ensures { times.new.items ≡ slice_set times.old.items slot now_ms }
+{
+    times[slot.number() as usize] = now_ms;
+}
+
+/// When the slot's last grab was, 0 where there was none.
+pub fn time_of(times: &[u64], slot: SlotId) -> u64
+    ensures { result ≡ slice_index times.now slot }
+{
+    let at = slot.number() as usize;
+    if at < times.len() { times[at] } else { 0 }
+}
+
+/// The slot of a worker that has made one more run than these.
+pub fn slot_after(stays: bool, generation: u32, runs: u32) -> Slot
+    requires { runs + 1 < 2 ^ 32 }
+    ensures { result ≡ (if stays then Live generation (runs + 1) None else Empty generation) }
+{
+    if stays {
+        Slot::Live {
+            generation,
+            runs: runs + 1,
+            ticket: None,
+        }
+    } else {
+        Slot::Empty(generation)
+    }
+}
+
+pub fn told(stays: bool) -> StayOrRetire
+    ensures { result ≡ (if stays then Stay else Retire) }
+{
+    if stays {
+        StayOrRetire::Stay
+    } else {
+        StayOrRetire::Retire
+    }
+}
+
+pub fn one_if(holds: bool) -> u32
+    ensures { result ≡ (if holds then 1 else 0) }
+{
+    if holds { 1 } else { 0 }
+}
+
+pub fn lost_jobs(ticket: &Option<Ticket>) -> u64
+    ensures { result ≡ lost_of ticket.now }
+{
+    match ticket {
+        None => 0,
+        Some(_) => 1,
+    }
+}
+
+/// Loses the open ticket, and says how many events were owed for its job.
+pub fn put_lost(
+    standings: &mut Vec<Standing>,
+    ticket: Option<Ticket>,
+    worker: WorkerName,
+    cause: Cause,
+) -> u32
+    requires { IfSome ticket (λ k. (0 < k) × (k ≤ vec_len standings.old)) }
+    ensures standings { standings.new.items ≡ with_lost standings.old.items ticket worker cause }
+    ensures owed { result ≡ closing_of standings.old.items ticket }
+{
+    match ticket {
+        None => 0,
+        Some(ticket) => {
+            let owed = closing(standings[(ticket.number() - 1) as usize]);
+            put_standing(standings, ticket, Standing::Lost(worker, cause));
+            owed
+        }
+    }
+}
+
+/// Room for one more job and these events.
+pub fn reserve_job(
+    assignments: &mut Vec<Assignment>,
+    standings: &mut Vec<Standing>,
+    events: &mut Vec<Event>,
+    count: usize,
+) -> Result<(), AllocError>
+    ensures assignments { assignments.new.items ≡ assignments.old.items }
+    ensures standings { standings.new.items ≡ standings.old.items }
+    ensures events { events.new.items ≡ events.old.items }
+    ensures capacity { vec_capacity events.old ≤ vec_capacity events.new }
+    ensures room { OnOk result ((vec_len assignments.new < vec_capacity assignments.new) × (vec_len standings.new < vec_capacity standings.new) × (vec_len events.new + count ≤ vec_capacity events.new)) }
+{
+    assignments.reserve(1)?;
+    standings.reserve(1)?;
+    events.reserve(count)?;
+    Ok(())
+}
+
+/// So many slots that never had a worker.
+#[tactic(auto, using(crate::proofs::Tables::copies_more))]
+pub fn empty_slots(alloc: Global, count: usize) -> Result<Vec<Slot>, AllocError>
+    ensures { IfOk result (λ slots. slots.items ≡ replicate count (Empty 0)) }
+{
+    let mut slots = Vec::with_capacity(alloc, count)?;
+    // The check of this function has to meet the types inside a slot.
+    let _ticket: Option<Ticket> = None;
+    for _number in 0..count {
+        slots.push_reserved(Slot::Empty(0));
+    }
+    Ok(slots)
+}
+
+/// For so many slots that there was no grab.
+pub fn no_times(alloc: Global, count: usize) -> Result<Vec<u64>, AllocError>
+    ensures { IfOk result (λ times. times.items ≡ replicate count 0) }
+{
+    Ok(vec![in alloc; 0u64; count]?)
+}
+
+/// The orders of so many slots that never had a worker.
+#[tactic(auto, using(crate::proofs::Tables::copies_more))]
+pub fn no_orders(alloc: Global, count: usize) -> Result<Vec<Order>, AllocError>
+    ensures { IfOk result (λ orders. orders.items ≡ replicate count no_order) }
+{
+    let mut orders = Vec::new(alloc);
+    for _number in 0..count {
+        orders.push(Order::NONE)?;
+    }
+    Ok(orders)
+}
