@@ -1,10 +1,10 @@
--- the tree of functions that a search has reached
+-- The tree of functions that a search has reached
 use Rattle.std.specs.Prelude.{◌≡◌, ◌≢◌, ℕ, ◌+◌, ◌-◌, ◌<◌, ◌≤◌, ◌⊎◌, List, length, slice_index, slice_set}
 use Rattle.augment.specs.declared.search.Tree.{Tree}
 use Rattle.round_arena.specs.declared.tables.Pairs.{Pairs}
 use Rattle.round_arena.specs.Plan.{IsPair}
 
--- one place per function in each list
+-- One place per function in each list
 pub record HasRoom (functions : ℕ) (tree : Tree) : Type 0 where
   pub reached : length tree.reached.now ≡ functions
   pub by : length tree.by.now ≡ functions
@@ -24,7 +24,7 @@ pub record IsTree (pairs : Pairs) (owner count need : List ℕ) (tree : Tree) : 
   pub permitted : (i : ℕ) → 0 < i → i < tree.tail → IsPair pairs.first.now pairs.workers.now (slice_index tree.by.now i) (slice_index tree.reached.now (slice_index tree.from.now i))
   pub tight : (i : ℕ) → i < tree.tail → slice_index count (slice_index tree.reached.now i) ≤ slice_index need (slice_index tree.reached.now i)
 
--- the tree gains function g, reached by worker w from the function at that place
+-- The tree gains function g, reached by worker w from the function at that place
 pub record Reaches (old new : Tree) (g w head : ℕ) : Type 0 where
   pub reached : new.reached.now ≡ slice_set old.reached.now old.tail g
   pub by : new.by.now ≡ slice_set old.by.now old.tail w
@@ -32,34 +32,34 @@ pub record Reaches (old new : Tree) (g w head : ℕ) : Type 0 where
   pub place : new.place.now ≡ slice_set old.place.now g (old.tail + 1)
   pub tail : new.tail ≡ old.tail + 1
 
--- what was reached stays reached, in its place
+-- What was reached stays reached, in its place
 pub record Extends (old new : Tree) : Type 0 where
   pub tail : old.tail ≤ new.tail
   pub reached : (i : ℕ) → i < old.tail → slice_index new.reached.now i ≡ slice_index old.reached.now i
   pub marks : (f : ℕ) → 0 < slice_index old.place.now f → 0 < slice_index new.place.now f
 
--- each worker who may do f, up to place k of the list of workers, is on a function that was reached
+-- Each worker who may do f, up to place k of the list of workers, is on a function that was reached
 abbrev pub IsClosedUpTo : Pairs → List ℕ → ℕ → Tree → ℕ → ℕ → Type 0
 IsClosedUpTo pairs owner functions tree f end =
     (k : ℕ) → slice_index pairs.first.now f ≤ k → k < end → (slice_index owner (slice_index pairs.workers.now k) < functions) × (0 < slice_index tree.place.now (slice_index owner (slice_index pairs.workers.now k)))
 
--- each worker who may do f is on a function that was reached
+-- Each worker who may do f is on a function that was reached
 abbrev pub IsClosed : Pairs → List ℕ → ℕ → Tree → ℕ → Type 0
 IsClosed pairs owner functions tree f = IsClosedUpTo pairs owner functions tree f (slice_index pairs.first.now (f + 1))
 
--- the worker is idle, or on a function that was not reached and has more workers than it needs
+-- The worker is idle, or on a function that was not reached and has more workers than it needs
 abbrev pub IsSpare : List ℕ → List ℕ → List ℕ → Tree → ℕ → Type 0
 IsSpare owner count need tree w =
     (slice_index owner w ≡ length need) ⊎ ((slice_index owner w < length need) × (slice_index tree.place.now (slice_index owner w) ≡ 0) × (slice_index need (slice_index owner w) < slice_index count (slice_index owner w)))
 
--- a spare worker who may do the function at that place of the tree
+-- A spare worker who may do the function at that place of the tree
 pub record IsWayOut (pairs : Pairs) (owner count need : List ℕ) (tree : Tree) (w head : ℕ) : Type 0 where
   pub place : head < tree.tail
   pub employed : w < length owner
   pub permitted : IsPair pairs.first.now pairs.workers.now w (slice_index tree.reached.now head)
   pub spare : IsSpare owner count need tree w
 
--- the tree is function root alone
+-- The tree is function root alone
 pub record Starts (old new : Tree) (root : ℕ) : Type 0 where
   pub reached : new.reached.now ≡ slice_set old.reached.now 0 root
   pub by : new.by.now ≡ old.by.now
@@ -69,6 +69,6 @@ pub record Starts (old new : Tree) (root : ℕ) : Type 0 where
   pub others : (f : ℕ) → f ≢ root → slice_index new.place.now f ≡ 0
   pub tail : new.tail ≡ 1
 
--- each worker who may do one of the first n functions reached is on a function that was reached
+-- Each worker who may do one of the first n functions reached is on a function that was reached
 abbrev pub AreClosed : Pairs → List ℕ → ℕ → Tree → ℕ → Type 0
 AreClosed pairs owner functions tree n = (i : ℕ) → i < n → IsClosed pairs owner functions tree (slice_index tree.reached.now i)

@@ -8,8 +8,18 @@ use crate::serving::{Served, collect, serve_all};
 use round_arena::{FuncId, Tables};
 use std::alloc::AllocError;
 
-/// Moves workers until each function has its need, or gives a set of functions that is short. Makes
-/// all its growths first.
+/// Moves workers until each function has the number of workers that `need` has for it, or gives a set
+/// of functions that need more workers than may do any of them (Hall's theorem, with demands: then
+/// nobody can serve these needs). In both cases each worker does at most one function, a permitted
+/// one.
+///
+/// No function falls below the smaller of its need and its number before, nor rises above the larger.
+///
+/// For L workers and P permitted pairs it looks at most at L * P pairs where all is served, and at
+/// (L + 1) * P where a set is short; so many looks must fit into the tables' counter.
+///
+/// The only error is that a growth of the arena was refused. All growths are made first, so then the
+/// tables are as before.
 pub fn serve<'a>(tables: &mut Tables<'a>, need: &[u32]) -> Result<Served<'a>, AllocError>
     requires sound { IsSound (length need.now) tables.old }
     requires looks { tables.old.looks + (length tables.old.owner.now + 1) * length tables.old.pairs.workers.now < 2 ^ 64 }

@@ -12,12 +12,12 @@ ghost use Rattle.augment.specs.Short.{marked};
 use crate::search::{Tree, search};
 use round_arena::{FuncId, Pairs};
 
-/// What `serve` found.
+/// What `serve` found. The set lies in the arena of the tables.
 #[derive(Drop)]
 pub enum Served<'a> {
     /// Each function has what it needs.
     All,
-    /// These functions need more workers than may do any of them.
+    /// These functions, in rising order, need more workers than may do any of them.
     Short(&'a [FuncId]),
 }
 

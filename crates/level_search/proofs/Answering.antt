@@ -1,11 +1,10 @@
 -- from the tables that serve a level to the answer
-use Rattle.std.proofs.Common.{◌≡◌, ℕ, ◌+◌, ◌-◌, ◌<◌, ◌≤◌, List, Option, length, map, ap, sym, ◌∙◌, subst, arith}
+use Rattle.std.proofs.Common.{◌≡◌, ℕ, ◌-◌, ◌<◌, ◌≤◌, List, Option, length, map, ap, sym, ◌∙◌, subst, arith}
 use Rattle.plan_model.specs.Planning.{Instance, IsInstance, IsShort}
 use Rattle.plan_model.specs.Shown.{IsShownPlan}
 use Rattle.round_arena.specs.declared.tables.Tables.{Tables}
 use Rattle.round_arena.specs.Plan.{count_on}
 use Rattle.round_arena.specs.Round.{IsSound, SamePairs, entries_of, plan_of}
-use Rattle.level_search.specs.declared.bisect.Found.{Found}
 use Rattle.level_search.specs.Levels.{Fits, AreMet}
 use Rattle.level_search.specs.Answered.{evidence}
 use Rattle.level_search.proofs.Bisecting.{Fits-same}

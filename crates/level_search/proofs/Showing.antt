@@ -1,17 +1,17 @@
 -- the plan that is copied from the tables is shown
-use Rattle.std.proofs.Common.{◌≡◌, ◌≢◌, ℕ, zero, suc, ◌+◌, ◌-◌, ◌<◌, ◌≤◌, Bool, true, false, cond, eqb, leb, ltb, ◌||◌, ◌&&◌, List, [], ◌∷◌, length, map, get_or, count_by, All, IsTrue, is_some, Option, None, Some, refl, sym, ap, ◌∙◌, subst, arith, inl, inr}
+use Rattle.std.proofs.Common.{◌≡◌, ◌≢◌, ℕ, zero, suc, ◌+◌, ◌-◌, ◌<◌, ◌≤◌, Bool, true, false, cond, eqb, ltb, ◌||◌, ◌&&◌, List, [], ◌∷◌, length, map, get_or, count_by, is_some, Option, None, Some, refl, sym, ap, ◌∙◌, subst, arith, inl, inr}
 use Rattle.std.specs.List.{list_any, list_all, range_with_len}
 use Rattle.std.specs.List.Sorted.{IsStrictlyIncreasing}
-use Rattle.std.proofs.lemmas.Bool.{cases_Bool, cases_eq, cases_lt, eq-eqb, eqb-true, eqb-false, ne_eqb, lt-ltb, ltb-true, ltb-false, le-leb, or_left, or_right, cond-true, cond-false}
+use Rattle.std.proofs.lemmas.Bool.{cases_Bool, cases_eq, cases_lt, eq-eqb, eqb-true, eqb-false, ne_eqb, ltb-true, ltb-false, or_left, or_right, cond-true, cond-false}
 use Rattle.std.proofs.lemmas.List.{get_or-map, length-map}
 use Rattle.std.proofs.lemmas.List.Sums.{sum_by-cons, list_all-from_AllPass}
 use Rattle.std.proofs.lemmas.List.Elements.{All-from_get_or}
 use Rattle.std.proofs.lemmas.List.FromFn.{get_or-map-range_with_len, length-map-range_with_len}
-use Rattle.plan_model.specs.Planning.{Instance, IsInstance, IsSound, IsShort, Assignment, assigned, is_live, is_on, may_do, may_have, is_permitted, is_full, meets_least, workers_on, need, backlog_of, machines_of}
+use Rattle.plan_model.specs.Planning.{Instance, IsInstance, IsSound, IsShort, Assignment, assigned, is_live, is_on, may_do, may_have, is_permitted, is_full, workers_on}
 use Rattle.plan_model.specs.Shown.{IsShownPlan, IsEvidence}
 use Rattle.plan_model.proofs.Reached.{needs-met, backlog-exact}
 use Rattle.round_arena.specs.declared.tables.Tables.{Tables}
-use Rattle.round_arena.specs.Plan.{IsPair, IsAssigned, Represents, count_on}
+use Rattle.round_arena.specs.Plan.{IsPair, count_on}
 use Rattle.round_arena.specs.Round.{entries_of, function_at}
 use Rattle.round_arena.specs.Round as round
 use Rattle.round_arena.proofs.Lists.{order-size}

@@ -1,4 +1,4 @@
-use Rattle.std.proofs.Common.{◌≡◌, ℕ, ◌+◌, ◌-◌, ◌<◌, ◌≤◌, length, get_or, arith, ap}
+use Rattle.std.proofs.Common.{◌≡◌, ℕ, ◌+◌, ◌-◌, ◌<◌, length, get_or, arith, ap}
 use Rattle.round_arena.specs.Plan.{count_on}
 use Rattle.augment.specs.Moves.{GainsOne}
 use Rattle.augment.proofs.Gains.{IsServing-gains, IsServing-all, looks-le, GainsOne-root, order-below}

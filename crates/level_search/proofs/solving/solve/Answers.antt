@@ -1,4 +1,4 @@
-use Rattle.std.proofs.Common.{ap, arith}
+use Rattle.std.proofs.Common.{arith}
 use Rattle.std.proofs.lemmas.Option.{IfSome_then}
 use Rattle.level_search.proofs.Looks.{looks-few, looks-start, pairs-same}
 use Rattle.level_search.proofs.Keeping.{steady-kept}
