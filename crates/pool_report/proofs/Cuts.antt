@@ -32,7 +32,7 @@ rest_taken n text = take_all _ (drop n text) (omega (arith, length-drop n text))
 pub own : IsNumeralModel (λ ds. all_ascii_digits ds ≡ true) (digits_value 10)
 own = numerals_by_value _ tells_all_ascii_digits
 
-digits_same : (bs : List ℕ) → list_all is_ascii_digit bs ≡ all_ascii_digits bs
+pub digits_same : (bs : List ℕ) → list_all is_ascii_digit bs ≡ all_ascii_digits bs
 digits_same [] = refl
 digits_same (b ∷ bs) = ap (λ t. is_ascii_digit b && t) (digits_same bs)
 

@@ -7,3 +7,4 @@ pub mod Reading
 pub mod Drafts
 pub mod Answered
 pub mod Refusal
+pub mod Law

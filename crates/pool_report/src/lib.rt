@@ -32,6 +32,7 @@
 
 mod draft;
 mod error;
+mod law;
 mod line;
 mod lines;
 mod reader;
@@ -41,5 +42,6 @@ mod stage;
 mod tests;
 
 pub use error::{ReadError, WriteError};
+pub use law::lines_read_back;
 pub use reader::read;
 pub use report::{report_text, write};

@@ -1,0 +1,32 @@
+-- Each line that a report may have is read as what it tells.
+use Rattle.std.specs.Prelude.{◌≡◌, ◌≢◌, ℕ, ◌<◌, ◌^◌, List, Option, None, Some, Bool, not, ◌==◌, IsTrue, codes}
+use Rattle.std.specs.List.{list_all}
+use Rattle.pool_settings.specs.Names.{is_machine_name, is_name}
+use Rattle.pool_report.specs.Lines.{Line, head, backlog, no_plan, task, short, needed, stranded, last, line_of}
+use Rattle.pool_report.specs.Report.{Needed, Stranded, Worker, backlog_line, ended, needed_line, short_line, stranded_line, worker_line, worker_name}
+
+-- no byte of it is a line feed
+abbrev pub is_one_line : List ℕ → Bool
+is_one_line line = list_all (λ b. not (b == 10)) line
+
+-- The text is one line with its line feed, and tells this.
+abbrev pub Tells : List ℕ → Line → Type 0
+Tells text told = (line : List ℕ) × (text ≡ ended line) × IsTrue (is_one_line line) × (line_of line ≡ Some told)
+
+abbrev pub HasName : Option (List ℕ) → Type 0
+HasName None = Unit {0}
+HasName (Some name) = IsTrue (is_name name)
+
+-- The worker and its function have names and a number that settings can give them.
+abbrev pub IsNamed : Worker → Type 0
+IsNamed w = IsTrue (is_machine_name w.machine) × (w.number < 2 ^ 64) × HasName w.function
+
+pub record AreLinesRead : Type 0 where
+  pub first : Tells (ended (codes "report 1")) head
+  pub counts : (k : ℕ) → k < 2 ^ 33 → k ≢ 2 ^ 32 → Tells (backlog_line k) (backlog k)
+  pub none : Tells (ended (codes "noplan")) no_plan
+  pub workers : (w : Worker) → IsNamed w → Tells (worker_line w) (task (worker_name w) w.function)
+  pub sums : (need have : ℕ) → need < 2 ^ 64 → have < 2 ^ 64 → Tells (short_line need have) short
+  pub needs : (n : Needed) → IsTrue (is_name n.function) → n.need < 2 ^ 32 → Tells (needed_line n) (needed n.function)
+  pub leftovers : (s : Stranded) → IsTrue (is_name s.function) → s.waiting < 2 ^ 32 → Tells (stranded_line s) (stranded s.function)
+  pub end : Tells (ended (codes "end")) last
