@@ -1,5 +1,5 @@
 -- How a command ends, by the faults on its way.
-use Rattle.std.proofs.Common.{◌≡◌, ℕ, List, Option, Ok, Err, refl}
+use Rattle.std.proofs.Common.{◌≡◌, ℕ, Bool, List, Option, Ok, Err, refl}
 use Rattle.plan_model.specs.Planning.{Instance}
 use Rattle.plan_model.specs.Shown.{Shown}
 use Rattle.plan_model.specs.declared.answer.Answer.{Answer}
@@ -23,36 +23,36 @@ unwritten p i answer old new (write.WriteFault count) shown wrote = (answer, cou
 unwritten p i answer old new write.Memory shown wrote = wrote
 
 -- there is no problem
-pub no_problem : (settings : List ℕ) (lost : List (List ℕ)) (bytes : List ℕ) (lulls failures : ℕ) (old : Option (List ℕ)) (f : Fault)
-    → Poses settings lost bytes lulls failures (Err f) → Plans settings lost bytes lulls failures old old (status_of f) (Some f)
-no_problem settings lost bytes lulls failures old fault.Memory posed = (refl, refl)
-no_problem settings lost bytes lulls failures old fault.ReadFault posed = (posed, refl, refl)
-no_problem settings lost bytes lulls failures old fault.WriteFault posed = absurd posed
-no_problem settings lost bytes lulls failures old fault.UnknownWorker posed = (posed, refl, refl)
-no_problem settings lost bytes lulls failures old fault.TooLong posed = (posed, refl, refl)
-no_problem settings lost bytes lulls failures old fault.NoFile posed = (posed, refl, refl)
-no_problem settings lost bytes lulls failures old (fault.Settings e) posed = (posed, refl, refl)
-no_problem settings lost bytes lulls failures old (fault.Status e) posed = (posed, refl, refl)
-no_problem settings lost bytes lulls failures old (fault.Report e) posed = (posed, refl, refl)
+pub no_problem : (settings : List ℕ) (lost : List (List ℕ)) (bytes : List ℕ) (lulls failures : ℕ) (ended : Bool) (old : Option (List ℕ)) (f : Fault)
+    → Poses settings lost bytes lulls failures ended (Err f) → Plans settings lost bytes lulls failures ended old old (status_of f) (Some f)
+no_problem settings lost bytes lulls failures ended old fault.Memory posed = (refl, refl)
+no_problem settings lost bytes lulls failures ended old fault.ReadFault posed = (posed, refl, refl)
+no_problem settings lost bytes lulls failures ended old fault.WriteFault posed = absurd posed
+no_problem settings lost bytes lulls failures ended old fault.UnknownWorker posed = (posed, refl, refl)
+no_problem settings lost bytes lulls failures ended old fault.TooLong posed = (posed, refl, refl)
+no_problem settings lost bytes lulls failures ended old fault.NoFile posed = (posed, refl, refl)
+no_problem settings lost bytes lulls failures ended old (fault.Settings e) posed = (posed, refl, refl)
+no_problem settings lost bytes lulls failures ended old (fault.Status e) posed = (posed.0, posed.1, refl, refl)
+no_problem settings lost bytes lulls failures ended old (fault.Report e) posed = (posed, refl, refl)
 
 -- a problem is posed, and its report was written
-pub reported : (settings : List ℕ) (lost : List (List ℕ)) (bytes : List ℕ) (lulls failures : ℕ) (old new : Option (List ℕ)) (p : Profile) (i : Instance)
+pub reported : (settings : List ℕ) (lost : List (List ℕ)) (bytes : List ℕ) (lulls failures : ℕ) (ended : Bool) (old new : Option (List ℕ)) (p : Profile) (i : Instance)
     → problem settings lost bytes ≡ Ok (record { profile = p; input = i })
-    → (status : ℕ) → Ends p i old new (Ok status) → Plans settings lost bytes lulls failures old new status None
-reported settings lost bytes lulls failures old new p i posed status ends =
+    → (status : ℕ) → Ends p i old new (Ok status) → Plans settings lost bytes lulls failures ended old new status None
+reported settings lost bytes lulls failures ended old new p i posed status ends =
     (record { profile = p; input = i }, ends.0, posed, ends.1, ends.2)
 
 -- and was not
-pub unreported : (settings : List ℕ) (lost : List (List ℕ)) (bytes : List ℕ) (lulls failures : ℕ) (old new : Option (List ℕ)) (p : Profile) (i : Instance)
+pub unreported : (settings : List ℕ) (lost : List (List ℕ)) (bytes : List ℕ) (lulls failures : ℕ) (ended : Bool) (old new : Option (List ℕ)) (p : Profile) (i : Instance)
     → problem settings lost bytes ≡ Ok (record { profile = p; input = i })
-    → (f : Fault) → Ends p i old new (Err f) → Plans settings lost bytes lulls failures old new (status_of f) (Some f)
-unreported settings lost bytes lulls failures old new p i posed fault.WriteFault ends =
+    → (f : Fault) → Ends p i old new (Err f) → Plans settings lost bytes lulls failures ended old new (status_of f) (Some f)
+unreported settings lost bytes lulls failures ended old new p i posed fault.WriteFault ends =
     (record { profile = p; input = i }, ends.0, ends.1, posed, ends.2, refl)
-unreported settings lost bytes lulls failures old new p i posed fault.Memory ends = (ends, refl)
-unreported settings lost bytes lulls failures old new p i posed fault.ReadFault ends = absurd ends
-unreported settings lost bytes lulls failures old new p i posed fault.UnknownWorker ends = absurd ends
-unreported settings lost bytes lulls failures old new p i posed fault.TooLong ends = absurd ends
-unreported settings lost bytes lulls failures old new p i posed fault.NoFile ends = absurd ends
-unreported settings lost bytes lulls failures old new p i posed (fault.Settings e) ends = absurd ends
-unreported settings lost bytes lulls failures old new p i posed (fault.Status e) ends = absurd ends
-unreported settings lost bytes lulls failures old new p i posed (fault.Report e) ends = absurd ends
+unreported settings lost bytes lulls failures ended old new p i posed fault.Memory ends = (ends, refl)
+unreported settings lost bytes lulls failures ended old new p i posed fault.ReadFault ends = absurd ends
+unreported settings lost bytes lulls failures ended old new p i posed fault.UnknownWorker ends = absurd ends
+unreported settings lost bytes lulls failures ended old new p i posed fault.TooLong ends = absurd ends
+unreported settings lost bytes lulls failures ended old new p i posed fault.NoFile ends = absurd ends
+unreported settings lost bytes lulls failures ended old new p i posed (fault.Settings e) ends = absurd ends
+unreported settings lost bytes lulls failures ended old new p i posed (fault.Status e) ends = absurd ends
+unreported settings lost bytes lulls failures ended old new p i posed (fault.Report e) ends = absurd ends

@@ -1,5 +1,5 @@
 -- Why there is no problem, by the fault of each text.
-use Rattle.std.proofs.Common.{◌≡◌, ◌≢◌, ℕ, List, [], Ok, Err, false, refl}
+use Rattle.std.proofs.Common.{◌≡◌, ◌≢◌, ℕ, Bool, List, [], Ok, Err, false, refl}
 use Rattle.pool_settings.specs.Reading.{reading}
 use Rattle.pool_settings.specs.declared.error.SettingsError.{SettingsError}
 use Rattle.pool_settings.specs.declared.error.SettingsError.TheVariants as settings
@@ -11,28 +11,28 @@ use Rattle.poolman.specs.declared.fault.Fault.{Fault}
 use Rattle.poolman.specs.declared.fault.Fault.TheVariants as fault
 
 -- nothing is taken where the settings are refused
-pub settings_refused : (bytes : List ℕ) (lost : List (List ℕ)) (e : SettingsError) → (e ≢ settings.Memory → reading bytes ≡ Err e)
-    → Poses bytes lost [] 0 0 (Err (settings_fault e))
-settings_refused bytes lost settings.Memory due = tt
-settings_refused bytes lost settings.Text due = rw (due (λ p. cc)) refl
-settings_refused bytes lost settings.Version due = rw (due (λ p. cc)) refl
-settings_refused bytes lost settings.UnknownKey due = rw (due (λ p. cc)) refl
-settings_refused bytes lost settings.MissingKey due = rw (due (λ p. cc)) refl
-settings_refused bytes lost settings.BadName due = rw (due (λ p. cc)) refl
-settings_refused bytes lost settings.BadValue due = rw (due (λ p. cc)) refl
-settings_refused bytes lost settings.UnknownFunction due = rw (due (λ p. cc)) refl
-settings_refused bytes lost settings.TooMany due = rw (due (λ p. cc)) refl
+pub settings_refused : (bytes : List ℕ) (lost : List (List ℕ)) (ended : Bool) (e : SettingsError) → (e ≢ settings.Memory → reading bytes ≡ Err e)
+    → Poses bytes lost [] 0 0 ended (Err (settings_fault e))
+settings_refused bytes lost ended settings.Memory due = tt
+settings_refused bytes lost ended settings.Text due = rw (due (λ p. cc)) refl
+settings_refused bytes lost ended settings.Version due = rw (due (λ p. cc)) refl
+settings_refused bytes lost ended settings.UnknownKey due = rw (due (λ p. cc)) refl
+settings_refused bytes lost ended settings.MissingKey due = rw (due (λ p. cc)) refl
+settings_refused bytes lost ended settings.BadName due = rw (due (λ p. cc)) refl
+settings_refused bytes lost ended settings.BadValue due = rw (due (λ p. cc)) refl
+settings_refused bytes lost ended settings.UnknownFunction due = rw (due (λ p. cc)) refl
+settings_refused bytes lost ended settings.TooMany due = rw (due (λ p. cc)) refl
 
 -- nor where a lost worker is unknown
-pub lost_refused : (bytes : List ℕ) (lost : List (List ℕ)) (p : Profile) (f : Fault) → reading bytes ≡ Ok p
+pub lost_refused : (bytes : List ℕ) (lost : List (List ℕ)) (ended : Bool) (p : Profile) (f : Fault) → reading bytes ≡ Ok p
     → (f ≢ fault.Memory → (f ≡ fault.UnknownWorker) × (are_workers p lost ≡ false))
-    → Poses bytes lost [] 0 0 (Err f)
-lost_refused bytes lost p fault.Memory good due = tt
-lost_refused bytes lost p fault.UnknownWorker good due = rw (good, (due (λ q. cc)).1) refl
-lost_refused bytes lost p fault.ReadFault good due = (let other = (due (λ q. cc)).0 in cc)
-lost_refused bytes lost p fault.TooLong good due = (let other = (due (λ q. cc)).0 in cc)
-lost_refused bytes lost p fault.WriteFault good due = (let other = (due (λ q. cc)).0 in cc)
-lost_refused bytes lost p fault.NoFile good due = (let other = (due (λ q. cc)).0 in cc)
-lost_refused bytes lost p (fault.Settings e) good due = (let other = (due (λ q. cc)).0 in cc)
-lost_refused bytes lost p (fault.Status e) good due = (let other = (due (λ q. cc)).0 in cc)
-lost_refused bytes lost p (fault.Report e) good due = (let other = (due (λ q. cc)).0 in cc)
+    → Poses bytes lost [] 0 0 ended (Err f)
+lost_refused bytes lost ended p fault.Memory good due = tt
+lost_refused bytes lost ended p fault.UnknownWorker good due = rw (good, (due (λ q. cc)).1) refl
+lost_refused bytes lost ended p fault.ReadFault good due = (let other = (due (λ q. cc)).0 in cc)
+lost_refused bytes lost ended p fault.TooLong good due = (let other = (due (λ q. cc)).0 in cc)
+lost_refused bytes lost ended p fault.WriteFault good due = (let other = (due (λ q. cc)).0 in cc)
+lost_refused bytes lost ended p fault.NoFile good due = (let other = (due (λ q. cc)).0 in cc)
+lost_refused bytes lost ended p (fault.Settings e) good due = (let other = (due (λ q. cc)).0 in cc)
+lost_refused bytes lost ended p (fault.Status e) good due = (let other = (due (λ q. cc)).0 in cc)
+lost_refused bytes lost ended p (fault.Report e) good due = (let other = (due (λ q. cc)).0 in cc)

@@ -1,6 +1,7 @@
 -- What `plan` writes, and how it ends.
-use Rattle.std.specs.Prelude.{◌≡◌, ℕ, List, take, Option, None, Some, Result, Ok, Err}
+use Rattle.std.specs.Prelude.{◌≡◌, ℕ, Bool, true, List, take, Option, None, Some, Result, Ok, Err}
 use Rattle.gear_status.specs.Device.{and_then}
+use Rattle.gear_status.specs.declared.error.StatusError.TheVariants.{Truncated}
 use Rattle.plan_model.specs.Planning.{Instance}
 use Rattle.plan_model.specs.Shown.{Shown}
 use Rattle.plan_model.specs.declared.answer.Answer.{Answer}
@@ -32,15 +33,17 @@ Ends p i old new (Err fault.Memory) = new ≡ old
 Ends p i old new (Err other) = ⊥
 
 -- What a sink has got that had `old` before, and with which status `plan` ends, for each fault and for none
-abbrev pub Plans : List ℕ → List (List ℕ) → List ℕ → ℕ → ℕ → Option (List ℕ) → Option (List ℕ) → ℕ → Option Fault → Type 0
-Plans settings lost bytes lulls failures old new status None =
+abbrev pub Plans : List ℕ → List (List ℕ) → List ℕ → ℕ → ℕ → Bool → Option (List ℕ) → Option (List ℕ) → ℕ → Option Fault → Type 0
+Plans settings lost bytes lulls failures ended old new status None =
     (p : Problem) × (answer : Answer) × (problem settings lost bytes ≡ Ok p)
     × Reports p answer (λ text. text) old new × (status ≡ status_with answer)
-Plans settings lost bytes lulls failures old new status (Some fault.WriteFault) =
+Plans settings lost bytes lulls failures ended old new status (Some fault.WriteFault) =
     (p : Problem) × (answer : Answer) × (count : ℕ) × (problem settings lost bytes ≡ Ok p)
     × Reports p answer (take count) old new × (status ≡ 4)
-Plans settings lost bytes lulls failures old new status (Some fault.ReadFault) =
+Plans settings lost bytes lulls failures ended old new status (Some fault.ReadFault) =
     IsReadFault bytes lulls failures × (new ≡ old) × (status ≡ 4)
-Plans settings lost bytes lulls failures old new status (Some fault.Memory) = (new ≡ old) × (status ≡ 4)
-Plans settings lost bytes lulls failures old new status (Some f) =
+Plans settings lost bytes lulls failures ended old new status (Some fault.Memory) = (new ≡ old) × (status ≡ 4)
+Plans settings lost bytes lulls failures ended old new status (Some (fault.Status e)) =
+    (problem settings lost bytes ≡ Err (fault.Status e)) × (e ≡ Truncated → ended ≡ true) × (new ≡ old) × (status ≡ 3)
+Plans settings lost bytes lulls failures ended old new status (Some f) =
     (problem settings lost bytes ≡ Err f) × (new ≡ old) × (status ≡ status_of f)

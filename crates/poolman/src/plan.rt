@@ -65,7 +65,7 @@ pub fn plan_text<R: Source, S: Sink>(
         × (R.given source.new ≡ and_then (R.given source.old) bytes)
         × (R.lulls source.new ≡ counted (R.lulls source.old) lulls)
         × (R.failures source.new ≡ R.failures source.old + failures)
-        × Plans settings.now (map (λ w. w.now) lost.now) bytes lulls failures (S.got sink.old) (S.got sink.new) result.status result.fault }
+        × Plans settings.now (map (λ w. w.now) lost.now) bytes lulls failures (R.has_ended source.new) (S.got sink.old) (S.got sink.new) result.status result.fault }
 {
     let problem = match pose(alloc, settings, lost, source) {
         Ok(problem) => problem,

@@ -55,7 +55,7 @@ fn read_load<S: Source>(alloc: Global, source: &mut S) -> Result<Load, Fault>
         × (S.given source.new ≡ and_then (S.given source.old) bytes)
         × (S.lulls source.new ≡ counted (S.lulls source.old) lulls)
         × (S.failures source.new ≡ S.failures source.old + failures)
-        × Loads bytes lulls failures result }
+        × Loads bytes lulls failures (S.has_ended source.new) result }
 {
     match read_status_within(alloc, source, LIMIT) {
         Ok(Some(load)) => Ok(load),
@@ -89,7 +89,7 @@ pub fn pose<S: Source>(
         × (S.given source.new ≡ and_then (S.given source.old) bytes)
         × (S.lulls source.new ≡ counted (S.lulls source.old) lulls)
         × (S.failures source.new ≡ S.failures source.old + failures)
-        × Poses settings.now (map (λ w. w.now) lost.now) bytes lulls failures result }
+        × Poses settings.now (map (λ w. w.now) lost.now) bytes lulls failures (S.has_ended source.new) result }
     ensures of_these { IfOk result (λ p. p.input.may ≡ p.settings.may) }
 {
     let settings = Settings::read(alloc, settings)?;

@@ -19,7 +19,9 @@ functions = [\"x\"]
 workers = 1
 functions = [\"x\", \"y\"]
 ";
+
 const TWO_STATUS: &[u8] = b"x\t6\t0\t2\ny\t2\t0\t1\n.\n";
+
 const TWO_REPORT: &[u8] = b"report 1
 backlog 6
 work a/0 x
@@ -36,6 +38,7 @@ const PAIR: &[u8] = b"version = 1
 workers = 2
 functions = [\"x\"]
 ";
+
 const PAIR_NINE: &[u8] = b"report 1
 backlog 5
 work a/0 x
@@ -44,6 +47,7 @@ short need 3 have 2
 in x need 3
 end
 ";
+
 const PAIR_ONE: &[u8] = b"report 1
 backlog 1
 work a/0 x
@@ -52,6 +56,7 @@ short need 3 have 2
 in x need 3
 end
 ";
+
 const PAIR_NONE: &[u8] = b"report 1
 backlog 0
 work a/0 x
@@ -65,7 +70,9 @@ const ONE: &[u8] = b"version = 1
 workers = 1
 functions = [\"x\"]
 ";
+
 const ONE_LOST: &[u8] = b"report 1\nbacklog 0\nstranded x 7\nend\n";
+
 const ONE_BIG: &[u8] = b"report 1
 backlog 4294967295
 work a/0 x
@@ -73,6 +80,7 @@ short need 2 have 1
 in x need 2
 end
 ";
+
 const WANTED: &[u8] = b"version = 1
 [functions.x]
 least = 1
@@ -80,6 +88,7 @@ least = 1
 workers = 1
 functions = [\"x\"]
 ";
+
 const WANTED_LOST: &[u8] = b"report 1
 noplan
 short need 1 have 0
@@ -95,6 +104,7 @@ const BOTH: &[u8] = b"version = 1
 workers = 1
 functions = [\"x\", \"y\"]
 ";
+
 const BOTH_Y: &[u8] = b"report 1
 unserved 3
 work a/0 y
@@ -103,6 +113,7 @@ in x need 1
 in y need 1
 end
 ";
+
 const BOTH_X: &[u8] = b"report 1
 unserved 3
 work a/0 x
@@ -122,6 +133,7 @@ functions = [\"x\"]
 workers = 3
 functions = [\"y\"]
 ";
+
 const APART_REPORT: &[u8] = b"report 1
 backlog 8
 work a/0 x
@@ -132,6 +144,7 @@ short need 2 have 1
 in x need 2
 end
 ";
+
 const APART_IDLE: &[u8] = b"report 1
 backlog 8
 work a/0 x
@@ -150,6 +163,7 @@ const THREE: &[u8] = b"version = 1
 workers = 3
 functions = [\"x\", \"y\"]
 ";
+
 const THREE_LEAST: &[u8] = b"version = 1
 [functions.x]
 [functions.y]
@@ -158,7 +172,9 @@ least = 2
 workers = 3
 functions = [\"x\", \"y\"]
 ";
+
 const THREE_STATUS: &[u8] = b"x\t10\t0\t3\ny\t4\t0\t3\n.\n";
+
 const THREE_REPORT: &[u8] = b"report 1
 backlog 5
 work a/0 x
@@ -201,13 +217,7 @@ fn plans(
 }
 
 /// Whether `plan` meets this fault and writes nothing.
-fn plan_meets(
-    alloc: Global,
-    settings: &[u8],
-    lost: &[&str],
-    status: &[u8],
-    fault: Fault,
-) -> bool {
+fn plan_meets(alloc: Global, settings: &[u8], lost: &[&str], status: &[u8], fault: Fault) -> bool {
     let Ok((exit, sink)) = plan(alloc, settings, lost, status) else {
         return false;
     };
@@ -266,7 +276,16 @@ fn reports_of_plans(rt: HostRuntime) {
     assert!(rt; plans(alloc, WANTED, &["a/0"], b"x\t7\t0\t0\n.\n", WANTED_LOST, 1));
     assert!(rt; plans(alloc, BOTH, &[], b"x\t3\t0\t0\ny\t7\t0\t0\n.\n", BOTH_Y, 0));
     assert!(rt; plans(alloc, BOTH, &[], b"x\t7\t0\t0\ny\t3\t0\t0\n.\n", BOTH_X, 0));
-    assert!(rt; plans(alloc, APART, &[], b"x\t8\t0\t0\ny\t3\t0\t0\n.\n", APART_REPORT, 0));
+    assert!(rt;
+        plans(
+            alloc,
+            APART,
+            &[],
+            b"x\t8\t0\t0\ny\t3\t0\t0\n.\n",
+            APART_REPORT,
+            0
+        )
+    );
     assert!(rt; plans(alloc, ONE, &[], b"x\t4294967295\t0\t0\n.\n", ONE_BIG, 0));
 }
 
@@ -274,7 +293,9 @@ fn reports_of_plans(rt: HostRuntime) {
 fn workers_on_x(alloc: Global, settings: &[u8], second: &[u8]) -> Option<usize> {
     let (exit, sink) = plan(alloc, settings, &[], THREE_STATUS).ok()?;
     let report = sink.output();
-    if exit != Exit::answered(0) || !checks(alloc, settings, &[], THREE_STATUS, report, b"shown\n") {
+    if exit != Exit::answered(0)
+        || !checks(alloc, settings, &[], THREE_STATUS, report, b"shown\n")
+    {
         return None;
     }
     if !report.starts_with(b"report 1\n") || !report[9..].starts_with(second) {
@@ -299,7 +320,15 @@ fn counts_where_the_worker_is_free(rt: HostRuntime) {
 fn faults_of_plans(rt: HostRuntime) {
     let alloc = rt.alloc();
     let unknown = Fault::UnknownWorker;
-    assert!(rt; plan_meets(alloc, b"", &["c/0"], b"", Fault::Settings(SettingsError::Version)));
+    assert!(rt;
+        plan_meets(
+            alloc,
+            b"",
+            &["c/0"],
+            b"",
+            Fault::Settings(SettingsError::Version)
+        )
+    );
     assert!(rt; plan_meets(alloc, TWO, &["c/0"], b"", unknown));
     assert!(rt; plan_meets(alloc, TWO, &["a/00"], TWO_STATUS, unknown));
     let bad = Fault::Status(StatusError::BadLine(1));
@@ -308,7 +337,9 @@ fn faults_of_plans(rt: HostRuntime) {
     assert!(rt; plan_meets(alloc, TWO, &[], b"x\t6\t0\t2\n", cut));
     let twice = plan(alloc, TWO, &["b/0", "b/0"], TWO_STATUS);
     let once = plan(alloc, TWO, &["b/0"], TWO_STATUS);
-    assert!(rt; matches!((&twice, &once), (Ok(a), Ok(b)) if a.0 == b.0 && a.1.output() == b.1.output()));
+    assert!(rt;
+        matches!((&twice, &once), (Ok(a), Ok(b)) if a.0 == b.0 && a.1.output() == b.1.output())
+    );
 }
 
 /// The exit of `plan` on the first example's status text after so many lulls.
@@ -336,7 +367,9 @@ fn fails_at(alloc: Global, call: u64) -> bool {
 fn devices_that_fail(rt: HostRuntime) {
     let alloc = rt.alloc();
     assert!(rt; matches!(plan_after(alloc, 64), Ok(exit) if exit == Exit::answered(0)));
-    assert!(rt; matches!(plan_after(alloc, 65), Ok(exit) if exit == Exit::refused(Fault::ReadFault)));
+    assert!(rt;
+        matches!(plan_after(alloc, 65), Ok(exit) if exit == Exit::refused(Fault::ReadFault))
+    );
     assert!(rt; (1..=TWO_REPORT.len() as u64).all(|call| fails_at(alloc, call)));
 }
 
@@ -349,7 +382,16 @@ fn verdicts_on_reports(rt: HostRuntime) {
     assert!(rt; says(alloc, 41, 44, b"", b"not shown 5 SetMissing\n"));
     assert!(rt; says(alloc, 52, 1, b"4", b"not shown 7 Text\n"));
     let idle = b"not shown 6 Idle\n";
-    assert!(rt; checks(alloc, APART, &[], b"x\t8\t0\t0\ny\t3\t0\t0\n.\n", APART_IDLE, idle));
+    assert!(rt;
+        checks(
+            alloc,
+            APART,
+            &[],
+            b"x\t8\t0\t0\ny\t3\t0\t0\n.\n",
+            APART_IDLE,
+            idle
+        )
+    );
     let least = b"not shown 2 BelowLeast\n";
     assert!(rt; checks(alloc, THREE_LEAST, &[], THREE_STATUS, THREE_REPORT, least));
 }

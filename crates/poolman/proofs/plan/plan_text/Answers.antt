@@ -11,7 +11,7 @@ returns-in-Err g c =
       told.3,
       told.4,
       told.5,
-      rw c.refused.ensures (no_problem c.args.settings.now (map (λ w. w.now) c.args.lost.now) told.0 told.1 told.2 (g.S.Sink.got c.args.sink.now) c.in-Err.fault told.6),
+      rw c.refused.ensures (no_problem c.args.settings.now (map (λ w. w.now) c.args.lost.now) told.0 told.1 told.2 (g.R.Source.has_ended c.pose.new.source) (g.S.Sink.got c.args.sink.now) c.in-Err.fault told.6),
     )
 
 pub returns : goal.returns
@@ -23,7 +23,7 @@ returns g c =
       told.3,
       told.4,
       told.5,
-      rw c.refused-in-Err-report.ensures (unreported c.args.settings.now (map (λ w. w.now) c.args.lost.now) told.0 told.1 told.2 (g.S.Sink.got c.args.sink.now)
+      rw c.refused-in-Err-report.ensures (unreported c.args.settings.now (map (λ w. w.now) c.args.lost.now) told.0 told.1 told.2 (g.R.Source.has_ended c.pose.new.source) (g.S.Sink.got c.args.sink.now)
           (g.S.Sink.got c.report.new.sink) c.in-Ok.problem.settings c.in-Ok.problem.input told.6 c.in-Err-report.fault c.in-Err-report.ensures),
     )
 
@@ -36,6 +36,6 @@ returns-in-Ok-report g c =
       told.3,
       told.4,
       told.5,
-      rw c.answered.ensures (reported c.args.settings.now (map (λ w. w.now) c.args.lost.now) told.0 told.1 told.2 (g.S.Sink.got c.args.sink.now)
+      rw c.answered.ensures (reported c.args.settings.now (map (λ w. w.now) c.args.lost.now) told.0 told.1 told.2 (g.R.Source.has_ended c.pose.new.source) (g.S.Sink.got c.args.sink.now)
           (g.S.Sink.got c.report.new.sink) c.in-Ok.problem.settings c.in-Ok.problem.input told.6 c.in-Ok-report.status c.in-Ok-report.ensures),
     )

@@ -13,7 +13,7 @@ returns-in_err-settings-clause-posed g c =
       told_nothing (g.S.Source.given c.args.source.now),
       counted_nothing (g.S.Source.lulls c.args.source.now),
       omega arith,
-      rw (p.1, p.2) (settings_refused c.args.settings.now (map (λ w. w.now) c.args.lost.now) c.in_err-settings.field-0.0 c.in_err-settings.ensures.refused),
+      rw (p.1, p.2) (settings_refused c.args.settings.now (map (λ w. w.now) c.args.lost.now) (g.S.Source.has_ended c.args.source.now) c.in_err-settings.field-0.0 c.in_err-settings.ensures.refused),
     )
 
 pub returns-in_err-live-clause-posed : goal.returns-in_err-live-clause-posed
@@ -25,7 +25,7 @@ returns-in_err-live-clause-posed g c =
       told_nothing (g.S.Source.given c.args.source.now),
       counted_nothing (g.S.Source.lulls c.args.source.now),
       omega arith,
-      rw (p.1, p.2) (lost_refused c.args.settings.now (map (λ w. w.now) c.args.lost.now) c.in_ok-settings.settings c.in_err-live.field-0.0
+      rw (p.1, p.2) (lost_refused c.args.settings.now (map (λ w. w.now) c.args.lost.now) (g.S.Source.has_ended c.args.source.now) c.in_ok-settings.settings c.in_err-live.field-0.0
           c.in_ok-settings.ensures.ok c.in_err-live.ensures.unknown),
     )
 
