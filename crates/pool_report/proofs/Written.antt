@@ -40,10 +40,10 @@ starts_well (suc n) small =
     let other : eqb (get_or (decimal (suc n)) 0 0) 48 ≡ false = ne_eqb (get_or (decimal (suc n)) 0 0) 48 (λ e. omega (arith, e, first)) in
     rw other refl
 
-digits : (n : ℕ) → n < 2 ^ 64 → list_all is_ascii_digit (decimal n) ≡ true
+pub digits : (n : ℕ) → n < 2 ^ 64 → list_all is_ascii_digit (decimal n) ≡ true
 digits n small = digits_same (decimal n) ∙ digits_decimal own n small
 
-plain : (n : ℕ) → n < 2 ^ 64 → is_plain (decimal n) ≡ true
+pub plain : (n : ℕ) → n < 2 ^ 64 → is_plain (decimal n) ≡ true
 plain n small = and_from (ltb 0 (length (decimal n))) _ (lt-ltb 0 _ (decimal_nonempty n small)) (and_from (list_all is_ascii_digit (decimal n)) _ (digits n small) (starts_well n small))
 
 written : (bound n : ℕ) → n < bound → n < 2 ^ 64 → number_below bound (decimal n) ≡ Some n

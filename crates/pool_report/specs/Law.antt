@@ -1,7 +1,11 @@
--- Each line that a report may have is read as what it tells.
-use Rattle.std.specs.Prelude.{◌≡◌, ◌≢◌, ℕ, ◌<◌, ◌^◌, List, Option, None, Some, Bool, not, ◌==◌, IsTrue, codes}
+-- Each line and each name that a report may have is read as what it tells.
+use Rattle.std.specs.Prelude.{◌≡◌, ◌≢◌, ℕ, ◌<◌, ◌^◌, List, Option, None, Some, Bool, not, ◌==◌, IsTrue, codes, length}
 use Rattle.std.specs.List.{list_all}
-use Rattle.pool_settings.specs.Names.{is_machine_name, is_name}
+use Rattle.pool_settings.specs.Names.{is_machine_name, is_name, name_at, place_of}
+use Rattle.pool_settings.specs.Profile.{Profile}
+use Rattle.pool_settings.specs.Slots.{machine_of, slot_named, slots}
+use Rattle.plan_model.specs.Planning.{Assignment}
+use Rattle.pool_report.specs.Answered.{worker_in}
 use Rattle.pool_report.specs.Lines.{Line, head, backlog, no_plan, task, short, needed, stranded, last, line_of}
 use Rattle.pool_report.specs.Report.{Needed, Stranded, Worker, backlog_line, ended, needed_line, short_line, stranded_line, worker_line, worker_name}
 
@@ -30,3 +34,9 @@ pub record AreLinesRead : Type 0 where
   pub needs : (n : Needed) → IsTrue (is_name n.function) → n.need < 2 ^ 32 → Tells (needed_line n) (needed n.function)
   pub leftovers : (s : Stranded) → IsTrue (is_name s.function) → s.waiting < 2 ^ 32 → Tells (stranded_line s) (stranded s.function)
   pub end : Tells (ended (codes "end")) last
+
+-- Each name that a report writes is found again as what it names.
+pub record AreNamesFound (p : Profile) : Type 0 where
+  pub functions : (f : ℕ) → f < length p.functions → place_of p.functions (name_at p.functions f) ≡ Some f
+  pub workers : (plan : Assignment) (slot : ℕ) → slot < slots p
+      → slot_named p (worker_name (worker_in p plan (slot, machine_of p slot))) ≡ Some slot
