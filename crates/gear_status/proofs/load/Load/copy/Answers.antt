@@ -1,4 +1,4 @@
-use Rattle.std.proofs.Common.{◌≡◌, ◌∙◌}
+use Rattle.std.proofs.Common.{◌∙◌}
 use Rattle.gear_status.proofs.Lines.{lines_view-clone}
 use Rattle.gear_status.proofs.load.Load.copy.Goals as goal
 

@@ -1,4 +1,4 @@
-use Rattle.std.proofs.Common.{rules, ◌≡◌, ◌≤◌, ◌-◌, ◌+◌, ◌++◌, ℕ, List, Some, ap, arith, drop, length, length-take, min, sym, take, ◌∙◌}
+use Rattle.std.proofs.Common.{◌≤◌, ◌-◌, ◌+◌, ℕ, List, Some, ap, arith, drop, length-take, take, ◌∙◌}
 use Rattle.gear_status.proofs.Devices.{moves_on}
 use Rattle.gear_status.proofs.script.ScriptSource.take.Goals as goal
 
