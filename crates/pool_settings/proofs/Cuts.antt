@@ -1,6 +1,6 @@
 -- A worker's name, cut at its last slash.
-use Rattle.std.proofs.Common.{◌≡◌, ℕ, ◌+◌, ◌-◌, ◌<◌, ◌≤◌, List, Bool, true, false, not, Option, Some, None, suc, zero, get_or, length, take, drop, length-drop, refl, ap, ◌∙◌, sym, arith}
-use Rattle.std.specs.List.{list_any, suffix_len, before_last, after_last}
+use Rattle.std.proofs.Common.{◌≡◌, ℕ, ◌+◌, ◌-◌, ◌<◌, ◌≤◌, List, true, false, not, Some, None, get_or, length, take, drop, length-drop, ap, arith}
+use Rattle.std.specs.List.{list_any, suffix_len}
 use Rattle.std.proofs.lemmas.Bool.Decides.{nat_tests}
 use Rattle.std.proofs.lemmas.List.{take_all}
 use Rattle.std.proofs.lemmas.List.Elements.{All-from_get_or}

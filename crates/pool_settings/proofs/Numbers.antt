@@ -1,5 +1,5 @@
 -- Plain digits, and what they are read as.
-use Rattle.std.proofs.Common.{◌≡◌, ◌≢◌, ℕ, ◌<◌, ◌^◌, List, [], ◌∷◌, Bool, true, false, Option, Some, None, Result, Ok, Err, cond, get_or, length, refl, ap, ◌∙◌, sym, ltb, arith, subst, ◌&&◌}
+use Rattle.std.proofs.Common.{◌≡◌, ◌≢◌, ℕ, ◌<◌, ◌^◌, List, [], ◌∷◌, Bool, true, false, Some, None, Result, Ok, Err, get_or, length, refl, ap, ◌∙◌, sym, ltb, arith, subst, ◌&&◌}
 use Rattle.std.specs.Result.{OkIff, result_ok}
 use Rattle.std.specs.Str.{all_ascii_digits, IsUtf8}
 use Rattle.std.specs.Str.Parse.{digits_value}

@@ -1,5 +1,5 @@
 -- A tree that passes the checks, and what its settings keep.
-use Rattle.std.proofs.Common.{◌≡◌, ℕ, ◌<◌, ◌≤◌, ◌^◌, List, [], Bool, true, false, not, ◌&&◌, cond, Option, Some, None, is_some, leb, map, length, get_or, All, refl, sym, ap, subst, ◌∙◌, arith}
+use Rattle.std.proofs.Common.{◌≡◌, ℕ, ◌<◌, ◌≤◌, List, Bool, true, false, not, ◌&&◌, cond, Option, Some, None, is_some, leb, length, get_or, All, refl, sym, subst, ◌∙◌, arith}
 use Rattle.std.specs.Prelude.{sum, IsTrue, unwrap_or, option_and_then}
 use Rattle.std.specs.List.{list_all, range_with_len}
 use Rattle.std.specs.List.Sorted.{IsStrictlyIncreasing}

@@ -1,14 +1,12 @@
 -- The parts of the planning problem are taken as they are.
-use Rattle.std.proofs.Common.{◌≡◌, ℕ, ◌+◌, ◌<◌, ◌≤◌, List, [], ◌∷◌, Bool, true, false, cond, zero, suc, map, filter, length, get_or, All, refl, sym, subst, ap, ◌∙◌, arith}
+use Rattle.std.proofs.Common.{◌≡◌, ℕ, ◌+◌, ◌<◌, ◌≤◌, List, [], ◌∷◌, Bool, true, false, map, filter, length, get_or, All, refl, sym, subst, ap, ◌∙◌, arith}
 use Rattle.std.specs.Prelude.{sum}
 use Rattle.std.specs.List.{enumerate_from, range_with_len}
 use Rattle.std.specs.List.Sorted.{IsStrictlyIncreasing}
-use Rattle.std.proofs.lemmas.List.{get_or_default, length-map}
 use Rattle.std.proofs.lemmas.List.Elements.{All-filter, All-from_get_or}
 use Rattle.std.proofs.lemmas.List.FromFn.{get_or-enumerate_from, length-enumerate_from}
 use Rattle.std.proofs.lemmas.List.Kept.{IsStrictlyIncreasing-filter}
-use Rattle.plan_model.specs.Refusal.{AreSlotsInOrder, AreNumbersThere, IsTaken, Refuses, instance}
-use Rattle.plan_model.specs.Planning.{AreWithinLimits, Instance}
+use Rattle.plan_model.specs.Refusal.{AreSlotsInOrder, IsTaken, Refuses, instance}
 use Rattle.plan_model.specs.declared.input.InputError.{InputError}
 use Rattle.plan_model.specs.declared.input.InputError.TheVariants.{BadMachine, Memory, SlotOrder, TooMany}
 use Rattle.plan_model.proofs.Ranges.{range-rises}

@@ -1,5 +1,5 @@
 -- The ranges of single values.
-use Rattle.std.proofs.Common.{◌≡◌, ℕ, ◌≤◌, ℤ, pos, negsuc, List, [], Bool, true, false, ◌&&◌, cond, Option, Some, None, is_some, leb, length, refl, sym, ◌∙◌, arith}
+use Rattle.std.proofs.Common.{◌≡◌, ℕ, ◌≤◌, ℤ, pos, negsuc, List, [], Bool, true, false, ◌&&◌, cond, Option, Some, None, is_some, leb, length, refl, arith}
 use Rattle.std.specs.Prelude.{unwrap_or, option_and_then}
 use Rattle.std.specs.Option.{option_map_or}
 use Rattle.std.proofs.lemmas.Bool.{false≢true, leb-true, and_parts}

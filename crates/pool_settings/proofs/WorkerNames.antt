@@ -1,22 +1,22 @@
 -- The name of each slot's worker names that slot.
-use Rattle.std.proofs.Common.{◌≡◌, ℕ, ◌+◌, ◌-◌, ◌<◌, ◌≤◌, ◌^◌, List, [], ◌∷◌, ◌++◌, Bool, true, false, not, ◌&&◌, ◌||◌, Option, Some, None, zero, suc, eqb, ltb, length, get_or, take, drop, refl, sym, ap, subst, ◌∙◌, inl, inr, arith, length-append}
+use Rattle.std.proofs.Common.{◌≡◌, ℕ, ◌+◌, ◌-◌, ◌<◌, ◌≤◌, ◌^◌, List, [], ◌∷◌, ◌++◌, Bool, true, false, not, ◌||◌, Some, zero, suc, eqb, ltb, length, get_or, drop, refl, sym, ap, subst, ◌∙◌, arith, length-append}
 use Rattle.std.specs.Prelude.{sum}
 use Rattle.std.specs.Char.{is_ascii_digit}
 use Rattle.std.specs.Fmt.{decimal}
 use Rattle.std.specs.List.{list_all}
 use Rattle.std.specs.Str.Parse.{digits_value}
 use Rattle.std.proofs.Math.Seq.{drop-append-add, get_or-append_seam, take-append_seam}
-use Rattle.std.proofs.lemmas.Bool.{and_parts, cases_eq, eqb-true, false≢true}
+use Rattle.std.proofs.lemmas.Bool.{and_parts, eqb-true, false≢true}
 use Rattle.std.proofs.lemmas.Bool.Decides.{nat_tests}
 use Rattle.std.proofs.lemmas.Fmt.{decimal_digit, decimal_nonempty, digits_decimal, digits_value-decimal, first_decimal}
 use Rattle.std.proofs.lemmas.List.{get_or-append_right}
-use Rattle.pool_settings.specs.Names.{name_at, place_of}
+use Rattle.pool_settings.specs.Names.{name_at}
 use Rattle.pool_settings.specs.Profile.{IsProfile, Profile}
-use Rattle.pool_settings.specs.Slots.{first_slot, is_plain, is_slash, machine_of, parts_of, plain_number, slot_named, worker_name, worker_number}
+use Rattle.pool_settings.specs.Slots.{is_slash, machine_of, parts_of, plain_number, slot_named, worker_name, worker_number}
 use Rattle.pool_settings.proofs.Cuts.{cut_here}
 use Rattle.pool_settings.proofs.Numbers.{digits_same, own}
 use Rattle.pool_settings.proofs.Searches.{place_is}
-use Rattle.pool_settings.proofs.SlotSums.{IsAt, machine_found, sum-room}
+use Rattle.pool_settings.proofs.SlotSums.{machine_found, sum-room}
 
 -- no digit is a slash
 no_slash : (ds : List ℕ) → list_all is_ascii_digit ds ≡ true → (k : ℕ) → k < length ds → is_slash (get_or ds k 0) ≡ false

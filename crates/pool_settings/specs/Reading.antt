@@ -1,6 +1,6 @@
 -- Version 1 of the settings: the checks, each over the whole file before the next, and the settings
 -- that a file which passes them means.
-use Rattle.std.specs.Prelude.{ℕ, ◌+◌, ◌^◌, List, [], ◌∷◌, Bool, true, false, not, ◌&&◌, ◌||◌, nat_le, is_some, length, map, sum, Option, Some, None, unwrap_or, option_and_then, if◌then◌else◌, codes, Result, Ok, Err}
+use Rattle.std.specs.Prelude.{ℕ, List, [], Bool, true, false, not, ◌&&◌, ◌||◌, nat_le, is_some, length, map, sum, Option, Some, None, unwrap_or, option_and_then, if◌then◌else◌, codes, Result, Ok, Err}
 use Rattle.std.specs.List.{filter_map, list_all}
 use Rattle.std.specs.Option.{option_map_or}
 use Rattle.std.specs.Str.{bytes_eq, is_utf8}

@@ -2,7 +2,6 @@ use Rattle.std.proofs.Common.{◌≡◌}
 use Rattle.std.specs.List.{list_all}
 use Rattle.pool_settings.specs.Entries.{entries_view, table_entries}
 use Rattle.pool_settings.specs.Names as spec
-use Rattle.pool_settings.specs.Tree.{entries_in}
 use Rattle.pool_settings.proofs.checks.machines_have_names.Given as goal
 
 -- what is left decides

@@ -1,4 +1,4 @@
-use Rattle.std.proofs.Common.{◌≡◌, ◌+◌, ◌-◌, ◌<◌, ◌≤◌, ℕ, List, false, get_or, length, take, drop, Some, None, arith, refl, sym, ap, subst, ◌∙◌}
+use Rattle.std.proofs.Common.{◌≡◌, ◌+◌, ◌-◌, ◌<◌, ◌≤◌, ℕ, List, false, get_or, length, take, Some, arith, sym, ap, ◌∙◌}
 use Rattle.pool_settings.specs.Slots.{is_slash}
 use Rattle.pool_settings.proofs.Cuts.{cut_here, not_cut, rest_taken}
 use Rattle.pool_settings.proofs.worker_name.parts_of.Goals as goal

@@ -1,4 +1,4 @@
-use Rattle.std.proofs.Common.{◌≡◌, ◌≢◌, ◌∙◌, get_or, ◌^◌, arith, rules, subst, sym, ap, true}
+use Rattle.std.proofs.Common.{◌≡◌, ◌≢◌, ◌∙◌, get_or, subst, sym, true}
 use Rattle.pool_settings.specs.Slots.{is_plain, plain_number}
 use Rattle.pool_settings.proofs.Numbers.{no_plus, number_read, own, plain_digits, plain_text}
 use Rattle.std.proofs.lemmas.Str.Parse.{parse_plain}

@@ -1,4 +1,4 @@
-use Rattle.std.proofs.Common.{rules, ◌≡◌, ◌++◌, append-nil, map, sym, subst, ◌∙◌}
+use Rattle.std.proofs.Common.{rules, ◌≡◌, map, sym, subst}
 use Rattle.std.specs.Prelude.{string_bytes}
 use Rattle.pool_settings.specs.Names.{IsInByteOrder}
 use Rattle.pool_settings.specs.Reading.{names_of}

@@ -1,4 +1,4 @@
-use Rattle.std.proofs.Common.{rules, ◌≡◌, List, Ok, Err, String, Global, Some, None, ap, map, sym, subst, ◌∙◌}
+use Rattle.std.proofs.Common.{rules, List, Ok, Err, String, Global, ap, map, sym, subst, ◌∙◌}
 use Rattle.std.specs.Prelude.{string_bytes}
 use Rattle.std.specs.Cmp.Lexicographic.{slice_cmp}
 use Rattle.std.specs.Ordering.{nat_cmp}

@@ -1,13 +1,11 @@
-use Rattle.std.proofs.Common.{rules, ◌≡◌, ◌≤◌, ℕ, List, false, filter, get_or, length, map, ap, subst, sym, arith, ◌∙◌}
+use Rattle.std.proofs.Common.{◌≡◌, ℕ, List, false, filter, get_or, length, map, ap, subst, sym, arith, ◌∙◌}
 use Rattle.std.specs.Prelude.{sum}
 use Rattle.std.specs.List.{enumerate_from}
-use Rattle.plan_model.specs.Refusal.{IsTaken, Refuses}
 use Rattle.pool_settings.specs.Kept.{profile_view}
 use Rattle.pool_settings.specs.Profile.{Profile}
 use Rattle.pool_settings.specs.Planning.{instance_of}
-use Rattle.pool_settings.specs.Slots.{live_workers, owners}
+use Rattle.pool_settings.specs.Slots.{live_workers}
 use Rattle.pool_settings.proofs.Planned.{only_memory, planned, same_instance, same_taken, taken}
-use Rattle.pool_settings.proofs.Risen.{rows_same}
 use Rattle.pool_settings.proofs.SlotSums.{length-owners_from}
 use Rattle.pool_settings.proofs.settings.Settings.input.Goals as goal
 

@@ -1,4 +1,4 @@
-use Rattle.std.proofs.Common.{◌≡◌, ◌<◌, ◌≤◌, ◌+◌, length, get_or, subst, sym, arith}
+use Rattle.std.proofs.Common.{◌<◌, ◌≤◌, ◌+◌, length, get_or, subst, sym, arith}
 use Rattle.std.specs.Prelude.{sum}
 use Rattle.pool_settings.specs.Kept.{profile_view}
 use Rattle.pool_settings.specs.Profile.{IsProfile, Profile}

@@ -1,4 +1,4 @@
-use Rattle.std.proofs.Common.{◌≡◌, ℕ, List, eqb, ap, sym, ◌∙◌}
+use Rattle.std.proofs.Common.{eqb, ap, ◌∙◌}
 use Rattle.std.specs.List.{list_any}
 use Rattle.plan_model.proofs.Search.{list_any-searched}
 use Rattle.pool_settings.proofs.settings.Settings.may.Goals as goal

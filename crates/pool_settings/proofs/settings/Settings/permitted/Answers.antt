@@ -1,7 +1,6 @@
-use Rattle.std.proofs.Common.{rules, ◌≡◌, ◌<◌, length, get_or, [], All, ap, subst, sym, arith, ◌∙◌}
-use Rattle.std.proofs.lemmas.List.{get_or-map, get_or_default, length-map}
+use Rattle.std.proofs.Common.{◌<◌, length, [], ap, subst, sym, arith, ◌∙◌}
+use Rattle.std.proofs.lemmas.List.{get_or-map, length-map}
 use Rattle.std.specs.List.Sorted.{IsStrictlyIncreasing}
-use Rattle.pool_settings.specs.Kept.{profile_view}
 use Rattle.pool_settings.specs.Profile.{Profile}
 use Rattle.pool_settings.proofs.settings.Settings.permitted.Goals as goal
 

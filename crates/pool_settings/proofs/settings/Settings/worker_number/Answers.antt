@@ -1,4 +1,3 @@
-use Rattle.std.proofs.Common.{◌≡◌}
 use Rattle.pool_settings.proofs.WorkerNames.{named}
 use Rattle.pool_settings.proofs.settings.Settings.worker_number.Goals as goal
 

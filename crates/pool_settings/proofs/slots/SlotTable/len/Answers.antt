@@ -1,4 +1,4 @@
-use Rattle.std.proofs.Common.{rules, ◌≡◌, ◌<◌, ◌≤◌, length, arith, ap, sym, ◌∙◌}
+use Rattle.std.proofs.Common.{◌≡◌, length, arith, ap, ◌∙◌}
 use Rattle.std.specs.Prelude.{sum}
 use Rattle.pool_settings.proofs.SlotSums.{length-owners_from}
 use Rattle.pool_settings.proofs.slots.SlotTable.len.Goals as goal
