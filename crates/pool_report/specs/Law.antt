@@ -1,11 +1,15 @@
 -- Each line and each name that a report may have is read as what it tells.
-use Rattle.std.specs.Prelude.{◌≡◌, ◌≢◌, ℕ, ◌<◌, ◌^◌, List, Option, None, Some, Bool, not, ◌==◌, IsTrue, codes, length}
+use Rattle.std.specs.Prelude.{◌≡◌, ◌≢◌, ℕ, ◌<◌, ◌^◌, List, Option, None, Some, Bool, not, ◌==◌, IsTrue, codes, length, map}
 use Rattle.std.specs.List.{list_all}
 use Rattle.pool_settings.specs.Names.{is_machine_name, is_name, name_at, place_of}
 use Rattle.pool_settings.specs.Profile.{Profile}
 use Rattle.pool_settings.specs.Slots.{machine_of, slot_named, slots}
-use Rattle.plan_model.specs.Planning.{Assignment}
-use Rattle.pool_report.specs.Answered.{worker_in}
+use Rattle.plan_model.specs.Planning.{Assignment, Instance, assigned}
+use Rattle.plan_model.specs.declared.answer.Answer.{Answer}
+use Rattle.plan_model.specs.declared.answer.Answer.TheVariants.{Planned, NoPlan}
+use Rattle.pool_settings.specs.Planning.{instance_of}
+use Rattle.pool_report.specs.Answered.{report_text, worker_in}
+use Rattle.plan_model.specs.Shown.{Shown}
 use Rattle.pool_report.specs.Lines.{Line, head, backlog, no_plan, task, short, needed, stranded, last, line_of}
 use Rattle.pool_report.specs.Report.{Needed, Stranded, Worker, backlog_line, ended, needed_line, short_line, stranded_line, worker_line, worker_name}
 
@@ -40,3 +44,20 @@ pub record AreNamesFound (p : Profile) : Type 0 where
   pub functions : (f : ℕ) → f < length p.functions → place_of p.functions (name_at p.functions f) ≡ Some f
   pub workers : (plan : Assignment) (slot : ℕ) → slot < slots p
       → slot_named p (worker_name (worker_in p plan (slot, machine_of p slot))) ≡ Some slot
+
+-- the plan that a report lists: each live worker with its function, or none
+abbrev pub listed : Instance → Assignment → List (ℕ × Option ℕ)
+listed i plan = map (λ worker. (worker.0, plan worker.0)) i.live
+
+-- the answer that a report tells: the same, with its plan listed for each live worker
+abbrev pub retold : Instance → Answer → Answer
+retold i (Planned entries k set) = Planned (listed i (assigned entries)) k set
+retold i (NoPlan set) = NoPlan set
+
+-- The planning problem is one of these settings.
+abbrev pub IsOf : Profile → Instance → Type 0
+IsOf p i = (live : List Bool) × (waiting : List ℕ) × (i ≡ instance_of p live waiting)
+
+-- No other answer that is shown has the same report.
+abbrev pub IsTheOnlyOne : Profile → Instance → Answer → Type 0
+IsTheOnlyOne p i answer = (other : Answer) → Shown i other → report_text p i other ≡ report_text p i answer → retold i other ≡ retold i answer

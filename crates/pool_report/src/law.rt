@@ -1,5 +1,10 @@
-ghost use Rattle.pool_report.specs.Law.{AreLinesRead, AreNamesFound};
+ghost use Rattle.std.specs.Prelude.{◌≡◌, Ok};
+ghost use Rattle.plan_model.specs.Shown.{Shown};
+ghost use Rattle.pool_report.specs.Answered.{report_text};
+ghost use Rattle.pool_report.specs.Law.{AreLinesRead, AreNamesFound, IsOf, IsTheOnlyOne, retold};
+ghost use Rattle.pool_report.specs.Reading.{meaning};
 
+use plan_model::{Answer, Input};
 use pool_settings::Settings;
 
 /// The law of the lines, which does nothing when it runs: each line that a report may have is read as what it
@@ -14,4 +19,18 @@ pub fn names_read_back(settings: &Settings)
     ensures { AreNamesFound settings.now }
 {
     let _functions = settings.functions();
+}
+
+/// The law of a report, which does nothing that is seen: the report of an answer that is shown for a planning
+/// problem of these settings means this very answer, with its plan listed for each live worker. So what
+/// [`read`](crate::read) makes of the text that [`write`](crate::write) wrote is that answer, and a text is the
+/// report of one such answer at most, plans taken as maps of the live workers.
+pub fn report_reads_back(settings: &Settings, input: &Input, answer: &Answer)
+    requires of_these { IsOf settings.now input.now }
+    requires shown { Shown input.now answer.now }
+    ensures same { meaning settings.now (report_text settings.now input.now answer.now) ≡ Ok (retold input.now answer.now) }
+    ensures one { IsTheOnlyOne settings.now input.now answer.now }
+{
+    let _functions = settings.functions();
+    let _live = input.live();
 }
