@@ -1,9 +1,9 @@
 -- The numbers on a report's lines are small enough for them.
-use Rattle.std.proofs.Common.{◌≡◌, ◌≢◌, ℕ, ◌+◌, ◌-◌, ◌*◌, ◌^◌, ◌<◌, ◌≤◌, zero, suc, max, Bool, true, false, cond, eqb, List, [], ◌∷◌, length, map, find, fold, sum_by, get_or, unwrap_or, All, refl, lit<, inl, inr, arith}
-use Rattle.std.specs.List.{AllByRecursion, range_with_len}
+use Rattle.std.proofs.Common.{◌≡◌, ◌≢◌, ℕ, ◌+◌, ◌-◌, ◌*◌, ◌^◌, ◌<◌, ◌≤◌, zero, suc, max, Bool, true, false, cond, eqb, List, [], ◌∷◌, length, find, fold, sum_by, get_or, unwrap_or, All, refl, lit<, inl, inr, arith}
+use Rattle.std.specs.List.{range_with_len}
 use Rattle.std.specs.Int.{div_ceil}
 use Rattle.std.specs.List.Sorted.{IsStrictlyIncreasing}
-use Rattle.std.proofs.lemmas.Bool.{cases_Bool, cases_lt, eqb-false, false≢true}
+use Rattle.std.proofs.lemmas.Bool.{cases_Bool, cases_lt, eqb-false}
 use Rattle.std.proofs.lemmas.List.{get_or_past, length-map}
 use Rattle.std.proofs.lemmas.List.Sums.{count_by-le-length, sum_by-le}
 use Rattle.plan_model.specs.Planning.{Assignment, Instance, IsInstance, backlog_of, cost, counted_waiting, functions, is_stranded, machines_of, may_do, need, neighbours, serves, workers_on}

@@ -1,6 +1,6 @@
 -- Names that are written, found again.
-use Rattle.std.proofs.Common.{◌≡◌, ℕ, ◌+◌, ◌-◌, ◌^◌, ◌<◌, ◌≤◌, List, [], ◌∷◌, ◌++◌, Bool, true, false, Option, Some, None, zero, suc, get_or, length, take, drop, eqb, append_assoc, length-append, refl, ap, sym, subst, ◌∙◌, arith}
-use Rattle.std.specs.Prelude.{codes, sum}
+use Rattle.std.proofs.Common.{◌≡◌, ℕ, ◌+◌, ◌-◌, ◌^◌, ◌<◌, ◌≤◌, List, [], ◌∷◌, ◌++◌, true, false, Some, zero, suc, get_or, length, take, drop, append_assoc, length-append, refl, ap, sym, subst, ◌∙◌, arith}
+use Rattle.std.specs.Prelude.{codes}
 use Rattle.std.specs.Char.{is_ascii_digit}
 use Rattle.std.specs.Fmt.{decimal}
 use Rattle.std.specs.List.{list_all}
@@ -9,7 +9,7 @@ use Rattle.std.proofs.lemmas.Fmt.{digits_value-decimal}
 use Rattle.plan_model.specs.Planning.{Assignment}
 use Rattle.pool_settings.specs.Names.{name_at, place_of}
 use Rattle.pool_settings.specs.Profile.{IsProfile, Profile}
-use Rattle.pool_settings.specs.Slots.{first_slot, is_slash, machine_of, parts_of, slot_named, slots}
+use Rattle.pool_settings.specs.Slots.{first_slot, is_slash, machine_of, parts_of, slot_named}
 use Rattle.pool_settings.proofs.Cuts.{cut_here}
 use Rattle.pool_settings.proofs.Searches.{place_is}
 use Rattle.pool_settings.proofs.SlotSums.{IsAt, machine_found, sum-room}

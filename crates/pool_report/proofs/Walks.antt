@@ -1,6 +1,5 @@
 -- The lines of a report, taken one after another.
-use Rattle.std.proofs.Common.{◌≡◌, ℕ, ◌+◌, ◌^◌, ◌<◌, ◌≤◌, List, [], ◌∷◌, ◌++◌, Bool, true, false, not, Option, Some, None, Ok, eqb, ltb, map, option_map, append_assoc, refl, ap, subst, sym, ◌∙◌}
-use Rattle.std.specs.Prelude.{IsTrue}
+use Rattle.std.proofs.Common.{◌≡◌, ℕ, ◌+◌, ◌^◌, ◌<◌, ◌≤◌, List, [], ◌∷◌, ◌++◌, true, false, not, Option, Some, None, Ok, eqb, ltb, map, option_map, append_assoc, refl, ap, subst, sym, ◌∙◌}
 use Rattle.std.specs.List.{flat_map, slice_split}
 use Rattle.std.proofs.lemmas.Bool.{and_parts, le-ltb, not-true}
 use Rattle.std.proofs.lemmas.List.{append-nil}

@@ -1,33 +1,33 @@
 -- A whole report, read.
 use Rattle.std.proofs.Common.{◌≡◌, ℕ, ◌+◌, ◌-◌, ◌^◌, ◌<◌, ◌≤◌, List, [], ◌∷◌, ◌++◌, Bool, true, false, Option, Some, None, Ok, eqb, filter, get_or, length, map, option_map, All, refl, ap, sym, subst, ◌∙◌, inl, inr, arith}
-use Rattle.std.specs.Prelude.{IsTrue, codes, sum, sum_by}
-use Rattle.std.specs.List.{AllByRecursion, flat_map, list_all, list_any, range_with_len, slice_split}
+use Rattle.std.specs.Prelude.{codes, sum_by}
+use Rattle.std.specs.List.{AllByRecursion, flat_map, list_all, list_any, slice_split}
 use Rattle.std.specs.List.Sorted.{IsStrictlyIncreasing}
 use Rattle.std.proofs.lemmas.Bool.{and_parts, eqb-true, false≢true, or_cases}
 use Rattle.std.proofs.lemmas.List.{append-nil}
 use Rattle.std.proofs.lemmas.List.Elements.{All-filter, All-from_get_or, recursion_from_All}
 use Rattle.std.proofs.lemmas.List.FromFn.{get_or-enumerate_from, get_or-range_with_len, length-enumerate_from, length-range_with_len}
 use Rattle.std.proofs.lemmas.List.Kept.{IsStrictlyIncreasing-filter}
-use Rattle.plan_model.specs.Planning.{Assignment, Instance, IsInstance, IsShort, assigned, backlog_of, functions, is_permitted, is_stranded, machines_of, may_do, may_have, need, neighbours, top_level}
-use Rattle.plan_model.specs.Shown.{IsEvidence, IsShownPlan, Shown, is_plan}
+use Rattle.plan_model.specs.Planning.{Assignment, Instance, IsInstance, IsShort, assigned, functions, is_permitted, is_stranded, machines_of, may_do, may_have, need, neighbours, top_level}
+use Rattle.plan_model.specs.Shown.{IsShownPlan, Shown}
 use Rattle.plan_model.specs.declared.answer.Answer.{Answer}
 use Rattle.plan_model.specs.declared.answer.Answer.TheVariants.{Planned, NoPlan}
 use Rattle.plan_model.proofs.Hall.{Rising, backlog-le-top, rising}
 use Rattle.plan_model.proofs.Ranges.{range-rises}
-use Rattle.pool_settings.specs.Names.{is_name, name_at, place_of}
+use Rattle.pool_settings.specs.Names.{name_at}
 use Rattle.pool_settings.specs.Profile.{IsProfile, Profile}
-use Rattle.pool_settings.specs.Slots.{all_workers, first_slot, live_workers, owners}
+use Rattle.pool_settings.specs.Slots.{all_workers, live_workers, owners}
 use Rattle.pool_settings.proofs.SlotSums.{IsAt, length-owners_from, owner_at, sum-room}
 use Rattle.pool_report.specs.Answered.{report_text, short_at, stranded_all, stranded_in, worker_in}
-use Rattle.pool_report.specs.Law.{HasName, IsNamed, IsOf, listed, retold}
+use Rattle.pool_report.specs.Law.{HasName, IsOf, listed, retold}
 use Rattle.pool_report.specs.Lines.{backlog, head, last, no_plan, short}
 use Rattle.pool_report.specs.Reading.{Draft, answer_of, is_complete, is_line_feed, meaning, meaning_from, place_function, start, with_entry}
-use Rattle.pool_report.specs.Report.{backlog_line, ended, needed_line, short_if, short_line, short_lines, stranded_line, told_lines, worker_line}
+use Rattle.pool_report.specs.Report.{backlog_line, ended, needed_line, short_line, short_lines, stranded_line, worker_line}
 use Rattle.pool_report.specs.declared.stage.Stage.{Stage}
 use Rattle.pool_report.specs.declared.stage.Stage.TheVariants as stage
 use Rattle.pool_report.proofs.Bounds.{backlog_other, have_few, need_few, sum_few, waiting_few}
 use Rattle.pool_report.proofs.Found.{function_found, worker_found}
-use Rattle.pool_report.proofs.Walks.{AreKnown, AreRead, IsKnown, IsRead, Leads, at, leads_line, leads_none, leads_on, leftovers, needs, tasks}
+use Rattle.pool_report.proofs.Walks.{AreKnown, AreRead, IsRead, Leads, at, leads_line, leads_none, leads_on, leftovers, needs, tasks}
 use Rattle.pool_report.proofs.Written.{lines_read}
 
 -- ---- order

@@ -1,17 +1,16 @@
 -- Each line as it is written, read.
-use Rattle.std.proofs.Common.{◌≡◌, ◌≢◌, ℕ, ◌+◌, ◌-◌, ◌^◌, ◌<◌, ◌≤◌, List, [], ◌∷◌, ◌++◌, Bool, true, false, ◌&&◌, ◌||◌, not, Option, Some, None, zero, suc, get_or, length, eqb, ltb, append_assoc, refl, ap, sym, subst, ◌∙◌, inl, inr, arith}
-use Rattle.std.specs.Prelude.{IsTrue, codes, option_map}
+use Rattle.std.proofs.Common.{◌≡◌, ◌≢◌, ℕ, ◌-◌, ◌^◌, ◌<◌, List, [], ◌∷◌, ◌++◌, Bool, true, false, ◌||◌, not, Option, Some, None, zero, suc, get_or, length, eqb, ltb, append_assoc, refl, ap, sym, ◌∙◌, inl, inr, arith}
+use Rattle.std.specs.Prelude.{codes}
 use Rattle.std.specs.Char.{is_ascii_digit}
 use Rattle.std.specs.Fmt.{decimal}
 use Rattle.std.specs.List.{list_all}
-use Rattle.std.specs.Str.Parse.{digits_value}
-use Rattle.std.proofs.lemmas.Bool.{and_from, and_parts, cases_lt, eq-eqb, false≢true, le-ltb, lt-ltb, ne_eqb, not_from_false, or_left}
+use Rattle.std.proofs.lemmas.Bool.{and_from, and_parts, cases_lt, eq-eqb, false≢true, le-ltb, lt-ltb, ne_eqb}
 use Rattle.std.proofs.lemmas.List.Folds.{list_all-append}
 use Rattle.std.proofs.lemmas.Fmt.{decimal_digit, decimal_nonempty, digits_decimal, digits_value-decimal, first_decimal}
 use Rattle.pool_settings.specs.Names.{is_machine_name, is_machine_name_byte, is_name, is_name_byte}
 use Rattle.pool_settings.specs.Slots.{is_plain}
 use Rattle.pool_report.specs.Law.{AreLinesRead, HasName, IsNamed, Tells, is_one_line}
-use Rattle.pool_report.specs.Lines.{Line, backlog, cut_last, idle_in, is_worker, line_of, needed, needed_in, number_below, short, short_in, stranded, stranded_in, task, work_in}
+use Rattle.pool_report.specs.Lines.{backlog, cut_last, idle_in, is_worker, needed, needed_in, number_below, short, short_in, stranded, stranded_in, task, work_in}
 use Rattle.pool_report.specs.Report.{Needed, Stranded, Worker, backlog_line, needed_line, short_line, stranded_line, task_line, worker_line, worker_name}
 use Rattle.pool_report.proofs.Cuts.{digits_same, not_cut, own}
 
