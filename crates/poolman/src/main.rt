@@ -23,38 +23,24 @@ use std::{env, io};
 /// The status of a command line that is not taken, help included.
 const USAGE: u8 = 2;
 
-fn run_plan(rt: &HostRuntime, settings: &str, lost: &[&str]) -> Exit {
-    let settings = match read_file(rt, settings) {
-        Ok(settings) => settings,
-        Err(fault) => return Exit::refused(fault),
-    };
+/// Carries out a command. A file that cannot be read is told before any fault of a text.
+fn carry_out(rt: &HostRuntime, command: &Command<'_>) -> Result<Exit, Fault> {
     let mut source = InputSource::new(rt.reader());
     let mut sink = OutputSink::new(std::io::writer(rt));
-    plan_text(rt.alloc(), &settings, lost, &mut source, &mut sink)
-}
-
-fn run_check(rt: &HostRuntime, settings: &str, status: &str, lost: &[&str]) -> Exit {
-    let settings = match read_file(rt, settings) {
-        Ok(settings) => settings,
-        Err(fault) => return Exit::refused(fault),
-    };
-    let status = match read_file(rt, status) {
-        Ok(status) => status,
-        Err(fault) => return Exit::refused(fault),
-    };
-    let mut source = InputSource::new(rt.reader());
-    let mut sink = OutputSink::new(std::io::writer(rt));
-    check_text(rt.alloc(), &settings, &status, lost, &mut source, &mut sink)
-}
-
-fn carry_out(rt: &HostRuntime, command: &Command<'_>) -> Exit {
     match command {
-        Command::Plan { settings, lost } => run_plan(rt, settings, lost),
+        Command::Plan { settings, lost } => {
+            let settings = read_file(rt, settings)?;
+            Ok(plan_text(rt.alloc(), &settings, lost, &mut source, &mut sink))
+        }
         Command::Check {
             settings,
             status,
             lost,
-        } => run_check(rt, settings, status, lost),
+        } => {
+            let settings = read_file(rt, settings)?;
+            let status = read_file(rt, status)?;
+            Ok(check_text(rt.alloc(), &settings, &status, lost, &mut source, &mut sink))
+        }
     }
 }
 
@@ -68,7 +54,10 @@ fn end(rt: &HostRuntime, exit: Exit) -> u8 {
 
 fn run(rt: &HostRuntime, words: &[String]) -> u8 {
     match command_of(rt.alloc(), words) {
-        Ok(command) => end(rt, carry_out(rt, &command)),
+        Ok(command) => match carry_out(rt, &command) {
+            Ok(exit) => end(rt, exit),
+            Err(fault) => end(rt, Exit::refused(fault)),
+        },
         Err(CommandError::Usage(error)) => {
             let _ = rt.eprint(error);
             USAGE
@@ -107,5 +96,7 @@ fn main(rt: HostRuntime) -> ExitCode {
     ExitCode::from(status)
 }
 
+#[cfg(test)]
+mod line_tests;
 #[cfg(test)]
 mod tests;

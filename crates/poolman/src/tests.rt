@@ -248,12 +248,14 @@ fn check_meets(alloc: Global, status: &[u8], report: &[u8], fault: Fault) -> boo
     exit == Exit::refused(fault) && sink.output().is_empty()
 }
 
-/// The report with one text in the place of another, of the same place at its first byte.
+/// The first example's report, with a text in the place of so many bytes.
 fn changed(alloc: Global, at: usize, len: usize, to: &[u8]) -> Result<Vec<u8>, AllocError> {
+    let (front, rest) = TWO_REPORT.split_at(at.min(TWO_REPORT.len()));
+    let (_, back) = rest.split_at(len.min(rest.len()));
     let mut report = Vec::new(alloc);
-    report.extend_from_slice(&TWO_REPORT[..at])?;
+    report.extend_from_slice(front)?;
     report.extend_from_slice(to)?;
-    report.extend_from_slice(&TWO_REPORT[at + len..])?;
+    report.extend_from_slice(back)?;
     Ok(report)
 }
 
@@ -266,14 +268,18 @@ fn says(alloc: Global, at: usize, len: usize, to: &[u8], line: &[u8]) -> bool {
 }
 
 #[test]
-fn reports_of_plans(rt: HostRuntime) {
+fn reports_of_one_function(rt: HostRuntime) {
     let alloc = rt.alloc();
-    assert!(rt; plans(alloc, TWO, &[], TWO_STATUS, TWO_REPORT, 0));
     assert!(rt; plans(alloc, PAIR, &[], b"x\t9\t0\t0\n.\n", PAIR_NINE, 0));
     assert!(rt; plans(alloc, PAIR, &[], b"x\t1\t0\t0\n.\n", PAIR_ONE, 0));
     assert!(rt; plans(alloc, PAIR, &[], b"x\t0\t0\t0\n.\n", PAIR_NONE, 0));
-    assert!(rt; plans(alloc, ONE, &["a/0"], b"x\t7\t0\t0\n.\n", ONE_LOST, 0));
-    assert!(rt; plans(alloc, WANTED, &["a/0"], b"x\t7\t0\t0\n.\n", WANTED_LOST, 1));
+    assert!(rt; plans(alloc, ONE, &[], b"x\t4294967295\t0\t0\n.\n", ONE_BIG, 0));
+}
+
+#[test]
+fn reports_of_two_functions(rt: HostRuntime) {
+    let alloc = rt.alloc();
+    assert!(rt; plans(alloc, TWO, &[], TWO_STATUS, TWO_REPORT, 0));
     assert!(rt; plans(alloc, BOTH, &[], b"x\t3\t0\t0\ny\t7\t0\t0\n.\n", BOTH_Y, 0));
     assert!(rt; plans(alloc, BOTH, &[], b"x\t7\t0\t0\ny\t3\t0\t0\n.\n", BOTH_X, 0));
     assert!(rt;
@@ -286,7 +292,13 @@ fn reports_of_plans(rt: HostRuntime) {
             0
         )
     );
-    assert!(rt; plans(alloc, ONE, &[], b"x\t4294967295\t0\t0\n.\n", ONE_BIG, 0));
+}
+
+#[test]
+fn reports_without_a_worker(rt: HostRuntime) {
+    let alloc = rt.alloc();
+    assert!(rt; plans(alloc, ONE, &["a/0"], b"x\t7\t0\t0\n.\n", ONE_LOST, 0));
+    assert!(rt; plans(alloc, WANTED, &["a/0"], b"x\t7\t0\t0\n.\n", WANTED_LOST, 1));
 }
 
 /// How often the plan of these settings puts a worker on x, with its second line.
@@ -319,27 +331,35 @@ fn counts_where_the_worker_is_free(rt: HostRuntime) {
 #[test]
 fn faults_of_plans(rt: HostRuntime) {
     let alloc = rt.alloc();
-    let unknown = Fault::UnknownWorker;
-    assert!(rt;
-        plan_meets(
-            alloc,
-            b"",
-            &["c/0"],
-            b"",
-            Fault::Settings(SettingsError::Version)
-        )
-    );
-    assert!(rt; plan_meets(alloc, TWO, &["c/0"], b"", unknown));
-    assert!(rt; plan_meets(alloc, TWO, &["a/00"], TWO_STATUS, unknown));
+    let version = Fault::Settings(SettingsError::Version);
+    assert!(rt; plan_meets(alloc, b"", &["c/0"], b"", version));
+    assert!(rt; plan_meets(alloc, TWO, &["c/0"], b"", Fault::UnknownWorker));
+    assert!(rt; plan_meets(alloc, TWO, &["a/00"], TWO_STATUS, Fault::UnknownWorker));
+}
+
+#[test]
+fn faults_of_status_texts(rt: HostRuntime) {
+    let alloc = rt.alloc();
     let bad = Fault::Status(StatusError::BadLine(1));
     assert!(rt; plan_meets(alloc, TWO, &[], b"x\t1\n", bad));
     let cut = Fault::Status(StatusError::Truncated);
     assert!(rt; plan_meets(alloc, TWO, &[], b"x\t6\t0\t2\n", cut));
-    let twice = plan(alloc, TWO, &["b/0", "b/0"], TWO_STATUS);
-    let once = plan(alloc, TWO, &["b/0"], TWO_STATUS);
-    assert!(rt;
-        matches!((&twice, &once), (Ok(a), Ok(b)) if a.0 == b.0 && a.1.output() == b.1.output())
-    );
+}
+
+/// Whether naming a worker twice is naming it once.
+fn is_lost_once(alloc: Global) -> bool {
+    let Ok((once, report)) = plan(alloc, TWO, &["b/0"], TWO_STATUS) else {
+        return false;
+    };
+    let Ok((twice, same)) = plan(alloc, TWO, &["b/0", "b/0"], TWO_STATUS) else {
+        return false;
+    };
+    once == Exit::answered(0) && twice == once && report.output() == same.output()
+}
+
+#[test]
+fn workers_that_are_lost_twice(rt: HostRuntime) {
+    assert!(rt; is_lost_once(rt.alloc()));
 }
 
 /// The exit of `plan` on the first example's status text after so many lulls.
@@ -353,14 +373,15 @@ fn plan_after(alloc: Global, lulls: u32) -> Result<Exit, AllocError> {
     Ok(plan_text(alloc, TWO, &[], &mut script, &mut sink))
 }
 
-/// Whether a sink that takes one byte at a time and fails at this call has got the bytes before it.
-fn fails_at(alloc: Global, call: u64) -> bool {
+/// Whether a sink that takes so many bytes one by one, and then fails, has got them.
+fn fails_after(alloc: Global, sent: u32) -> bool {
     let mut source = SliceSource::new(TWO_STATUS);
     let mut sink = Script::new(alloc);
     sink.give_at_most(1);
-    sink.fail_give(call);
+    sink.fail_give(u64::from(sent) + 1);
     let exit = plan_text(alloc, TWO, &[], &mut source, &mut sink);
-    exit == Exit::refused(Fault::WriteFault) && sink.output() == &TWO_REPORT[..call as usize - 1]
+    exit == Exit::refused(Fault::WriteFault)
+        && TWO_REPORT.get(..sent as usize) == Some(sink.output())
 }
 
 #[test]
@@ -370,17 +391,22 @@ fn devices_that_fail(rt: HostRuntime) {
     assert!(rt;
         matches!(plan_after(alloc, 65), Ok(exit) if exit == Exit::refused(Fault::ReadFault))
     );
-    assert!(rt; (1..=TWO_REPORT.len() as u64).all(|call| fails_at(alloc, call)));
+    assert!(rt; (0..TWO_REPORT.len() as u32).all(|sent| fails_after(alloc, sent)));
 }
 
 #[test]
-fn verdicts_on_reports(rt: HostRuntime) {
+fn verdicts_on_changed_reports(rt: HostRuntime) {
     let alloc = rt.alloc();
     assert!(rt; says(alloc, 17, 1, b"5", b"not shown 3 WrongBacklog\n"));
     assert!(rt; says(alloc, 28, 1, b"y", b"not shown 1 NotPermitted\n"));
     assert!(rt; says(alloc, 73, 12, b"", b"not shown 4 NotShort\n"));
     assert!(rt; says(alloc, 41, 44, b"", b"not shown 5 SetMissing\n"));
     assert!(rt; says(alloc, 52, 1, b"4", b"not shown 7 Text\n"));
+}
+
+#[test]
+fn verdicts_on_other_reports(rt: HostRuntime) {
+    let alloc = rt.alloc();
     let idle = b"not shown 6 Idle\n";
     assert!(rt;
         checks(
