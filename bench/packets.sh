@@ -9,7 +9,7 @@ scratch=$(mktemp -d)
 trap 'rm -rf "$scratch"' EXIT
 mkdir -p "$scratch/crates/packets_bench/src"
 cp -r crates/gear_packets "$scratch/crates/"
-cp bench/packets/main.rt "$scratch/crates/packets_bench/src/main.rt"
+cp bench/packets/main.rt.txt "$scratch/crates/packets_bench/src/main.rt"
 grep '^gear_packets:' crates.txt > "$scratch/crates.txt"
 echo 'packets_bench: gear_packets anyhow' >> "$scratch/crates.txt"
 (cd "$scratch/crates/packets_bench" && rt run -- 16 16 1 > "$scratch/build.log" 2>&1) || { tail -20 "$scratch/build.log"; exit 1; }

@@ -13,7 +13,7 @@ for crate in plan_model round_arena augment level_search; do
     cp -r "crates/$crate" "$scratch/crates/"
     grep "^$crate:" crates.txt >> "$scratch/crates.txt"
 done
-cp bench/planning/main.rt "$scratch/crates/planning_bench/src/main.rt"
+cp bench/planning/main.rt.txt "$scratch/crates/planning_bench/src/main.rt"
 echo 'planning_bench: level_search, plan_model, bumpalo, anyhow' >> "$scratch/crates.txt"
 (cd "$scratch/crates/planning_bench" && rt run -- all > "$scratch/build.log" 2>&1) || { tail -20 "$scratch/build.log"; exit 1; }
 bench="$scratch/crates/planning_bench/out/planning_bench"
