@@ -1,0 +1,116 @@
+-- The command of a line.
+use Rattle.std.specs.Prelude.{ℕ, ◌<◌, List, [], ◌∷◌, Option, Some, None, IfSome, option_map, if◌then◌else◌, codes}
+use Rattle.std.specs.Option.{option_and_then}
+use Rattle.std.specs.Str.{bytes_eq}
+use Rattle.gear_status.specs.Status.{Line, put}
+use Rattle.pool_settings.specs.Profile.{Profile}
+use Rattle.pool_settings.specs.Slots.{slot_named}
+use Rattle.pool_commands.specs.declared.command.Command.{Command}
+use Rattle.pool_commands.specs.declared.command.Command.TheVariants as command
+use Rattle.pool_commands.specs.Words as word
+
+-- ---- the forms, by the words behind the first
+
+-- no more words
+abbrev pub alone : Command → List (List ℕ) → Option Command
+alone c [] = Some c
+alone c _ = None
+
+abbrev pub join_in : Profile → List (List ℕ) → Option Command
+join_in p (slot ∷ []) = option_map (λ s. command.Join s) (slot_named p slot)
+join_in p _ = None
+
+-- a name with its numbers of jobs, and 0 available workers
+abbrev pub load_line : List ℕ → List ℕ → List ℕ → Option Line
+load_line name total running =
+    option_and_then (λ n. option_and_then (λ t. option_map (λ r. (n, record { total = t; running = r; workers = 0 }))
+    (word.count_in running)) (word.count_in total)) (word.word_in name)
+
+-- the load with these words set in order, three for each name
+abbrev pub load_from : List Line → List (List ℕ) → Option (List Line)
+load_from load [] = Some load
+load_from load (name ∷ total ∷ running ∷ rest) =
+    option_and_then (λ line. load_from (put load line) rest) (load_line name total running)
+load_from load _ = None
+
+abbrev pub load_in : List (List ℕ) → Option Command
+load_in args = option_map (λ l. command.Load l) (load_from [] args)
+
+abbrev pub grab_in : Profile → List (List ℕ) → Option Command
+grab_in p (worker ∷ handle ∷ function ∷ now ∷ []) =
+    option_and_then (λ w. option_and_then (λ h. option_and_then (λ f. option_map (λ n. command.Grab w h f n)
+    (word.long_in now)) (word.word_in function)) (word.handle_in handle)) (word.worker_in p worker)
+grab_in p _ = None
+
+abbrev pub begin_in : Profile → List (List ℕ) → Option Command
+begin_in p (worker ∷ ticket ∷ []) =
+    option_and_then (λ w. option_map (λ k. command.Begin w k) (word.long_in ticket)) (word.worker_in p worker)
+begin_in p _ = None
+
+abbrev pub report_in : Profile → List (List ℕ) → Option Command
+report_in p (worker ∷ ticket ∷ end ∷ []) =
+    option_and_then (λ w. option_and_then (λ k. option_map (λ e. command.Report w k e)
+    (word.end_in end)) (word.long_in ticket)) (word.worker_in p worker)
+report_in p _ = None
+
+abbrev pub lose_in : Profile → List (List ℕ) → Option Command
+lose_in p (worker ∷ cause ∷ []) =
+    option_and_then (λ w. option_map (λ c. command.Lose w c) (word.cause_in cause)) (word.worker_in p worker)
+lose_in p _ = None
+
+abbrev pub expire_in : Profile → List (List ℕ) → Option Command
+expire_in p (worker ∷ now ∷ []) =
+    option_and_then (λ w. option_map (λ n. command.Expire w n) (word.long_in now)) (word.worker_in p worker)
+expire_in p _ = None
+
+abbrev pub job_in : List (List ℕ) → Option Command
+job_in (ticket ∷ []) = option_map (λ k. command.Job k) (word.long_in ticket)
+job_in _ = None
+
+abbrev pub order_in : Profile → List (List ℕ) → Option Command
+order_in p (slot ∷ []) = option_map (λ s. command.Order s) (slot_named p slot)
+order_in p _ = None
+
+-- ---- a line
+
+-- the first word says of which form the line is
+abbrev pub form_in : Profile → List ℕ → List (List ℕ) → Option Command
+form_in p verb args =
+    if bytes_eq verb (codes "join") then join_in p args
+    else (if bytes_eq verb (codes "load") then load_in args
+    else (if bytes_eq verb (codes "round") then alone command.Round args
+    else (if bytes_eq verb (codes "view") then alone command.View args
+    else (if bytes_eq verb (codes "adopt") then alone command.Adopt args
+    else (if bytes_eq verb (codes "grab") then grab_in p args
+    else (if bytes_eq verb (codes "begin") then begin_in p args
+    else (if bytes_eq verb (codes "report") then report_in p args
+    else (if bytes_eq verb (codes "lose") then lose_in p args
+    else (if bytes_eq verb (codes "expire") then expire_in p args
+    else (if bytes_eq verb (codes "job") then job_in args
+    else (if bytes_eq verb (codes "order") then order_in p args
+    else (if bytes_eq verb (codes "totals") then alone command.Totals args
+    else None))))))))))))
+
+abbrev pub command_of_words : Profile → List (List ℕ) → Option Command
+command_of_words p [] = None
+command_of_words p (verb ∷ args) = form_in p verb args
+
+-- the command of a line, if it is of one of the forms
+abbrev pub command_in : Profile → List ℕ → Option Command
+command_in p line = command_of_words p (word.words_of line)
+
+-- ---- the slot that a command names, if it names one
+
+abbrev pub slot_of : Command → Option ℕ
+slot_of (command.Join slot) = Some slot
+slot_of (command.Grab worker handle function now) = Some worker.slot
+slot_of (command.Begin worker ticket) = Some worker.slot
+slot_of (command.Report worker ticket end) = Some worker.slot
+slot_of (command.Lose worker cause) = Some worker.slot
+slot_of (command.Expire worker now) = Some worker.slot
+slot_of (command.Order slot) = Some slot
+slot_of _ = None
+
+-- there are so many slots that the command's slot is one of them
+abbrev pub IsWithin : ℕ → Command → Type 0
+IsWithin slots c = IfSome (slot_of c) (λ slot. slot < slots)

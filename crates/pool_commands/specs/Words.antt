@@ -1,0 +1,76 @@
+-- The words of a command line, and what a single word says.
+use Rattle.std.specs.Prelude.{ℕ, ◌==◌, List, [], ◌∷◌, length, Bool, not, ◌&&◌, nat_le, nat_lt, is_none, find, Option, Some, None, option_map, if◌then◌else◌, codes}
+use Rattle.std.specs.List.{after_first, before_first, list_any, slice_split}
+use Rattle.std.specs.Option.{option_and_then}
+use Rattle.std.specs.Str.{all_ascii_digits, bytes_eq}
+use Rattle.std.specs.Str.Parse.{digits_value}
+use Rattle.gear_packets.specs.Refusal.{handle_refusal}
+use Rattle.pool_settings.specs.Profile.{Profile}
+use Rattle.pool_settings.specs.Slots.{slot_named}
+use Rattle.worker_state.specs.Causes.{cause_name}
+use Rattle.worker_state.specs.declared.cause.Cause.{Cause}
+use Rattle.worker_state.specs.declared.cause.Cause.TheVariants.{BadPacket, ServerError, ReadFault, WriteFault, TurnsUsed, Memory, HistoryFull, Closed, Stopped, Late}
+use Rattle.worker_state.specs.declared.job.EndKind.{EndKind}
+use Rattle.worker_state.specs.declared.job.EndKind.TheVariants.{Complete, Fail}
+use Rattle.worker_state.specs.declared.slot.WorkerName.{WorkerName}
+
+abbrev pub is_space : ℕ → Bool
+is_space b = b == 32
+
+-- What stands between the spaces. Two spaces in a row have an empty word between them, a space at an end has one beside it,
+-- and an empty line is one empty word; no form takes an empty word.
+abbrev pub words_of : List ℕ → List (List ℕ)
+words_of line = slice_split is_space line
+
+-- any word but an empty one
+abbrev pub word_in : List ℕ → Option (List ℕ)
+word_in text = if nat_lt 0 (length text) then Some text else None
+
+-- the number from low to high that one or more decimal digits write
+abbrev pub number_between : ℕ → ℕ → List ℕ → Option ℕ
+number_between low high digits =
+    if (nat_lt 0 (length digits) && all_ascii_digits digits)
+    && (nat_le low (digits_value 10 digits) && nat_le (digits_value 10 digits) high)
+    then Some (digits_value 10 digits)
+    else None
+
+-- a ticket, or a time in milliseconds
+abbrev pub long_in : List ℕ → Option ℕ
+long_in digits = number_between 0 18446744073709551615 digits
+
+-- a number of jobs
+abbrev pub count_in : List ℕ → Option ℕ
+count_in digits = number_between 0 4294967295 digits
+
+abbrev pub generation_in : List ℕ → Option ℕ
+generation_in digits = number_between 1 262143 digits
+
+-- ---- workers: the slot's name, a hash sign and the generation
+
+abbrev pub is_hash : ℕ → Bool
+is_hash b = b == 35
+
+abbrev pub worker_of : Profile → List ℕ → List ℕ → Option WorkerName
+worker_of p name digits =
+    option_and_then (λ slot. option_map (λ number. record { slot = slot; generation = number }) (generation_in digits))
+    (slot_named p name)
+
+abbrev pub worker_in : Profile → List ℕ → Option WorkerName
+worker_in p text = if list_any is_hash text then worker_of p (before_first is_hash text) (after_first is_hash text) else None
+
+-- ---- handles, ends and causes
+
+abbrev pub handle_in : List ℕ → Option (List ℕ)
+handle_in text = if is_none (handle_refusal text) then Some text else None
+
+abbrev pub end_in : List ℕ → Option EndKind
+end_in text =
+    if bytes_eq text (codes "complete") then Some Complete
+    else (if bytes_eq text (codes "fail") then Some Fail else None)
+
+abbrev pub causes : List Cause
+causes = BadPacket ∷ ServerError ∷ ReadFault ∷ WriteFault ∷ TurnsUsed ∷ Memory ∷ HistoryFull ∷ Closed ∷ Stopped ∷ Late ∷ []
+
+-- the cause of that name
+abbrev pub cause_in : List ℕ → Option Cause
+cause_in text = find (λ cause. bytes_eq (cause_name cause) text) causes

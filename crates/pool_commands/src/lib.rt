@@ -1,0 +1,6 @@
+//! The command lines by which a person drives the pool's machine.
+#![tactic(auto)]
+
+mod command;
+
+pub use command::{Command, Word};
