@@ -1,0 +1,177 @@
+//! Jobs: how they are grabbed and reported.
+ghost use Rattle.std.specs.Prelude.{◌≡◌, ◌+◌, ◌<◌, nat_lt, ◌^◌, IfOk, OnOk, OnErr};
+ghost use Rattle.worker_state.specs.Slots.{runs_of};
+ghost use Rattle.pool_core.specs.Machine.{slot_in, next_ticket};
+ghost use Rattle.std.specs.Result.{result_err};
+ghost use Rattle.pool_core.specs.Book.{Book, IsStep, grab_due, grab_refusal, begin_refusal, report_refusal, stay_or_retire};
+ghost use Rattle.pool_core.specs.declared.event.Event.TheVariants as event;
+
+use super::{Pass, Pool};
+use crate::answer::StayOrRetire;
+use crate::error::{BeginError, GrabError, ReportError};
+use crate::event::{Assignment, Event, FunctionName};
+use crate::table;
+use gear_packets::Handle;
+use worker_state::{EndKind, Slot, Standing, Ticket, WorkerName};
+
+impl Pool {
+    fn grab_refusal(&self, worker: &WorkerName) -> Option<GrabError>
+        ensures { result ≡ grab_refusal self.now worker.now }
+    {
+        let slot = self.slot_of(worker.slot);
+        if !table::is_of(&slot, worker.generation) {
+            return Some(GrabError::Gone);
+        }
+        if table::open_in(&slot).is_some() {
+            return Some(GrabError::Busy);
+        }
+        if self.has_room(3) && (self.standings.len() as u64) < u64::MAX {
+            None
+        } else {
+            Some(GrabError::HistoryFull)
+        }
+    }
+
+    /// Books a job that the server gave to the worker, and gives its ticket: 1 for the first job of the pool, and so on.
+    ///
+    /// The function may be any bytes. The time is in milliseconds, of the clock that `expire` is given. It makes the room for the
+    /// events that close the job.
+    pub fn grab(
+        &mut self,
+        pass: &Pass,
+        handle: Handle,
+        function: &[u8],
+        now_ms: u64,
+    ) -> Result<Ticket, GrabError>
+        ensures step { OnOk result (IsStep (event.Grab pass.now handle function.now now_ms) self.old self.new) }
+        ensures ticket { IfOk result (λ ticket. ticket ≡ next_ticket self.old.state) }
+        ensures err { OnErr result (self.new ≡ self.old) }
+        ensures refusal { grab_due result ≡ grab_refusal self.old pass.now }
+    {
+        let worker = pass.name();
+        if let Some(refusal) = self.grab_refusal(&worker) {
+            return Err(refusal);
+        }
+        let noted = FunctionName::copied(self.alloc, function)?;
+        let function = FunctionName::copied(self.alloc, function)?;
+        table::reserve_job(
+            &mut self.assignments,
+            &mut self.standings,
+            &mut self.events,
+            self.owed as usize + 3,
+        )?;
+        let ticket = Ticket::new(self.standings.len() as u64 + 1);
+        let runs = table::runs_in(&table::slot_of(self.slots.as_slice(), worker.slot));
+        let slot = Slot::Live {
+            generation: worker.generation,
+            runs,
+            ticket: Some(ticket),
+        };
+        table::put_slot(&mut self.slots, worker.slot, slot);
+        table::put_time(&mut self.grab_times, worker.slot, now_ms);
+        self.assignments.push_reserved(Assignment {
+            handle: handle.copy(),
+            function,
+        });
+        self.standings.push_reserved(Standing::Running);
+        self.owed += 2;
+        self.events.push_reserved(Event::Grab {
+            worker,
+            handle,
+            function: noted,
+            now_ms,
+        });
+        Ok(ticket)
+    }
+
+    fn begin_refusal(&self, worker: &WorkerName, ticket: Ticket) -> Option<BeginError>
+        ensures { result ≡ begin_refusal self.now worker.now ticket }
+    {
+        let slot = self.slot_of(worker.slot);
+        if !table::is_of(&slot, worker.generation) {
+            return Some(BeginError::Gone);
+        }
+        if !table::is_open(table::open_in(&slot), ticket) {
+            return Some(BeginError::WrongTicket);
+        }
+        if !table::runs(self.standing_in(ticket)) {
+            return Some(BeginError::AlreadyReporting);
+        }
+        None
+    }
+
+    /// Begins to report a job: from now on it is not late. A session calls it before it writes the first byte of the answer.
+    /// It takes no memory and needs no room.
+    pub fn begin_report(&mut self, pass: &Pass, ticket: Ticket) -> Result<(), BeginError>
+        ensures step { OnOk result (IsStep (event.Begin pass.now ticket) self.old self.new) }
+        ensures err { OnErr result (self.new ≡ self.old) }
+        ensures refusal { result_err result ≡ begin_refusal self.old pass.now ticket }
+    {
+        let worker = pass.name();
+        if let Some(refusal) = self.begin_refusal(&worker, ticket) {
+            return Err(refusal);
+        }
+        table::put_standing(&mut self.standings, ticket, Standing::Reporting);
+        self.owed -= 1;
+        self.events.push_reserved(Event::Begin { worker, ticket });
+        Ok(())
+    }
+
+    fn report_refusal(&self, worker: &WorkerName, ticket: Ticket) -> Option<ReportError>
+        ensures { result ≡ report_refusal self.now worker.now ticket }
+    {
+        let slot = self.slot_of(worker.slot);
+        if !table::is_of(&slot, worker.generation) {
+            return Some(ReportError::Gone);
+        }
+        if !table::is_open(table::open_in(&slot), ticket) {
+            return Some(ReportError::WrongTicket);
+        }
+        if !table::reports(self.standing_in(ticket)) {
+            return Some(ReportError::NotReporting);
+        }
+        None
+    }
+
+    /// Whether the worker goes on after one more run.
+    fn stays(&self, worker: &WorkerName) -> bool
+        ensures stays { result ≡ nat_lt (runs_of (slot_in self.now.state.slots worker.now.slot) + 1) self.now.rules.max_runs }
+        ensures fits { runs_of (slot_in self.now.state.slots worker.now.slot) + 1 < 2 ^ 32 }
+    {
+        let max_runs = self.settings.max_runs();
+        let runs = table::runs_in(&table::slot_of(self.slots.as_slice(), worker.slot));
+        runs + 1 < max_runs
+    }
+
+    /// Books that the answer to a job was written whole, and counts a run. At the greatest number of runs the worker retires: its
+    /// slot is empty then. It takes no memory and needs no room.
+    pub fn reported(
+        &mut self,
+        pass: &Pass,
+        ticket: Ticket,
+        end: EndKind,
+    ) -> Result<StayOrRetire, ReportError>
+        ensures step { OnOk result (IsStep (event.Reported pass.now ticket end) self.old self.new) }
+        ensures told { IfOk result (λ told. told ≡ stay_or_retire self.old pass.now) }
+        ensures err { OnErr result (self.new ≡ self.old) }
+        ensures refusal { result_err result ≡ report_refusal self.old pass.now ticket }
+    {
+        let worker = pass.name();
+        if let Some(refusal) = self.report_refusal(&worker, ticket) {
+            return Err(refusal);
+        }
+        let stays = self.stays(&worker);
+        let runs = table::runs_in(&table::slot_of(self.slots.as_slice(), worker.slot));
+        let slot = table::slot_after(stays, worker.generation, runs);
+        table::put_slot(&mut self.slots, worker.slot, slot);
+        table::put_standing(&mut self.standings, ticket, Standing::Reported(end));
+        self.owed -= 2 - table::one_if(stays);
+        self.reported += 1;
+        self.events.push_reserved(Event::Reported {
+            worker,
+            ticket,
+            end,
+        });
+        Ok(table::told(stays))
+    }
+}

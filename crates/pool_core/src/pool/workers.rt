@@ -1,0 +1,147 @@
+//! Workers: how they join, and how they are lost.
+ghost use Rattle.std.specs.Prelude.{◌≡◌, ◌+◌, ◌<◌, IsTrue, length, IfOk, OnOk, OnErr};
+ghost use Rattle.worker_state.specs.Slots.{last_generation};
+ghost use Rattle.pool_core.specs.Machine.{slot_in, is_live_in};
+ghost use Rattle.std.specs.Result.{result_err};
+ghost use Rattle.pool_core.specs.Book.{Book, IsStep, join_due, join_refusal, lose_refusal, expire_refusal};
+ghost use Rattle.worker_state.specs.declared.cause.Cause.TheVariants.{Late};
+ghost use Rattle.pool_core.specs.declared.event.Event.TheVariants as event;
+
+use super::{Pass, Pool};
+use crate::error::{ExpireError, JoinError, LoseError};
+use crate::event::Event;
+use crate::table;
+use plan_model::SlotId;
+use worker_state::{Cause, Order, Slot, What, WorkerName};
+
+impl Pool {
+    fn join_refusal(&self, slot: SlotId) -> Option<JoinError>
+        ensures { result ≡ join_refusal self.now slot }
+    {
+        let held = self.slot_of(slot);
+        if table::lives(&held) {
+            return Some(JoinError::AlreadyLive);
+        }
+        if table::last_of(&held) >= 262143 {
+            return Some(JoinError::GenerationsUsed);
+        }
+        if !self.has_room(2) {
+            return Some(JoinError::HistoryFull);
+        }
+        None
+    }
+
+    /// A new worker in an empty slot, of the next generation, with no runs, no job and an idle order.
+    ///
+    /// It makes the room for the event that ends the worker. A slot gives 262,143 generations.
+    pub fn join(&mut self, slot: SlotId) -> Result<Pass, JoinError>
+        requires { slot < length self.old.state.slots }
+        ensures step { OnOk result (IsStep (event.Join slot) self.old self.new) }
+        ensures pass { IfOk result (λ pass. pass ≡ record { slot = slot; generation = last_generation (slot_in self.old.state.slots slot) + 1 }) }
+        ensures err { OnErr result (self.new ≡ self.old) }
+        ensures refusal { join_due result ≡ join_refusal self.old slot }
+    {
+        if let Some(refusal) = self.join_refusal(slot) {
+            return Err(refusal);
+        }
+        self.events.reserve(self.owed as usize + 2)?;
+        let generation = table::last_of(&table::slot_of(self.slots.as_slice(), slot)) + 1;
+        let live = Slot::Live {
+            generation,
+            runs: 0,
+            ticket: None,
+        };
+        let order = Order {
+            generation,
+            round: 0,
+            what: What::Idle,
+        };
+        table::put_slot(&mut self.slots, slot, live);
+        table::put_order(&mut self.orders, slot, order);
+        self.owed += 1;
+        self.events.push_reserved(Event::Join { slot });
+        Ok(Pass {
+            worker: WorkerName { slot, generation },
+        })
+    }
+
+    fn lose_refusal(&self, worker: &WorkerName) -> Option<LoseError>
+        ensures { result ≡ lose_refusal self.now worker.now }
+    {
+        if table::is_of(&self.slot_of(worker.slot), worker.generation) {
+            None
+        } else {
+            Some(LoseError::Gone)
+        }
+    }
+
+    fn lose_worker(&mut self, worker: WorkerName, cause: Cause)
+        requires { IsTrue (is_live_in self.old.state worker) }
+        ensures { IsStep (event.Lost worker cause) self.old self.new }
+    {
+        let ticket = table::open_in(&table::slot_of(self.slots.as_slice(), worker.slot));
+        table::put_slot(&mut self.slots, worker.slot, Slot::Empty(worker.generation));
+        let jobs = table::lost_jobs(&ticket);
+        let name = WorkerName {
+            slot: worker.slot,
+            generation: worker.generation,
+        };
+        let owed = table::put_lost(&mut self.standings, ticket, name, cause);
+        self.owed -= 1 + owed;
+        self.lost += jobs;
+        self.events.push_reserved(Event::Lost { worker, cause });
+    }
+
+    /// Loses a worker, and with it the job that it had. The pass is spent, also where it is refused. It takes no memory and needs
+    /// no room.
+    pub fn lose(&mut self, pass: Pass, cause: Cause) -> Result<(), LoseError>
+        ensures step { OnOk result (IsStep (event.Lost pass cause) self.old self.new) }
+        ensures err { OnErr result (self.new ≡ self.old) }
+        ensures refusal { result_err result ≡ lose_refusal self.old pass }
+    {
+        let worker = pass.name();
+        if let Some(refusal) = self.lose_refusal(&worker) {
+            return Err(refusal);
+        }
+        self.lose_worker(worker, cause);
+        Ok(())
+    }
+
+    fn expire_refusal(&self, worker: &WorkerName, now_ms: u64) -> Option<ExpireError>
+        ensures { result ≡ expire_refusal self.now worker.now now_ms }
+    {
+        let slot = self.slot_of(worker.slot);
+        if !table::is_of(&slot, worker.generation) {
+            return Some(ExpireError::Gone);
+        }
+        let Some(ticket) = table::open_in(&slot) else {
+            return Some(ExpireError::NoJob);
+        };
+        if table::reports(self.standing_in(ticket)) {
+            return Some(ExpireError::Reporting);
+        }
+        let since = table::time_of(self.grab_times.as_slice(), worker.slot);
+        let timeout = self.settings.job_timeout_ms() as u64;
+        if since <= now_ms && timeout <= now_ms - since {
+            None
+        } else {
+            Some(ExpireError::NotLate)
+        }
+    }
+
+    /// Loses the worker of that generation where its job is late, unless the report has begun: where the time of the grab and the
+    /// job timeout add up to no more than now. It takes no memory and needs no room.
+    pub fn expire(&mut self, slot: SlotId, generation: u32, now_ms: u64) -> Result<(), ExpireError>
+        requires { slot < length self.old.state.slots }
+        ensures step { OnOk result (IsStep (event.Lost (record { slot = slot; generation = generation }) Late) self.old self.new) }
+        ensures err { OnErr result (self.new ≡ self.old) }
+        ensures refusal { result_err result ≡ expire_refusal self.old (record { slot = slot; generation = generation }) now_ms }
+    {
+        let worker = WorkerName { slot, generation };
+        if let Some(refusal) = self.expire_refusal(&worker, now_ms) {
+            return Err(refusal);
+        }
+        self.lose_worker(worker, Cause::Late);
+        Ok(())
+    }
+}
