@@ -1,0 +1,29 @@
+-- A pool has as many slots as its settings say.
+use Rattle.std.proofs.Common.{◌≡◌, ℕ, List, [], ◌∷◌, length, Bool, true, false, Option, Some, None, refl, ap, sym, ◌∙◌}
+use Rattle.std.proofs.lemmas.List.{length-set}
+use Rattle.plan_model.specs.declared.answer.Answer.TheVariants as answers
+use Rattle.pool_settings.specs.Profile.{Profile}
+use Rattle.pool_settings.specs.Slots.{slots as slot_count}
+use Rattle.pool_core.specs.declared.event.Event.{Event}
+use Rattle.pool_core.specs.declared.event.Event.TheVariants as event
+use Rattle.pool_core.specs.Kept.{IsChapter}
+use Rattle.pool_core.specs.Machine.{State, after, replay}
+
+-- no event makes a slot or takes one away
+slots_after : (p : Profile) (e : Event) (state : State) → length (after p e state).slots ≡ length state.slots
+slots_after p (event.Join slot) state = length-set _ _ _
+slots_after p (event.Load load) state = refl
+slots_after p (event.Round (answers.Planned plan backlog short)) state = refl
+slots_after p (event.Round (answers.NoPlan short)) state = refl
+slots_after p (event.Grab worker handle function now) state = length-set _ _ _
+slots_after p (event.Begin worker ticket) state = refl
+slots_after p (event.Reported worker ticket end) state = length-set _ _ _
+slots_after p (event.Lost worker cause) state = length-set _ _ _
+
+slots_replayed : (p : Profile) (state : State) (events : List Event) → length (replay p state events).slots ≡ length state.slots
+slots_replayed p state [] = refl
+slots_replayed p state (e ∷ events) = slots_replayed p (after p e state) events ∙ slots_after p e state
+
+pub slots_of_chapter : (p : Profile) (events : List Event) (state : State) → IsChapter p events state → length state.slots ≡ slot_count p
+slots_of_chapter p events state chapter =
+    ap (λ s. length s.slots) chapter.replays.replayed ∙ slots_replayed p chapter.base events ∙ chapter.sound.slots

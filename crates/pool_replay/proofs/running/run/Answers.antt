@@ -1,0 +1,12 @@
+use Rattle.std.proofs.Common.{ℕ, List, subst, sym}
+use Rattle.pool_replay.specs.Transcript.{IsTranscript, first_desk, lines_of}
+use Rattle.pool_replay.specs.declared.running.End.TheVariants.{Memory}
+use Rattle.pool_replay.proofs.Ends.{gives_up}
+use Rattle.pool_replay.proofs.running.run.Goals as goal
+
+pub returns : goal.returns
+returns c =
+    let p = c.args.settings in
+    record {
+      transcript = subst (λ (out : List ℕ). IsTranscript p 1 (first_desk p) (lines_of c.args.input.now) out Memory) (sym c.new.ensures.bytes) (gives_up p 1 (first_desk p) (lines_of c.args.input.now));
+    }

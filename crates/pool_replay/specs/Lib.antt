@@ -1,0 +1,4 @@
+pub mod Passes
+pub mod Lines
+pub mod Step
+pub mod Transcript

@@ -1,0 +1,170 @@
+-- What a command prints, without its line feed.
+use Rattle.std.specs.Prelude.{ℕ, ◌-◌, ◌^◌, ◌++◌, List, [], Option, Some, None, Result, Ok, Err, codes, nat_lt, if◌then◌else◌}
+use Rattle.std.specs.Fmt.{decimal}
+use Rattle.plan_model.specs.Certificate.{Certificate}
+use Rattle.plan_model.specs.declared.answer.Answer.{Answer}
+use Rattle.plan_model.specs.declared.answer.Answer.TheVariants as answers
+use Rattle.pool_settings.specs.Names.{name_at}
+use Rattle.pool_settings.specs.Profile.{Profile}
+use Rattle.pool_settings.specs.Slots.{slots, worker_name}
+use Rattle.worker_state.specs.Causes.{cause_name}
+use Rattle.worker_state.specs.declared.slot.WorkerName.{WorkerName}
+use Rattle.worker_state.specs.declared.job.EndKind.{EndKind}
+use Rattle.worker_state.specs.declared.job.EndKind.TheVariants as end
+use Rattle.worker_state.specs.declared.job.Standing.{Standing}
+use Rattle.worker_state.specs.declared.job.Standing.TheVariants as standing
+use Rattle.worker_state.specs.declared.order.Order.{Order}
+use Rattle.worker_state.specs.declared.order.What.{What}
+use Rattle.worker_state.specs.declared.order.What.TheVariants.{Idle, Work, Stop}
+use Rattle.pool_core.specs.declared.error.JoinError.{JoinError}
+use Rattle.pool_core.specs.declared.error.JoinError.TheVariants as join
+use Rattle.pool_core.specs.declared.error.LoadError.{LoadError}
+use Rattle.pool_core.specs.declared.error.LoadError.TheVariants as load
+use Rattle.pool_core.specs.declared.error.RoundError.{RoundError}
+use Rattle.pool_core.specs.declared.error.RoundError.TheVariants as round
+use Rattle.pool_core.specs.declared.error.ViewError.{ViewError}
+use Rattle.pool_core.specs.declared.error.ViewError.TheVariants as view
+use Rattle.pool_core.specs.declared.error.AdoptError.{AdoptError}
+use Rattle.pool_core.specs.declared.error.AdoptError.TheVariants as adopt
+use Rattle.pool_core.specs.declared.error.GrabError.{GrabError}
+use Rattle.pool_core.specs.declared.error.GrabError.TheVariants as grab
+use Rattle.pool_core.specs.declared.error.BeginError.{BeginError}
+use Rattle.pool_core.specs.declared.error.BeginError.TheVariants as begin
+use Rattle.pool_core.specs.declared.error.ReportError.{ReportError}
+use Rattle.pool_core.specs.declared.error.ReportError.TheVariants as report
+use Rattle.pool_core.specs.declared.error.LoseError.{LoseError}
+use Rattle.pool_core.specs.declared.error.LoseError.TheVariants as lose
+use Rattle.pool_core.specs.declared.error.ExpireError.{ExpireError}
+use Rattle.pool_core.specs.declared.error.ExpireError.TheVariants as expire
+use Rattle.pool_core.specs.declared.answer.StayOrRetire.{StayOrRetire}
+use Rattle.pool_core.specs.declared.answer.StayOrRetire.TheVariants.{Stay, Retire}
+use Rattle.pool_core.specs.declared.answer.Totals.{Totals}
+use Rattle.pool_core.specs.declared.answer.Ran.{Ran}
+
+-- ---- refusals: the number of the refusal in its call, and its name
+
+abbrev pub join_refused : JoinError → List ℕ
+join_refused join.AlreadyLive = codes "refused 1 AlreadyLive"
+join_refused join.GenerationsUsed = codes "refused 2 GenerationsUsed"
+join_refused join.HistoryFull = codes "refused 3 HistoryFull"
+join_refused join.Memory = codes "refused 4 Memory"
+
+abbrev pub load_refused : LoadError → List ℕ
+load_refused load.HistoryFull = codes "refused 1 HistoryFull"
+load_refused load.Memory = codes "refused 2 Memory"
+
+abbrev pub round_refused : RoundError → List ℕ
+round_refused round.NoLoad = codes "refused 1 NoLoad"
+round_refused round.HistoryFull = codes "refused 2 HistoryFull"
+round_refused round.Memory = codes "refused 3 Memory"
+
+abbrev pub view_refused : ViewError → List ℕ
+view_refused view.NoLoad = codes "refused 1 NoLoad"
+view_refused view.Memory = codes "refused 2 Memory"
+
+abbrev pub adopt_refused : AdoptError → List ℕ
+adopt_refused adopt.NoLoad = codes "refused 1 NoLoad"
+adopt_refused adopt.Stale = codes "refused 2 Stale"
+adopt_refused adopt.HistoryFull = codes "refused 3 HistoryFull"
+adopt_refused adopt.Memory = codes "refused 4 Memory"
+
+abbrev pub grab_refused : GrabError → List ℕ
+grab_refused grab.Gone = codes "refused 1 Gone"
+grab_refused grab.Busy = codes "refused 2 Busy"
+grab_refused grab.HistoryFull = codes "refused 3 HistoryFull"
+grab_refused grab.Memory = codes "refused 4 Memory"
+
+abbrev pub begin_refused : BeginError → List ℕ
+begin_refused begin.Gone = codes "refused 1 Gone"
+begin_refused begin.WrongTicket = codes "refused 2 WrongTicket"
+begin_refused begin.AlreadyReporting = codes "refused 3 AlreadyReporting"
+
+abbrev pub report_refused : ReportError → List ℕ
+report_refused report.Gone = codes "refused 1 Gone"
+report_refused report.WrongTicket = codes "refused 2 WrongTicket"
+report_refused report.NotReporting = codes "refused 3 NotReporting"
+
+abbrev pub lose_refused : LoseError → List ℕ
+lose_refused lose.Gone = codes "refused 1 Gone"
+
+abbrev pub expire_refused : ExpireError → List ℕ
+expire_refused expire.Gone = codes "refused 1 Gone"
+expire_refused expire.NoJob = codes "refused 2 NoJob"
+expire_refused expire.Reporting = codes "refused 3 Reporting"
+expire_refused expire.NotLate = codes "refused 4 NotLate"
+
+-- these two are refusals of the desk, not of the pool, and have no number
+abbrev pub no_pass : List ℕ
+no_pass = codes "refused NoPass"
+
+abbrev pub no_view : List ℕ
+no_view = codes "refused NoView"
+
+-- ---- answers
+
+-- the worker's name, a hash sign and its generation; the empty text where there is no such slot
+abbrev pub worker_text : Profile → WorkerName → List ℕ
+worker_text p worker =
+    if nat_lt worker.slot (slots p) then worker_name p worker.slot ++ codes "#" ++ decimal worker.generation else []
+
+-- `ok`, or the refusal
+abbrev pub ok_line : {A E : Type 0} → (E → List ℕ) → Result A E → List ℕ
+ok_line refused (Ok x) = codes "ok"
+ok_line refused (Err e) = refused e
+
+abbrev pub join_line : Profile → Result WorkerName JoinError → List ℕ
+join_line p (Ok worker) = codes "ok " ++ worker_text p worker
+join_line p (Err e) = join_refused e
+
+abbrev pub grab_line : Result ℕ GrabError → List ℕ
+grab_line (Ok ticket) = codes "ok " ++ decimal ticket
+grab_line (Err e) = grab_refused e
+
+abbrev pub report_line : Result StayOrRetire ReportError → List ℕ
+report_line (Ok Stay) = codes "ok stay"
+report_line (Ok Retire) = codes "ok retire"
+report_line (Err e) = report_refused e
+
+-- a backlog above all numbers of jobs counts what nobody serves
+abbrev pub backlog_words : Option ℕ → List ℕ
+backlog_words None = codes "noplan"
+backlog_words (Some backlog) =
+    if nat_lt backlog (2 ^ 32) then codes "backlog " ++ decimal backlog
+    else codes "unserved " ++ decimal (backlog - 2 ^ 32)
+
+abbrev pub ran_line : Ran → List ℕ
+ran_line ran = codes "ok " ++ decimal ran.number ++ codes " " ++ backlog_words ran.backlog ++ codes " moved " ++ decimal ran.moved
+
+abbrev pub ran_or : {E : Type 0} → (E → List ℕ) → Result Ran E → List ℕ
+ran_or refused (Ok ran) = ran_line ran
+ran_or refused (Err e) = refused e
+
+abbrev pub backlog_of : Answer → Option ℕ
+backlog_of (answers.Planned plan backlog short) = Some backlog
+backlog_of (answers.NoPlan short) = None
+
+abbrev pub view_line : Result Certificate ViewError → List ℕ
+view_line (Ok viewed) = codes "ok " ++ backlog_words (backlog_of viewed.answer)
+view_line (Err e) = view_refused e
+
+abbrev pub job_line : Profile → Option Standing → List ℕ
+job_line p None = codes "none"
+job_line p (Some standing.Running) = codes "running"
+job_line p (Some standing.Reporting) = codes "reporting"
+job_line p (Some (standing.Reported end.Complete)) = codes "reported complete"
+job_line p (Some (standing.Reported end.Fail)) = codes "reported fail"
+job_line p (Some (standing.Lost worker cause)) = codes "lost " ++ worker_text p worker ++ codes " " ++ cause_name cause
+
+-- the pool gives no order to stop
+abbrev pub what_line : Profile → ℕ → What → List ℕ
+what_line p round Idle = codes "idle"
+what_line p round (Work function) = codes "work " ++ name_at p.functions function ++ codes " round " ++ decimal round
+what_line p round Stop = codes "stop"
+
+abbrev pub order_line : Profile → Order → List ℕ
+order_line p order = what_line p order.round order.what
+
+abbrev pub totals_line : Totals → List ℕ
+totals_line t =
+    (codes "totals grabbed " ++ decimal t.grabbed ++ codes " running " ++ decimal t.running ++ codes " reported " ++ decimal t.reported)
+    ++ (codes " lost " ++ decimal t.lost ++ codes " rounds " ++ decimal t.rounds ++ codes " events " ++ decimal t.events)

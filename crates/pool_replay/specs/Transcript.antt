@@ -1,0 +1,57 @@
+-- What a run prints, and how it ends.
+use Rattle.std.specs.Prelude.{ℕ, ◌≡◌, ◌+◌, ◌==◌, List, [], ◌∷◌, ◌++◌, Bool, Option, Some, None, ◌⊎◌}
+use Rattle.std.specs.List.{slice_split}
+use Rattle.std.specs.FinSet as set
+use Rattle.pool_settings.specs.Profile.{Profile}
+use Rattle.pool_core.specs.Machine.{first}
+use Rattle.pool_commands.specs.declared.command.Command.{Command}
+use Rattle.pool_commands.specs.Grammar.{command_in}
+use Rattle.pool_replay.specs.declared.desk.Desk.{Desk}
+use Rattle.pool_replay.specs.declared.running.End.{End}
+use Rattle.pool_replay.specs.declared.running.End.TheVariants as end
+use Rattle.pool_replay.specs.Step.{StepOf}
+
+-- the line and its line feed
+abbrev pub ended : List ℕ → List ℕ
+ended line = line ++ 10 ∷ []
+
+abbrev pub is_line_feed : ℕ → Bool
+is_line_feed b = b == 10
+
+-- what stands behind the last line feed is a line where it holds a byte
+abbrev pub last_line : List ℕ → List (List ℕ)
+last_line [] = []
+last_line (b ∷ bs) = (b ∷ bs) ∷ []
+
+abbrev pub lines_of_parts : List (List ℕ) → List (List ℕ)
+lines_of_parts [] = []
+lines_of_parts (last ∷ []) = last_line last
+lines_of_parts (line ∷ next ∷ rest) = line ∷ lines_of_parts (next ∷ rest)
+
+-- the lines of a text, each without its line feed; the last may lack it
+abbrev pub lines_of : List ℕ → List (List ℕ)
+lines_of text = lines_of_parts (slice_split is_line_feed text)
+
+-- a pool in which nothing has happened, without a pass or a view
+abbrev pub first_desk : Profile → Desk
+first_desk p =
+    record {
+      pool = record { rules = p; events = []; state = first p; chapters = 0 };
+      passes = set.empty;
+      viewed = None;
+    }
+
+-- nothing more is printed: the line of that number is no command, or there was no memory
+abbrev pub StopsAt : Profile → ℕ → List ℕ → List ℕ → End → Type 0
+StopsAt p number line output how =
+    (output ≡ []) × (((how ≡ end.BadLine number) × (command_in p line ≡ None)) ⊎ (how ≡ end.Memory))
+
+-- The output of the lines from this number on, and how their run ends: each line is a command, and what it prints is one step
+-- of the desk. The run ends after the last line, at the first line that is no command, or where there was no memory.
+abbrev pub IsTranscript : Profile → ℕ → Desk → List (List ℕ) → List ℕ → End → Type 0
+IsTranscript p number desk [] output how = (output ≡ []) × ((how ≡ end.Done) ⊎ (how ≡ end.Memory))
+IsTranscript p number desk (line ∷ lines) output how =
+    StopsAt p number line output how
+    ⊎ ((command : Command) × (answer : List ℕ) × (rest : List ℕ) × (next : Desk)
+    × (command_in p line ≡ Some command) × StepOf p command desk answer next
+    × (output ≡ ended answer ++ rest) × IsTranscript p (number + 1) next lines rest how)

@@ -1,0 +1,237 @@
+//! What each command prints, without its line feed.
+
+ghost use Rattle.std.specs.Prelude.{◌≡◌, IfOk, string_bytes};
+ghost use Rattle.pool_replay.specs.Lines as spec;
+
+use crate::refusals::{
+    adopt_refused, begin_refused, expire_refused, grab_refused, join_refused, load_refused,
+    lose_refused, report_refused, round_refused, view_refused,
+};
+use plan_model::{Answer, Certified};
+use pool_core::{
+    AdoptError, BeginError, ExpireError, GrabError, JoinError, LoadError, LoseError, Pass, Ran,
+    ReportError, RoundError, StayOrRetire, Totals, ViewError,
+};
+use pool_settings::Settings;
+use std::alloc::{AllocError, Global};
+use std::fmt::Write;
+use worker_state::{EndKind, Order, Standing, Ticket, What, WorkerName};
+
+/// A worker's name, as `a/0#1`, and the empty text where there is no such slot.
+pub fn worker_text(
+    alloc: Global,
+    settings: &Settings,
+    worker: &WorkerName,
+) -> Result<String, AllocError>
+    ensures { IfOk result (λ s. string_bytes s ≡ spec.worker_text settings.now worker.now) }
+{
+    let mut text = String::new(alloc);
+    if worker.slot.number() < settings.slots() {
+        let machine = settings.machine_name(settings.machine_of(worker.slot));
+        let number = settings.worker_number(worker.slot);
+        let generation = worker.generation;
+        write!(text, "{machine}/{number}#{generation}")?;
+    }
+    Ok(text)
+}
+
+pub fn join_line(
+    alloc: Global,
+    settings: &Settings,
+    answer: &Result<Pass, JoinError>,
+) -> Result<String, AllocError>
+    ensures { IfOk result (λ s. string_bytes s ≡ spec.join_line settings.now answer.now) }
+{
+    match answer {
+        Ok(pass) => {
+            let worker = worker_text(alloc, settings, &pass.name())?;
+            format!(in alloc; "ok {worker}")
+        }
+        Err(error) => String::from_str(alloc, join_refused(*error)),
+    }
+}
+
+pub fn load_line(alloc: Global, answer: Result<(), LoadError>) -> Result<String, AllocError>
+    ensures { IfOk result (λ s. string_bytes s ≡ spec.ok_line spec.load_refused answer) }
+{
+    match answer {
+        Ok(()) => String::from_str(alloc, "ok"),
+        Err(error) => String::from_str(alloc, load_refused(error)),
+    }
+}
+
+pub fn begin_line(alloc: Global, answer: Result<(), BeginError>) -> Result<String, AllocError>
+    ensures { IfOk result (λ s. string_bytes s ≡ spec.ok_line spec.begin_refused answer) }
+{
+    match answer {
+        Ok(()) => String::from_str(alloc, "ok"),
+        Err(error) => String::from_str(alloc, begin_refused(error)),
+    }
+}
+
+pub fn lose_line(alloc: Global, answer: Result<(), LoseError>) -> Result<String, AllocError>
+    ensures { IfOk result (λ s. string_bytes s ≡ spec.ok_line spec.lose_refused answer) }
+{
+    match answer {
+        Ok(()) => String::from_str(alloc, "ok"),
+        Err(error) => String::from_str(alloc, lose_refused(error)),
+    }
+}
+
+pub fn expire_line(alloc: Global, answer: Result<(), ExpireError>) -> Result<String, AllocError>
+    ensures { IfOk result (λ s. string_bytes s ≡ spec.ok_line spec.expire_refused answer) }
+{
+    match answer {
+        Ok(()) => String::from_str(alloc, "ok"),
+        Err(error) => String::from_str(alloc, expire_refused(error)),
+    }
+}
+
+pub fn grab_line(alloc: Global, answer: Result<Ticket, GrabError>) -> Result<String, AllocError>
+    ensures { IfOk result (λ s. string_bytes s ≡ spec.grab_line answer) }
+{
+    match answer {
+        Ok(ticket) => {
+            let number = ticket.number();
+            format!(in alloc; "ok {number}")
+        }
+        Err(error) => String::from_str(alloc, grab_refused(error)),
+    }
+}
+
+pub fn report_line(
+    alloc: Global,
+    answer: Result<StayOrRetire, ReportError>,
+) -> Result<String, AllocError>
+    ensures { IfOk result (λ s. string_bytes s ≡ spec.report_line answer) }
+{
+    match answer {
+        Ok(StayOrRetire::Stay) => String::from_str(alloc, "ok stay"),
+        Ok(StayOrRetire::Retire) => String::from_str(alloc, "ok retire"),
+        Err(error) => String::from_str(alloc, report_refused(error)),
+    }
+}
+
+/// `backlog K`, or `unserved W` where the backlog is above all numbers of jobs, or `noplan`.
+fn backlog_words(alloc: Global, backlog: Option<u64>) -> Result<String, AllocError>
+    ensures { IfOk result (λ s. string_bytes s ≡ spec.backlog_words backlog) }
+{
+    match backlog {
+        None => String::from_str(alloc, "noplan"),
+        Some(backlog) => {
+            if backlog < 4_294_967_296 {
+                format!(in alloc; "backlog {backlog}")
+            } else {
+                let unserved = backlog - 4_294_967_296;
+                format!(in alloc; "unserved {unserved}")
+            }
+        }
+    }
+}
+
+fn ran_line(alloc: Global, ran: &Ran) -> Result<String, AllocError>
+    ensures { IfOk result (λ s. string_bytes s ≡ spec.ran_line ran.now) }
+{
+    let number = ran.number;
+    let backlog = backlog_words(alloc, ran.backlog)?;
+    let moved = ran.moved;
+    let mut line = String::new(alloc);
+    write!(line, "ok {number} {backlog} moved {moved}")?;
+    Ok(line)
+}
+
+pub fn round_line(alloc: Global, answer: Result<Ran, RoundError>) -> Result<String, AllocError>
+    ensures { IfOk result (λ s. string_bytes s ≡ spec.ran_or spec.round_refused answer) }
+{
+    match answer {
+        Ok(ran) => ran_line(alloc, &ran),
+        Err(error) => String::from_str(alloc, round_refused(error)),
+    }
+}
+
+pub fn adopt_line(alloc: Global, answer: Result<Ran, AdoptError>) -> Result<String, AllocError>
+    ensures { IfOk result (λ s. string_bytes s ≡ spec.ran_or spec.adopt_refused answer) }
+{
+    match answer {
+        Ok(ran) => ran_line(alloc, &ran),
+        Err(error) => String::from_str(alloc, adopt_refused(error)),
+    }
+}
+
+fn backlog_of(answer: &Answer) -> Option<u64>
+    ensures { result ≡ spec.backlog_of answer.now }
+{
+    match answer {
+        Answer::Planned { backlog, .. } => Some(*backlog),
+        Answer::NoPlan { .. } => None,
+    }
+}
+
+pub fn view_line(alloc: Global, answer: &Result<Certified, ViewError>) -> Result<String, AllocError>
+    ensures { IfOk result (λ s. string_bytes s ≡ spec.view_line answer.now) }
+{
+    match answer {
+        Ok(viewed) => {
+            let backlog = backlog_words(alloc, backlog_of(viewed.answer()))?;
+            format!(in alloc; "ok {backlog}")
+        }
+        Err(error) => String::from_str(alloc, view_refused(*error)),
+    }
+}
+
+pub fn job_line(
+    alloc: Global,
+    settings: &Settings,
+    standing: &Option<Standing>,
+) -> Result<String, AllocError>
+    ensures { IfOk result (λ s. string_bytes s ≡ spec.job_line settings.now standing.now) }
+{
+    match standing {
+        None => String::from_str(alloc, "none"),
+        Some(Standing::Running) => String::from_str(alloc, "running"),
+        Some(Standing::Reporting) => String::from_str(alloc, "reporting"),
+        Some(Standing::Reported(EndKind::Complete)) => String::from_str(alloc, "reported complete"),
+        Some(Standing::Reported(EndKind::Fail)) => String::from_str(alloc, "reported fail"),
+        Some(Standing::Lost(worker, cause)) => {
+            let worker = worker_text(alloc, settings, worker)?;
+            let cause = cause.name();
+            let mut line = String::new(alloc);
+            write!(line, "lost {worker} {cause}")?;
+            Ok(line)
+        }
+    }
+}
+
+pub fn order_line(alloc: Global, settings: &Settings, order: &Order) -> Result<String, AllocError>
+    ensures { IfOk result (λ s. string_bytes s ≡ spec.order_line settings.now order.now) }
+{
+    match order.what {
+        What::Idle => String::from_str(alloc, "idle"),
+        What::Stop => String::from_str(alloc, "stop"),
+        What::Work(function) => {
+            let function = settings.function_name(function);
+            let round = order.round;
+            let mut line = String::new(alloc);
+            write!(line, "work {function} round {round}")?;
+            Ok(line)
+        }
+    }
+}
+
+pub fn totals_line(alloc: Global, totals: Totals) -> Result<String, AllocError>
+    ensures { IfOk result (λ s. string_bytes s ≡ spec.totals_line totals) }
+{
+    let grabbed = totals.grabbed;
+    let running = totals.running;
+    let reported = totals.reported;
+    let lost = totals.lost;
+    let rounds = totals.rounds;
+    let events = totals.events;
+    let mut line = String::new(alloc);
+    write!(
+        line,
+        "totals grabbed {grabbed} running {running} reported {reported}"
+    )?;
+    write!(line, " lost {lost} rounds {rounds} events {events}")?;
+    Ok(line)
+}
