@@ -73,11 +73,10 @@ order_in p _ = None
 
 -- ---- a line
 
--- the first word says of which form the line is
-abbrev pub form_in : Profile → List ℕ → List (List ℕ) → Option Command
-form_in p verb args =
+-- the first word says of which form the line is; these forms have a fixed number of words
+abbrev pub fixed_form : Profile → List ℕ → List (List ℕ) → Option Command
+fixed_form p verb args =
     if bytes_eq verb (codes "join") then join_in p args
-    else (if bytes_eq verb (codes "load") then load_in args
     else (if bytes_eq verb (codes "round") then alone command.Round args
     else (if bytes_eq verb (codes "view") then alone command.View args
     else (if bytes_eq verb (codes "adopt") then alone command.Adopt args
@@ -89,7 +88,10 @@ form_in p verb args =
     else (if bytes_eq verb (codes "job") then job_in args
     else (if bytes_eq verb (codes "order") then order_in p args
     else (if bytes_eq verb (codes "totals") then alone command.Totals args
-    else None))))))))))))
+    else None)))))))))))
+
+abbrev pub form_in : Profile → List ℕ → List (List ℕ) → Option Command
+form_in p verb args = if bytes_eq verb (codes "load") then load_in args else fixed_form p verb args
 
 abbrev pub command_of_words : Profile → List (List ℕ) → Option Command
 command_of_words p [] = None

@@ -1,7 +1,7 @@
 -- The words of a command line, and what a single word says.
-use Rattle.std.specs.Prelude.{ℕ, ◌==◌, List, [], ◌∷◌, length, Bool, not, ◌&&◌, nat_le, nat_lt, is_none, find, Option, Some, None, option_map, if◌then◌else◌, codes}
-use Rattle.std.specs.List.{after_first, before_first, list_any, slice_split}
-use Rattle.std.specs.Option.{option_and_then}
+use Rattle.std.specs.Prelude.{ℕ, ◌==◌, List, [], ◌∷◌, length, Bool, not, ◌&&◌, nat_le, nat_lt, is_none, find, position, take, drop, ◌+◌, Option, Some, None, option_map, if◌then◌else◌, codes}
+use Rattle.std.specs.List.{slice_split}
+use Rattle.std.specs.Option.{option_and_then, option_map_or}
 use Rattle.std.specs.Str.{all_ascii_digits, bytes_eq}
 use Rattle.std.specs.Str.Parse.{digits_value}
 use Rattle.gear_packets.specs.Refusal.{handle_refusal}
@@ -21,6 +21,10 @@ is_space b = b == 32
 -- and an empty line is one empty word; no form takes an empty word.
 abbrev pub words_of : List ℕ → List (List ℕ)
 words_of line = slice_split is_space line
+
+-- the same of what stands behind a space, if there is one
+abbrev pub words_in : Option (List ℕ) → List (List ℕ)
+words_in text = option_map_or words_of text []
 
 -- any word but an empty one
 abbrev pub word_in : List ℕ → Option (List ℕ)
@@ -47,16 +51,17 @@ generation_in digits = number_between 1 262143 digits
 
 -- ---- workers: the slot's name, a hash sign and the generation
 
-abbrev pub is_hash : ℕ → Bool
-is_hash b = b == 35
+-- the text before and behind its first byte of one kind
+abbrev pub cut_at : ℕ → List ℕ → Option (List ℕ × List ℕ)
+cut_at sign text = option_map (λ n. (take n text, drop (n + 1) text)) (position (λ b. b == sign) text)
 
-abbrev pub worker_of : Profile → List ℕ → List ℕ → Option WorkerName
-worker_of p name digits =
-    option_and_then (λ slot. option_map (λ number. record { slot = slot; generation = number }) (generation_in digits))
-    (slot_named p name)
+abbrev pub worker_of : Profile → List ℕ × List ℕ → Option WorkerName
+worker_of p parts =
+    option_and_then (λ slot. option_map (λ number. record { slot = slot; generation = number }) (generation_in parts.1))
+    (slot_named p parts.0)
 
 abbrev pub worker_in : Profile → List ℕ → Option WorkerName
-worker_in p text = if list_any is_hash text then worker_of p (before_first is_hash text) (after_first is_hash text) else None
+worker_in p text = option_and_then (worker_of p) (cut_at 35 text)
 
 -- ---- handles, ends and causes
 

@@ -7,7 +7,8 @@ use std::alloc::{AllocError, Global};
 use std::marker::Model;
 use worker_state::{Cause, EndKind, Ticket, WorkerName};
 
-/// A word of a command line that may be any word. Clauses see it as its bytes.
+/// A word of a command line that may be any word: in a [`Command`] it has one or more bytes, none of them a space. Clauses
+/// see it as its bytes.
 #[derive(Drop)]
 pub struct Word {
     bytes: Vec<u8>,
@@ -38,7 +39,7 @@ impl Word {
     }
 }
 
-/// What a command line asks for. A slot that it names is one of the settings with which the line was read.
+/// What a command line asks for. The forms of the lines are on [the crate's page](crate).
 #[derive(Drop)]
 pub enum Command {
     /// `join W`: a new worker for the slot.
