@@ -1,5 +1,5 @@
 -- The lines of a report, taken one after another.
-use Rattle.std.proofs.Common.{◌≡◌, ℕ, ◌+◌, ◌^◌, ◌<◌, ◌≤◌, List, [], ◌∷◌, ◌++◌, true, false, not, Option, Some, None, Ok, eqb, ltb, map, option_map, append_assoc, refl, ap, subst, sym, ◌∙◌}
+use Rattle.std.proofs.Common.{◌≡◌, ℕ, ◌+◌, ◌^◌, ◌<◌, ◌≤◌, List, [], ◌∷◌, ◌++◌, true, false, not, Option, Some, None, Ok, eqb, ltb, map, option_map, append_assoc, refl, ap, subst, sym, ◌∙◌, arith}
 use Rattle.std.specs.List.{flat_map, slice_split}
 use Rattle.std.proofs.lemmas.Bool.{and_parts, le-ltb, not-true}
 use Rattle.std.proofs.lemmas.List.{append-nil}
@@ -93,7 +93,9 @@ module _ (p : Profile) where
       let e = at stage.Set backlog entries (Some (set ++ f ∷ [])) a (f + 1) 0 in
       let order : ltb f next ≡ false = le-ltb f next known.0 in
       let good = known.1 in
-      let first : Leads p d (needed_line (needed_at p i level f)) e = leads_line d e _ _ (lines_read.needs (needed_at p i level f) good.named known.2) (rw (good.place, order) refl) in
+      let small : need i level f < 2 ^ 32 = known.2 in
+      let few : need i level f < 2 ^ 64 = omega (arith, small) in
+      let first : Leads p d (needed_line (needed_at p i level f)) e = leads_line d e _ _ (lines_read.needs (needed_at p i level f) good.named few) (rw (good.place, order) refl) in
       let rest = needs i level fs backlog entries (set ++ f ∷ []) a (f + 1) known.3 in
       (rest.0, subst (λ gs. Leads p d (flat_map needed_line (map (needed_at p i level) (f ∷ fs))) (at stage.Set backlog entries (Some gs) a rest.0 0)) (append_assoc set (f ∷ []) fs) (leads_on d e _ (needed_line (needed_at p i level f)) (flat_map needed_line (map (needed_at p i level) fs)) first rest.1))
 

@@ -74,12 +74,12 @@ machine_line name named = one_line_of is_machine_name_byte name refl (and_parts 
 
 -- ---- lines
 
-needs_read : (f : List ℕ) (n : ℕ) → is_name f ≡ true → n < 2 ^ 32 → needed_in (f ++ codes " need " ++ decimal n) ≡ Some (needed f)
+needs_read : (f : List ℕ) (n : ℕ) → is_name f ≡ true → n < 2 ^ 64 → needed_in (f ++ codes " need " ++ decimal n) ≡ Some (needed f)
 needs_read f n named small =
     let shape : f ++ codes " need " ++ decimal n ≡ (f ++ codes " need") ++ 32 ∷ decimal n = append_assoc f (codes " need ") (decimal n) ∙ sym (append_assoc f (codes " need") (32 ∷ decimal n)) in
-    let outer = cut_at 32 (f ++ codes " need") (decimal n) (uncut 32 n (omega arith) refl) in
+    let outer = cut_at 32 (f ++ codes " need") (decimal n) (uncut 32 n small refl) in
     let inner : cut_last 32 (f ++ codes " need") ≡ Some (f, codes "need") = cut_at 32 f (codes "need") refl in
-    rw (shape, outer, written (2 ^ 32) n small (omega arith), inner, named) refl
+    rw (shape, outer, written (2 ^ 64) n small small, inner, named) refl
 
 sums_read : (need have : ℕ) → need < 2 ^ 64 → have < 2 ^ 64 → short_in (decimal need ++ codes " have " ++ decimal have) ≡ Some short
 sums_read need have few many =
@@ -149,12 +149,12 @@ sums_told need have few many = (
   sums_read need have few many,
 )
 
-needs_told : (n : Needed) → is_name n.function ≡ true → n.need < 2 ^ 32 → Tells (needed_line n) (needed n.function)
+needs_told : (n : Needed) → is_name n.function ≡ true → n.need < 2 ^ 64 → Tells (needed_line n) (needed n.function)
 needs_told n named small = (
   codes "in " ++ n.function ++ codes " need " ++ decimal n.need,
   refl,
   joined (codes "in " ++ n.function ++ codes " need ") (decimal n.need)
-      (joined (codes "in " ++ n.function) (codes " need ") (joined (codes "in ") n.function refl (name_line n.function named)) refl) (number_line n.need (omega arith)),
+      (joined (codes "in " ++ n.function) (codes " need ") (joined (codes "in ") n.function refl (name_line n.function named)) refl) (number_line n.need small),
   needs_read n.function n.need named small,
 )
 

@@ -35,7 +35,7 @@ pub record AreLinesRead : Type 0 where
   pub none : Tells (ended (codes "noplan")) no_plan
   pub workers : (w : Worker) → IsNamed w → Tells (worker_line w) (task (worker_name w) w.function)
   pub sums : (need have : ℕ) → need < 2 ^ 64 → have < 2 ^ 64 → Tells (short_line need have) short
-  pub needs : (n : Needed) → IsTrue (is_name n.function) → n.need < 2 ^ 32 → Tells (needed_line n) (needed n.function)
+  pub needs : (n : Needed) → IsTrue (is_name n.function) → n.need < 2 ^ 64 → Tells (needed_line n) (needed n.function)
   pub leftovers : (s : Stranded) → IsTrue (is_name s.function) → s.waiting < 2 ^ 32 → Tells (stranded_line s) (stranded s.function)
   pub end : Tells (ended (codes "end")) last
 

@@ -69,24 +69,24 @@ idle_in rest = if is_worker rest then Some (task rest None) else None
 abbrev pub counted_of : List ℕ → ℕ → List ℕ × List ℕ → Option (List ℕ × ℕ)
 counted_of word n parts = if bytes_eq parts.1 word then Some (parts.0, n) else None
 
-abbrev pub numbered : ℕ → List ℕ → List ℕ × List ℕ → Option (List ℕ × ℕ)
-numbered bound word parts =
-    option_map_or (λ n. option_map_or (counted_of word n) (cut_last 32 parts.0) None) (number_below bound parts.1) None
+abbrev pub numbered : List ℕ → List ℕ × List ℕ → Option (List ℕ × ℕ)
+numbered word parts =
+    option_map_or (λ n. option_map_or (counted_of word n) (cut_last 32 parts.0) None) (number_below (2 ^ 64) parts.1) None
 
-abbrev pub counted : ℕ → List ℕ → List ℕ → Option (List ℕ × ℕ)
-counted bound word rest = option_map_or (numbered bound word) (cut_last 32 rest) None
+abbrev pub counted : List ℕ → List ℕ → Option (List ℕ × ℕ)
+counted word rest = option_map_or (numbered word) (cut_last 32 rest) None
 
 abbrev pub short_of : List ℕ × ℕ → Option Line
 short_of parts = option_map (λ n. short) (number_below (2 ^ 64) parts.0)
 
 abbrev pub short_in : List ℕ → Option Line
-short_in rest = option_map_or short_of (counted (2 ^ 64) (codes "have") rest) None
+short_in rest = option_map_or short_of (counted (codes "have") rest) None
 
 abbrev pub needed_of : List ℕ × ℕ → Option Line
 needed_of parts = if is_name parts.0 then Some (needed parts.0) else None
 
 abbrev pub needed_in : List ℕ → Option Line
-needed_in rest = option_map_or needed_of (counted (2 ^ 32) (codes "need") rest) None
+needed_in rest = option_map_or needed_of (counted (codes "need") rest) None
 
 abbrev pub stranded_of : List ℕ × List ℕ → Option Line
 stranded_of parts =

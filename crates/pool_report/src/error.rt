@@ -64,7 +64,7 @@ impl ReadError {
 /// Why a report is not written, or not whole.
 #[derive(Clone, Copy, Debug, PartialEq, Eq, Error)]
 pub enum WriteError {
-    /// The sink failed when so many bytes of the report had gone out, and those are its front.
+    /// The sink failed when so many bytes of the report had gone out, and those are a front of it, not all of it.
     #[error("the sink failed after {0} bytes")]
     WriteFault(usize),
     /// Memory for the report was refused, and nothing of it has gone out.

@@ -200,7 +200,7 @@ fn read_needed(rest: &[u8]) -> Option<Line<'_>>
     ensures { option_map line_view result ≡ spec.needed_in rest.now }
 {
     let (front, need) = cut_last(b' ', rest)?;
-    let _need = small_number(need)?;
+    let _need = number(need)?;
     let (function, word) = cut_last(b' ', front)?;
     if word != b"need".as_slice() {
         return None;

@@ -29,7 +29,7 @@ fn cut_line(text: &[u8]) -> Option<(&[u8], &[u8])>
 ///
 /// Taken is exactly a text of a report's shape, as [the crate's page](crate) gives it, whose workers and
 /// functions the settings have, in rising order: a plan with any backlog, or none, and with or without a set
-/// (without a plan the set must be there). Numbers are decimal without leading zeros; the numbers of `short`
+/// (without a plan the set must be there). Numbers are decimal without leading zeros; those of `short` and `in`
 /// are below 2^64, the others below 2^32, and a worker's number has any length.
 ///
 /// An answer holds neither what a set needs and has nor the stranded functions, so the reading drops them, and

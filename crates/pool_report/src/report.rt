@@ -6,7 +6,7 @@ ghost use Rattle.plan_model.specs.Planning.{assigned, is_stranded};
 ghost use Rattle.plan_model.specs.Shown.{IsEvidence, Shown};
 ghost use Rattle.pool_report.specs.Answered as spec;
 ghost use Rattle.pool_report.specs.Kept.{needed_view, stranded_view, worker_view};
-ghost use Rattle.pool_report.specs.Outcome.{Wrote, failures_told};
+ghost use Rattle.pool_report.specs.Outcome.{StopsWithin, Wrote, failures_told};
 ghost use Rattle.pool_report.specs.Report.{needed_line, short_if, short_lines, stranded_line, told_lines, worker_line};
 ghost use Rattle.pool_settings.specs.Names.{name_at};
 
@@ -202,7 +202,8 @@ pub fn report_text(
 /// byte by byte.
 ///
 /// The text is made whole before its first byte goes out. After `WriteFault` so many bytes of it have
-/// gone out, which are its front, and after `Memory` none. A sink that fails is not tried again.
+/// gone out, which are its front and never all of it, and after `Memory` none. A sink that fails is not tried
+/// again.
 pub fn write<S: Sink>(
     alloc: Global,
     settings: &Settings,
@@ -214,6 +215,7 @@ pub fn write<S: Sink>(
     requires shown { Shown input.now answer.now }
     requires count { S.failures sink.old < 2 ^ 64 - 1 }
     ensures written { Wrote (S.got sink.old) (spec.report_text settings.now input.now answer.now) (S.got sink.new) result }
+    ensures within { StopsWithin (spec.report_text settings.now input.now answer.now) result }
     ensures failures { S.failures sink.new ≡ S.failures sink.old + failures_told result }
 {
     let text = match report_text(alloc, settings, input, answer) {

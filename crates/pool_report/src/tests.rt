@@ -257,6 +257,106 @@ fn changed_reports(rt: HostRuntime) {
     assert!(rt; (error.number(), error.name(), error.line()) == (1, "BadLine", Some(4)));
 }
 
+/// The same of the report with unserved jobs.
+const UNSERVED_CHANGES: &[(usize, Option<&str>, Seen)] = &[
+    (2, Some("work a/0 x"), Seen::Refused(ReadError::BadLine(2))),
+    (
+        2,
+        Some("unserved 4294967296"),
+        Seen::Refused(ReadError::BadLine(2)),
+    ),
+    (
+        2,
+        Some("unserved 4294967295"),
+        Seen::Wrong(Reason::WrongBacklog),
+    ),
+    (
+        4,
+        Some("short need 18446744073709551615 have 2"),
+        Seen::Altered,
+    ),
+    (
+        4,
+        Some("short need 18446744073709551616 have 2"),
+        Seen::Refused(ReadError::BadLine(4)),
+    ),
+    (
+        4,
+        Some("short need 2 have 18446744073709551616"),
+        Seen::Refused(ReadError::BadLine(4)),
+    ),
+    (
+        5,
+        Some("short need 2 have 1"),
+        Seen::Refused(ReadError::BadLine(5)),
+    ),
+    (5, Some("in x need 4294967296"), Seen::Altered),
+    (5, Some("in x need 18446744073709551615"), Seen::Altered),
+    (
+        5,
+        Some("in x need 18446744073709551616"),
+        Seen::Refused(ReadError::BadLine(5)),
+    ),
+];
+
+/// The same of its functions that no live worker may do.
+const STRANDED_CHANGES: &[(usize, Option<&str>, Seen)] = &[
+    (
+        7,
+        Some("stranded z 0"),
+        Seen::Refused(ReadError::BadLine(8)),
+    ),
+    (
+        8,
+        Some("stranded t 7"),
+        Seen::Refused(ReadError::BadLine(8)),
+    ),
+    (
+        8,
+        Some("stranded q 1"),
+        Seen::Refused(ReadError::UnknownName(8)),
+    ),
+    (7, Some("stranded t 4294967295"), Seen::Altered),
+    (
+        7,
+        Some("stranded t 4294967296"),
+        Seen::Refused(ReadError::BadLine(7)),
+    ),
+    (
+        7,
+        Some("stranded ttttttttttttttttttttttttttttttttttttttttttttttttttttttttttttttttt 7"),
+        Seen::Refused(ReadError::BadLine(7)),
+    ),
+    (
+        7,
+        Some("stranded tttttttttttttttttttttttttttttttttttttttttttttttttttttttttttttttt 7"),
+        Seen::Refused(ReadError::UnknownName(7)),
+    ),
+    (
+        9,
+        Some("end\nstranded q 1"),
+        Seen::Refused(ReadError::BadLine(10)),
+    ),
+];
+
+#[test]
+fn changed_numbers(rt: HostRuntime) {
+    let alloc = rt.alloc();
+    for (number, line, seen) in UNSERVED_CHANGES {
+        assert!(rt; UNSERVED.see_edited(alloc, *number, *line) == Ok(*seen));
+    }
+}
+
+#[test]
+fn changed_stranded_functions(rt: HostRuntime) {
+    let alloc = rt.alloc();
+    for (number, line, seen) in STRANDED_CHANGES {
+        assert!(rt; UNSERVED.see_edited(alloc, *number, *line) == Ok(*seen));
+    }
+    let bare = Seen::Refused(ReadError::BadLine(3));
+    assert!(rt; NO_PLAN.see_edited(alloc, 3, Some("stranded y 4")) == Ok(bare));
+}
+
 #[test]
 fn a_write_fails_at_each_byte(rt: HostRuntime) {
     let alloc = rt.alloc();
