@@ -1,5 +1,5 @@
 -- Faults, with the exit status of each.
-use Rattle.std.specs.Prelude.{ℕ, None, Some}
+use Rattle.std.specs.Prelude.{ℕ, Option, None, Some, Result, Ok, Err}
 use Rattle.gear_status.specs.declared.error.StatusError.{StatusError}
 use Rattle.gear_status.specs.declared.error.StatusError.TheVariants as status
 use Rattle.pool_report.specs.declared.error.WriteError.{WriteError}
@@ -43,3 +43,13 @@ answered status = record { status = status; fault = None }
 
 abbrev pub refused : Fault → Exit
 refused f = record { status = status_of f; fault = Some f }
+
+-- the fault of a call that ended so, if it has one
+abbrev pub fault_in : {T : Type 0} → Result T Fault → Option Fault
+fault_in (Ok done) = None
+fault_in (Err f) = Some f
+
+-- how often the sink has failed in a call that ends with this fault, or with none
+abbrev pub sink_failures : Option Fault → ℕ
+sink_failures (Some fault.WriteFault) = 1
+sink_failures other = 0

@@ -5,6 +5,7 @@ ghost use Rattle.gear_status.specs.Device.{and_then, counted};
 ghost use Rattle.plan_model.specs.Shown.{Shown};
 ghost use Rattle.pool_report.specs.Answered as answered;
 ghost use Rattle.poolman.specs.Check as spec;
+ghost use Rattle.poolman.specs.Fault.{fault_in, sink_failures};
 
 use crate::fault::{Exit, Fault};
 use crate::input::read_whole;
@@ -89,7 +90,8 @@ fn verdict_line(alloc: Global, verdict: Verdict) -> Result<String, AllocError>
 /// Writes the line that tells a verdict.
 fn pronounce<S: Sink>(alloc: Global, verdict: Verdict, sink: &mut S) -> Result<(), Fault>
     requires { S.failures sink.old < 2 ^ 64 - 1 }
-    ensures { spec.Writes (spec.verdict_line verdict) (S.got sink.old) (S.got sink.new) result }
+    ensures written { spec.Writes (spec.verdict_line verdict) (S.got sink.old) (S.got sink.new) result }
+    ensures failures { S.failures sink.new ≡ S.failures sink.old + sink_failures (fault_in result) }
 {
     let line = match verdict_line(alloc, verdict) {
         Ok(line) => line,
@@ -129,8 +131,8 @@ fn examine<R: Source>(
 /// without.
 ///
 /// Faults are looked for in the settings, then in the names of the lost workers, in the status text, in
-/// the source, which gives at most 16,777,216 bytes, and in the report. After a `WriteFault` a front of
-/// the line was written, and after any other fault nothing.
+/// the source, which gives at most 16,777,216 bytes, and in the report. After a `WriteFault`, which comes
+/// only where the sink failed, a front of the line was written, and after any other fault nothing.
 pub fn check_text<R: Source, S: Sink>(
     alloc: Global,
     settings: &[u8],
@@ -141,11 +143,12 @@ pub fn check_text<R: Source, S: Sink>(
 ) -> Exit
     requires source { R.failures source.old < 2 ^ 64 - 1 }
     requires sink { S.failures sink.old < 2 ^ 64 - 1 }
-    ensures { (bytes : List ℕ) × (lulls : ℕ) × (failures : ℕ)
+    ensures outcome { (bytes : List ℕ) × (lulls : ℕ) × (failures : ℕ)
         × (R.given source.new ≡ and_then (R.given source.old) bytes)
         × (R.lulls source.new ≡ counted (R.lulls source.old) lulls)
         × (R.failures source.new ≡ R.failures source.old + failures)
         × spec.Checks settings.now (map (λ w. w.now) lost.now) status.now bytes lulls failures (R.has_ended source.new) (S.got sink.old) (S.got sink.new) result.status result.fault }
+    ensures sink_failures { S.failures sink.new ≡ S.failures sink.old + sink_failures result.fault }
 {
     let verdict = match examine(alloc, settings, status, lost, source) {
         Ok(verdict) => verdict,

@@ -3,6 +3,7 @@
 ghost use Rattle.std.specs.Prelude.{◌≡◌, ◌+◌, ◌-◌, ◌^◌, ◌<◌, ℕ, IfOk, List, map};
 ghost use Rattle.gear_status.specs.Device.{and_then, counted};
 ghost use Rattle.plan_model.specs.Shown.{Shown};
+ghost use Rattle.poolman.specs.Fault.{fault_in, sink_failures};
 ghost use Rattle.poolman.specs.Plan.{Ends, Plans, status_with};
 
 use crate::fault::{Exit, Fault};
@@ -37,7 +38,8 @@ fn status_with(answer: &Answer) -> u8
 fn report<S: Sink>(alloc: Global, problem: &Problem, sink: &mut S) -> Result<u8, Fault>
     requires of_these { problem.now.input.may ≡ problem.now.settings.may }
     requires count { S.failures sink.old < 2 ^ 64 - 1 }
-    ensures { Ends problem.now.settings problem.now.input (S.got sink.old) (S.got sink.new) result }
+    ensures written { Ends problem.now.settings problem.now.input (S.got sink.old) (S.got sink.new) result }
+    ensures failures { S.failures sink.new ≡ S.failures sink.old + sink_failures (fault_in result) }
 {
     let answer = answer_of(alloc, problem)?;
     write(alloc, &problem.settings, &problem.input, &answer, sink)?;
@@ -50,8 +52,8 @@ fn report<S: Sink>(alloc: Global, problem: &Problem, sink: &mut S) -> Result<u8,
 ///
 /// Faults are looked for in the settings, then in the names of the lost workers, and then in the
 /// status text, which is read no further than its period line. The report is made whole before its
-/// first byte goes out: after a `WriteFault` a front of it was written, and after any other fault
-/// nothing.
+/// first byte goes out: after a `WriteFault`, which comes only where the sink failed, a front of it was
+/// written, and after any other fault nothing.
 pub fn plan_text<R: Source, S: Sink>(
     alloc: Global,
     settings: &[u8],
@@ -61,11 +63,12 @@ pub fn plan_text<R: Source, S: Sink>(
 ) -> Exit
     requires source { R.failures source.old < 2 ^ 64 - 1 }
     requires sink { S.failures sink.old < 2 ^ 64 - 1 }
-    ensures { (bytes : List ℕ) × (lulls : ℕ) × (failures : ℕ)
+    ensures outcome { (bytes : List ℕ) × (lulls : ℕ) × (failures : ℕ)
         × (R.given source.new ≡ and_then (R.given source.old) bytes)
         × (R.lulls source.new ≡ counted (R.lulls source.old) lulls)
         × (R.failures source.new ≡ R.failures source.old + failures)
         × Plans settings.now (map (λ w. w.now) lost.now) bytes lulls failures (R.has_ended source.new) (S.got sink.old) (S.got sink.new) result.status result.fault }
+    ensures sink_failures { S.failures sink.new ≡ S.failures sink.old + sink_failures result.fault }
 {
     let problem = match pose(alloc, settings, lost, source) {
         Ok(problem) => problem,
