@@ -7,6 +7,11 @@ use Rattle.std.proofs.lemmas.Option.{slice_get_within, get_or_from_slice_get}
 use Rattle.std.proofs.lemmas.Bool.{eqb-true, eq-eqb}
 use Rattle.std.proofs.lemmas.List.Sums.{sum_by-cons}
 use Rattle.std.proofs.lemmas.List.{drop_more, take_more, take_all, length-take, length-drop, nil_from_length, append-nil}
+use Rattle.std.specs.Prelude.{Option, None, IfSome}
+use Rattle.std.specs.Option.{option_copied}
+use Rattle.std.specs.Borrow.{Bor}
+use Rattle.level_search.specs.Steady.{IsSteady}
+use Rattle.plan_model.specs.declared.answer.Answer.{Answer}
 use Rattle.worker_state.specs.declared.slot.Slot.TheVariants.{Empty}
 use Rattle.plan_model.specs.Planning.{Instance}
 use Rattle.pool_settings.specs.Profile.{Profile}
@@ -139,3 +144,8 @@ is_instance i p slots waiting e live may least jobs =
 
 pub live_of : (i : Instance) (p : Profile) (slots : List Slot) (waiting : List ℕ) → length slots ≡ slot_count p → i ≡ instance_of p (map is_live slots) waiting → i.live ≡ live_from 0 (owners p) slots
 live_of i p slots waiting e h = ap (λ (x : Instance). x.live) h ∙ walked p slots e
+
+-- what a search says of the plan that it was lent it says of the plan
+pub steady_of : (i : Instance) (answer : Answer) (lent : Option (Bor (List (ℕ × Option ℕ)))) (previous : Option (List (ℕ × Option ℕ))) → option_copied lent ≡ previous → IfSome lent (λ plan. IsSteady i plan.now answer) → IfSome previous (λ plan. IsSteady i plan answer)
+steady_of i answer None previous e h = subst (λ (o : Option (List (ℕ × Option ℕ))). IfSome o (λ plan. IsSteady i plan answer)) e tt
+steady_of i answer (Some lent) previous e h = subst (λ (o : Option (List (ℕ × Option ℕ))). IfSome o (λ plan. IsSteady i plan answer)) e h

@@ -14,13 +14,14 @@ use Rattle.worker_state.specs.declared.cause.Cause.{Cause}
 use Rattle.worker_state.specs.declared.slot.Slot.TheVariants.{Empty}
 use Rattle.worker_state.specs.declared.job.Standing.{Standing}
 use Rattle.worker_state.specs.declared.job.Standing.TheVariants as standing
+use Rattle.worker_state.specs.Orders.{no_order, IsOrder}
 use Rattle.worker_state.specs.Slots.{is_open, is_reported, last_generation, runs_of, ticket_of}
 use Rattle.pool_core.specs.declared.event.Assignment.{Assignment}
 use Rattle.pool_core.specs.declared.event.Event.{Event}
 use Rattle.pool_core.specs.declared.event.Event.TheVariants as event
 use Rattle.pool_core.specs.Machine.{State, first, standing_in, replay, IsHistory, IsPossible, after, after_round, with_lost, open_ticket}
 use Rattle.pool_core.specs.Kept.{IsSound, IsOpen, OpensAt}
-use Rattle.pool_core.specs.Laws.{Extends, is_grab, is_report, HistoriesExtend, HistoriesCount, RoundsAreShown, HistoriesJoin}
+use Rattle.pool_core.specs.Laws.{Extends, is_grab, is_report, HistoriesExtend, HistoriesCount, ChaptersCount, RoundsAreShown, HistoriesJoin}
 use Rattle.pool_core.proofs.Tables.{standing_given}
 use Rattle.pool_core.proofs.Sound.{sound_after}
 use Rattle.pool_core.proofs.Steps.{replay-append, history-append}
@@ -80,15 +81,15 @@ extends_trans a b c h k =
       closed = λ t x is closed. k.closed t x (h.closed t x is closed) closed;
     }
 
-extends_all : (rules : Profile) → 0 < rules.max_runs → (events : List Event) (state : State) → IsSound rules state → IsHistory rules state events → Extends state (replay rules state events)
-extends_all rules some [] state h p = same_jobs state state refl (λ k x is closed. is)
-extends_all rules some (e ∷ events) state h p =
+extends_all : (rules : Profile) → IsProfile rules → (events : List Event) (state : State) → IsSound rules state → IsHistory rules state events → Extends state (replay rules state events)
+extends_all rules r [] state h p = same_jobs state state refl (λ k x is closed. is)
+extends_all rules r (e ∷ events) state h p =
     extends_trans state (after rules e state) (replay rules (after rules e state) events) (extends_after rules e state h p.0)
-    (extends_all rules some events (after rules e state) (sound_after rules e state some h p.0) p.1)
+    (extends_all rules r events (after rules e state) (sound_after rules e state r h p.0) p.1)
 
-sound_all : (rules : Profile) → 0 < rules.max_runs → (events : List Event) (state : State) → IsSound rules state → IsHistory rules state events → IsSound rules (replay rules state events)
-sound_all rules some [] state h p = h
-sound_all rules some (e ∷ events) state h p = sound_all rules some events (after rules e state) (sound_after rules e state some h p.0) p.1
+sound_all : (rules : Profile) → IsProfile rules → (events : List Event) (state : State) → IsSound rules state → IsHistory rules state events → IsSound rules (replay rules state events)
+sound_all rules r [] state h p = h
+sound_all rules r (e ∷ events) state h p = sound_all rules r events (after rules e state) (sound_after rules e state r h p.0) p.1
 
 -- a joined history, cut
 history_cut : (rules : Profile) (base : State) (xs ys : List Event) → IsHistory rules base (xs ++ ys) → IsHistory rules base xs × IsHistory rules (replay rules base xs) ys
@@ -97,10 +98,10 @@ history_cut rules base (x ∷ xs) ys h =
     let t = history_cut rules (after rules x base) xs ys h.1 in ((h.0, t.0), t.1)
 
 -- the first state is sound
-empty_at : (n s : ℕ) → get_or (replicate n (Empty 0)) s (Empty 0) ≡ Empty 0
-empty_at zero s = refl
-empty_at (suc n) zero = refl
-empty_at (suc n) (suc s) = empty_at n s
+copy_at : {X : Type 0} (n s : ℕ) (x : X) → get_or (replicate n x) s x ≡ x
+copy_at zero s x = refl
+copy_at (suc n) zero x = refl
+copy_at (suc n) (suc s) x = copy_at n s x
 
 length-copies : {X : Type 0} (n : ℕ) (x : X) → length (replicate n x) ≡ n
 length-copies zero x = refl
@@ -113,20 +114,21 @@ sound_first rules r =
       grab_times = length-copies (slot_count rules) _;
       orders = length-copies (slot_count rules) _;
       assignments = refl;
-      generations = λ s. omega (arith, ap last_generation (empty_at (slot_count rules) s));
-      runs = λ s. omega (arith, ap runs_of (empty_at (slot_count rules) s), r.max_runs_some);
+      generations = λ s. omega (arith, ap last_generation (copy_at (slot_count rules) s (Empty 0)));
+      ranges = λ s. subst IsOrder (sym (copy_at (slot_count rules) s no_order)) (record { generation = omega arith; function = tt });
+      runs = λ s. omega (arith, ap runs_of (copy_at (slot_count rules) s (Empty 0)), r.max_runs_some);
       tickets = λ s k o. absurd (none_open s k o);
       alone = λ s t k o q. absurd (none_open s k o);
     }
   where
     none_open : (s : ℕ) (k : ℕ) → OpensAt (first rules).slots s k → ⊥
-    none_open s k o = let e = sym (ap ticket_of (empty_at (slot_count rules) s)) ∙ o in cc
+    none_open s k o = let e = sym (ap ticket_of (copy_at (slot_count rules) s (Empty 0))) ∙ o in cc
 
 pub histories_extend_lem : HistoriesExtend
 histories_extend_lem rules r earlier later h =
     let t = history_cut rules (first rules) earlier later h in
     subst (Extends (replay rules (first rules) earlier)) (sym (replay-append rules (first rules) earlier later))
-    (extends_all rules r.max_runs_some later (replay rules (first rules) earlier) (sound_all rules r.max_runs_some earlier (first rules) (sound_first rules r) t.0) t.1)
+    (extends_all rules r later (replay rules (first rules) earlier) (sound_all rules r earlier (first rules) (sound_first rules r) t.0) t.1)
 
 pub rounds_are_shown_lem : RoundsAreShown
 rounds_are_shown_lem rules base earlier later answer h =
@@ -173,22 +175,27 @@ adds_after rules (event.Lost worker cause) state h p =
     same_counts (event.Lost worker cause) state (after rules (event.Lost worker cause) state) refl refl (length-with_lost state.standings (open_ticket state worker) worker cause) (counts_lost rules state worker cause h p).1
 
 -- what a history adds to the two counts
-pub counts_replayed : (rules : Profile) → 0 < rules.max_runs → (events : List Event) (state : State) → IsSound rules state → IsHistory rules state events
+pub counts_replayed : (rules : Profile) → IsProfile rules → (events : List Event) (state : State) → IsSound rules state → IsHistory rules state events
     → (length (replay rules state events).standings ≡ length state.standings + count_by is_grab events)
     × (count_by is_reported (replay rules state events).standings ≡ count_by is_reported state.standings + count_by is_report events)
-counts_replayed rules some [] state h p = (omega arith, omega arith)
-counts_replayed rules some (e ∷ events) state h p =
+counts_replayed rules r [] state h p = (omega arith, omega arith)
+counts_replayed rules r (e ∷ events) state h p =
     let a = adds_after rules e state h p.0 in
-    let t = counts_replayed rules some events (after rules e state) (sound_after rules e state some h p.0) p.1 in (
+    let t = counts_replayed rules r events (after rules e state) (sound_after rules e state r h p.0) p.1 in (
       omega (arith, t.0, a.grabs, sum_by-cons (one_if is_grab) e events),
       omega (arith, t.1, a.reports, sum_by-cons (one_if is_report) e events),
     )
 
 pub histories_count_lem : HistoriesCount
 histories_count_lem rules r events h =
-    let t = counts_replayed rules r.max_runs_some events (first rules) (sound_first rules r) h in
+    let t = counts_replayed rules r events (first rules) (sound_first rules r) h in
     record {
       sum = sym (counts_all (replay rules (first rules) events).standings);
       grabs = omega (arith, t.0);
       reports = omega (arith, t.1);
     }
+
+pub chapters_count_lem : ChaptersCount
+chapters_count_lem rules r base h events p =
+    let t = counts_replayed rules r events base h p in
+    record { sum = sym (counts_all (replay rules base events).standings); grabs = t.0; reports = t.1 }

@@ -1,5 +1,6 @@
 pub mod Tables
 pub mod Sums
+mod Ranges
 pub mod Sound
 pub mod Steps
 pub mod Refusals

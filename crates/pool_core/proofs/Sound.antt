@@ -2,12 +2,13 @@
 use Rattle.std.proofs.Common.{◌≡◌, ◌≢◌, ℕ, ◌+◌, ◌-◌, ◌<◌, ◌≤◌, suc, true, List, [], ◌∷◌, ◌++◌, length, get_or, set, Option, None, Some, inl, inr, refl, sym, ap, ◌∙◌, subst, arith, length-append, length-set}
 use Rattle.std.specs.Prelude.{nat_lt}
 use Rattle.std.proofs.lemmas.List.{get_or-set_other, get_or_append_left, get_or-append_right}
-use Rattle.std.proofs.lemmas.Bool.{cond_both, ltb-true, false≢true}
+use Rattle.std.proofs.lemmas.Bool.{cond_both, ltb-true, false≢true, and_parts}
 use Rattle.std.proofs.lemmas.Bool.Decides.{nat_tests}
-use Rattle.pool_settings.specs.Profile.{Profile}
+use Rattle.pool_settings.specs.Profile.{Profile, IsProfile}
 use Rattle.plan_model.specs.declared.answer.Answer.{Answer}
 use Rattle.plan_model.specs.declared.answer.Answer.TheVariants as answers
 use Rattle.worker_state.specs.declared.order.Order.{Order}
+use Rattle.worker_state.specs.Orders.{no_order, IsOrder}
 use Rattle.pool_core.specs.declared.event.Event.{Event}
 use Rattle.worker_state.specs.declared.slot.Slot.{Slot}
 use Rattle.worker_state.specs.declared.slot.Slot.TheVariants.{Empty, Live}
@@ -18,8 +19,9 @@ use Rattle.worker_state.specs.declared.job.Standing.{Standing}
 use Rattle.worker_state.specs.declared.job.Standing.TheVariants as standing
 use Rattle.worker_state.specs.Slots.{ticket_of, is_open, last_generation, runs_of}
 use Rattle.pool_core.specs.declared.event.Event.TheVariants as event
-use Rattle.pool_core.specs.Machine.{State, has_generation, slot_in, is_live_in, open_ticket, after, IsPossible, slot_after_run, with_lost, orders_from, after_round}
+use Rattle.pool_core.specs.Machine.{State, has_generation, slot_in, is_live_in, open_ticket, after, IsPossible, slot_after_run, with_lost, orders_from, after_round, input_of}
 use Rattle.pool_core.specs.Kept.{OpensAt, IsOpen, IsSound}
+use Rattle.pool_core.proofs.Ranges.{ranges_after}
 use Rattle.pool_core.proofs.Tables.{at_set, live_within, live_has, opens_elsewhere, opens_here, open_is}
 
 -- the generation of a live worker is its slot's last
@@ -64,6 +66,7 @@ sound_join rules state slot some h p =
       orders = length-set state.orders slot _ ∙ h.orders;
       assignments = h.assignments;
       generations = λ s. at_set (λ x. last_generation x ≤ 262143) state.slots slot new (Empty 0) s (h.generations s) (omega (arith, p.2));
+      ranges = λ s. at_set IsOrder state.orders slot _ no_order s (h.ranges s) (record { generation = omega (arith, p.2); function = tt });
       runs = λ s. at_set (λ x. runs_of x < rules.max_runs) state.slots slot new (Empty 0) s (h.runs s) some;
       tickets = λ s k o. h.tickets s k (opens_elsewhere state.slots slot new s k p.0 refl o).1;
       alone = λ s t k o q. h.alone s t k (opens_elsewhere state.slots slot new s k p.0 refl o).1 (opens_elsewhere state.slots slot new t k p.0 refl q).1;
@@ -77,6 +80,7 @@ sound_begin rules state w k h =
       orders = h.orders;
       assignments = h.assignments ∙ sym (length-set state.standings (k - 1) standing.Reporting);
       generations = h.generations;
+      ranges = h.ranges;
       runs = h.runs;
       tickets = λ s t o. open_stays state.standings (k - 1) standing.Reporting t refl (h.tickets s t o);
       alone = h.alone;
@@ -115,6 +119,7 @@ sound_grab rules state w handle function now h live =
       orders = h.orders;
       assignments = omega (arith, h.assignments, length-append state.assignments (record { handle = handle; function = function } ∷ []), length-append state.standings (standing.Running ∷ []));
       generations = λ s. at_set (λ x. last_generation x ≤ 262143) state.slots w.slot new (Empty 0) s (h.generations s) (generation_there rules state h w live);
+      ranges = h.ranges;
       runs = λ s. at_set (λ x. runs_of x < rules.max_runs) state.slots w.slot new (Empty 0) s (h.runs s) (runs_there rules state h w.slot);
       tickets = λ s k o. elim (opens_here state.slots w.slot new s k o) [
         | inl t ↦ subst (IsOpen (state.standings ++ standing.Running ∷ [])) (let e : next ≡ k = cc in e) fresh
@@ -142,6 +147,7 @@ cleared rules state slot new k y h within none generation runs own =
       orders = h.orders;
       assignments = h.assignments ∙ sym (length-set state.standings (k - 1) y);
       generations = λ s. at_set (λ x. last_generation x ≤ 262143) state.slots slot new (Empty 0) s (h.generations s) generation;
+      ranges = h.ranges;
       runs = λ s. at_set (λ x. runs_of x < rules.max_runs) state.slots slot new (Empty 0) s (h.runs s) runs;
       tickets = λ s j o.
           let e = opens_elsewhere state.slots slot new s j within none o in
@@ -159,6 +165,7 @@ cleared_idle rules state slot new h within none generation runs =
       orders = h.orders;
       assignments = h.assignments;
       generations = λ s. at_set (λ x. last_generation x ≤ 262143) state.slots slot new (Empty 0) s (h.generations s) generation;
+      ranges = h.ranges;
       runs = λ s. at_set (λ x. runs_of x < rules.max_runs) state.slots slot new (Empty 0) s (h.runs s) runs;
       tickets = λ s j o. h.tickets s j (opens_elsewhere state.slots slot new s j within none o).1;
       alone = λ s t j o q. h.alone s t j (opens_elsewhere state.slots slot new s j within none o).1 (opens_elsewhere state.slots slot new t j within none q).1;
@@ -196,19 +203,29 @@ length-orders_from plan round number [] orders e = refl
 length-orders_from plan round number (slot ∷ slots) [] e = refl
 length-orders_from plan round number (slot ∷ slots) (order ∷ orders) e = ap suc (length-orders_from plan round (number + 1) slots orders (omega arith))
 
-sound_round : (rules : Profile) (answer : Answer) (state : State) → IsSound rules state → IsSound rules (after_round answer state)
-sound_round rules (answers.Planned plan backlog short) state h =
-    record { slots = h.slots; grab_times = h.grab_times; orders = length-orders_from plan (state.rounds + 1) 0 state.slots state.orders (h.slots ∙ sym h.orders) ∙ h.orders; assignments = h.assignments; generations = h.generations; runs = h.runs; tickets = h.tickets; alone = h.alone }
-sound_round rules (answers.NoPlan short) state h =
-    record { slots = h.slots; grab_times = h.grab_times; orders = h.orders; assignments = h.assignments; generations = h.generations; runs = h.runs; tickets = h.tickets; alone = h.alone }
+sound_round : (rules : Profile) (answer : Answer) (state : State) → IsProfile rules → IsSound rules state → IsPossible rules (event.Round answer) state → IsSound rules (after_round answer state)
+sound_round rules (answers.Planned plan backlog short) state r h p =
+    record {
+      slots = h.slots;
+      grab_times = h.grab_times;
+      orders = length-orders_from plan (state.rounds + 1) 0 state.slots state.orders (h.slots ∙ sym h.orders) ∙ h.orders;
+      assignments = h.assignments;
+      generations = h.generations;
+      ranges = ranges_after rules r (input_of rules state p.0) refl state.slots h.slots refl plan (state.rounds + 1) state.orders (and_parts _ _ p.2.permitted).1 h.generations h.ranges;
+      runs = h.runs;
+      tickets = h.tickets;
+      alone = h.alone;
+    }
+sound_round rules (answers.NoPlan short) state r h p =
+    record { slots = h.slots; grab_times = h.grab_times; orders = h.orders; assignments = h.assignments; generations = h.generations; ranges = h.ranges; runs = h.runs; tickets = h.tickets; alone = h.alone }
 
 -- every event keeps a state sound
-pub sound_after : (rules : Profile) (e : Event) (state : State) → 0 < rules.max_runs → IsSound rules state → IsPossible rules e state → IsSound rules (after rules e state)
-sound_after rules (event.Join slot) state some h p = sound_join rules state slot some h p
-sound_after rules (event.Load load) state some h p =
-    record { slots = h.slots; grab_times = h.grab_times; orders = h.orders; assignments = h.assignments; generations = h.generations; runs = h.runs; tickets = h.tickets; alone = h.alone }
-sound_after rules (event.Round answer) state some h p = sound_round rules answer state h
-sound_after rules (event.Grab worker handle function now) state some h p = sound_grab rules state worker handle function now h p.0
-sound_after rules (event.Begin worker ticket) state some h p = sound_begin rules state worker ticket h
-sound_after rules (event.Reported worker ticket end) state some h p = sound_reported rules state worker ticket end some h p
-sound_after rules (event.Lost worker cause) state some h p = sound_lost rules state worker cause some h p
+pub sound_after : (rules : Profile) (e : Event) (state : State) → IsProfile rules → IsSound rules state → IsPossible rules e state → IsSound rules (after rules e state)
+sound_after rules (event.Join slot) state r h p = sound_join rules state slot r.max_runs_some h p
+sound_after rules (event.Load load) state r h p =
+    record { slots = h.slots; grab_times = h.grab_times; orders = h.orders; assignments = h.assignments; generations = h.generations; ranges = h.ranges; runs = h.runs; tickets = h.tickets; alone = h.alone }
+sound_after rules (event.Round answer) state r h p = sound_round rules answer state r h p
+sound_after rules (event.Grab worker handle function now) state r h p = sound_grab rules state worker handle function now h p.0
+sound_after rules (event.Begin worker ticket) state r h p = sound_begin rules state worker ticket h
+sound_after rules (event.Reported worker ticket end) state r h p = sound_reported rules state worker ticket end r.max_runs_some h p
+sound_after rules (event.Lost worker cause) state r h p = sound_lost rules state worker cause r.max_runs_some h p

@@ -35,7 +35,7 @@ kept_more rules events state owes reported lost capacity h e p owes' reported' l
     record {
       in_range = h.in_range;
       history = record { base = h.history.base; sound = h.history.sound; replays = replays_more rules h.history.base events state e h.history.replays p };
-      sound = sound_after rules e state h.in_range.max_runs_some h.sound p;
+      sound = sound_after rules e state h.in_range h.sound p;
       owes_is = o;
       reported_is = r;
       lost_is = l;

@@ -1,5 +1,5 @@
 -- What contracts see of a pool, and what its calls answer.
-use Rattle.std.specs.Prelude.{◌≡◌, ℕ, ◌+◌, ◌-◌, ◌^◌, ◌&&◌, nat_lt, nat_le, List, [], ◌∷◌, ◌++◌, length, Option, None, Some, Result, Ok, Err, is_some, Bool, true, false, not, if◌then◌else◌, slice_index, count_by}
+use Rattle.std.specs.Prelude.{◌≡◌, ℕ, ◌+◌, ◌-◌, ◌^◌, ◌&&◌, nat_lt, nat_le, List, [], ◌∷◌, ◌++◌, length, Option, None, Some, Result, Ok, Err, is_some, Bool, true, false, not, if◌then◌else◌, slice_index, count_by, IfSome}
 use Rattle.pool_settings.specs.Profile.{Profile}
 use Rattle.worker_state.specs.declared.slot.Slot.{Slot}
 use Rattle.worker_state.specs.declared.order.Order.{Order}
@@ -19,6 +19,7 @@ use Rattle.pool_core.specs.declared.error.RoundError.TheVariants as round
 use Rattle.plan_model.specs.declared.answer.Answer.{Answer}
 use Rattle.plan_model.specs.declared.answer.Answer.TheVariants as answers
 use Rattle.plan_model.specs.Planning.{Instance}
+use Rattle.level_search.specs.Steady.{IsSteady}
 use Rattle.gear_status.specs.Status.{Line}
 use Rattle.pool_core.specs.declared.error.ChapterError.{ChapterError}
 use Rattle.pool_core.specs.declared.error.ChapterError.TheVariants as chapter
@@ -211,6 +212,11 @@ view_due (Err view.NoLoad) = Some view.NoLoad
 -- a round is admitted
 abbrev pub has_round : Book → Bool
 has_round book = has_room book 1 && nat_lt book.state.rounds (2 ^ 32 - 1)
+
+-- The answer keeps the previous plan, cut to what is live and permitted now, where that plan is best and full.
+abbrev pub KeepsPlan : Book → Answer → Type 0
+KeepsPlan book answer =
+    IfSome book.state.load (λ load. IfSome book.state.previous (λ plan. IsSteady (input_of book.rules book.state load) plan answer))
 
 -- what each answer to an offered input says
 abbrev pub Adopts : {A : Type 0} → Book → Instance → Result A AdoptError → Type 0

@@ -10,6 +10,7 @@ use Rattle.pool_core.specs.declared.event.Assignment.{Assignment}
 use Rattle.pool_core.specs.declared.event.Event.{Event}
 use Rattle.pool_core.specs.declared.event.Event.TheVariants as event
 use Rattle.pool_core.specs.Machine.{State, first, standing_in, input_of, replay, IsHistory, Replays}
+use Rattle.pool_core.specs.Kept.{IsSound}
 use Rattle.pool_core.specs.Book.{Book, IsStep}
 
 -- The jobs have only grown, and one that is reported or lost stands as it did
@@ -51,6 +52,17 @@ abbrev pub HistoriesCount : Type 0
 HistoriesCount =
     (rules : Profile) → IsProfile rules → (events : List Event) → IsHistory rules (first rules) events
     → IsCounted events (replay rules (first rules) events)
+
+-- The same from any sound base: the base's numbers, and those of the chapter's events
+pub record IsCountedFrom (base : State) (events : List Event) (state : State) : Type 0 where
+  pub sum : length state.standings ≡ count_by is_open state.standings + count_by is_reported state.standings + count_by is_lost state.standings
+  pub grabs : length state.standings ≡ length base.standings + count_by is_grab events
+  pub reports : count_by is_reported state.standings ≡ count_by is_reported base.standings + count_by is_report events
+
+abbrev pub ChaptersCount : Type 0
+ChaptersCount =
+    (rules : Profile) → IsProfile rules → (base : State) → IsSound rules base → (events : List Event) → IsHistory rules base events
+    → IsCountedFrom base events (replay rules base events)
 
 -- Each round of a history holds an answer that is shown for the input of the state before it
 abbrev pub RoundsAreShown : Type 0

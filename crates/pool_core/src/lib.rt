@@ -18,5 +18,8 @@ pub use error::{
     ReportError, RoundError, ViewError,
 };
 pub use event::{Assignment, Chapter, Event, FunctionName};
-pub use laws::{calls_replay, histories_count, histories_extend, histories_join, rounds_are_shown};
+pub use laws::{
+    calls_replay, chapters_count, histories_count, histories_extend, histories_join,
+    rounds_are_shown,
+};
 pub use pool::{Pass, Pool};

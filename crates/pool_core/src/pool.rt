@@ -1,6 +1,7 @@
 //! The pool and what it answers without a change. Its calls stand in the files below it, each of one subject.
 ghost use Rattle.std.specs.Prelude.{◌≡◌, ◌+◌, ◌<◌, ◌≤◌, slice_get, IfSome, IfNone, [], Some, None, length, IfOk};
 ghost use Rattle.pool_core.specs.Machine.{first, slot_in, standing_in, assignment_in};
+ghost use Rattle.worker_state.specs.Orders.{IsOrder};
 ghost use Rattle.pool_core.specs.Kept.{IsChapter};
 ghost use Rattle.pool_core.specs.Book.{Book, has_room, totals_of};
 
@@ -130,9 +131,11 @@ impl Pool {
     }
 
     /// The order to the worker of a slot. It is idle and of round 0 for a worker that joined since the last round with a plan.
+    /// Its generation is at most 262,143, and its function is below 1,024.
     pub fn order(&self, slot: SlotId) -> Order
         requires { slot < length self.now.state.slots }
-        ensures { slice_get self.now.state.orders slot ≡ Some result }
+        ensures order { slice_get self.now.state.orders slot ≡ Some result }
+        ensures ranges { IsOrder result }
     {
         let orders = self.orders.as_slice();
         orders[slot.number() as usize]

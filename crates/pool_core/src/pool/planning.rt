@@ -1,8 +1,9 @@
 //! Loads and rounds.
-ghost use Rattle.std.specs.Prelude.{◌≡◌, ◌+◌, ◌<◌, ◌-◌, ◌^◌, IsTrue, ◌↔◌, IfOk, OnOk, OnErr};
+ghost use Rattle.std.specs.Prelude.{◌≡◌, ◌+◌, ◌<◌, ◌-◌, ◌^◌, IsTrue, ◌↔◌, [], ◌∷◌, ◌++◌, IfSome, IfOk, OnOk, OnErr};
 ghost use Rattle.pool_core.specs.Machine.{input_of, IsPossible};
 ghost use Rattle.plan_model.specs.Shown.{Shown};
-ghost use Rattle.pool_core.specs.Book.{Book, IsStep, has_room, load_due, load_refusal, round_refusal, round_due, ran_of, IsInput, view_due, view_refusal, has_round, Adopts};
+ghost use Rattle.level_search.specs.Steady.{IsSteady};
+ghost use Rattle.pool_core.specs.Book.{Book, IsStep, has_room, load_due, load_refusal, round_refusal, round_due, ran_of, IsInput, view_due, view_refusal, has_round, Adopts, KeepsPlan};
 ghost use Rattle.plan_model.specs.declared.answer.Answer.{Answer};
 ghost use Rattle.plan_model.specs.declared.answer.Answer.TheVariants.{Planned, NoPlan};
 ghost use Rattle.pool_core.specs.declared.event.Event.TheVariants as event;
@@ -69,7 +70,8 @@ impl Pool {
 
     /// The best answer for the input of now. All tables of the search lie in one arena, which is given up here.
     fn solution(&self, load: &Load) -> Result<Answer, AllocError>
-        ensures { IfOk result (λ answer. Shown (input_of self.now.rules self.now.state load.now) answer) }
+        ensures shown { IfOk result (λ answer. Shown (input_of self.now.rules self.now.state load.now) answer) }
+        ensures steady { IfOk result (λ answer. IfSome self.now.state.previous (λ plan. IsSteady (input_of self.now.rules self.now.state load.now) plan answer)) }
     {
         let input = self.input(load)?;
         let bump = Bump::new(self.alloc);
@@ -81,9 +83,11 @@ impl Pool {
     /// decided.
     ///
     /// It is `view`, `solve` and `adopt` in one event. An order whose function stays keeps its round number. Where there is no
-    /// plan, the orders and the previous plan stay as they are.
+    /// plan, the orders and the previous plan stay as they are. Where the previous plan, cut to live workers and permitted
+    /// functions, is best and leaves nobody idle who may do something, it is the round's plan.
     pub fn round(&mut self) -> Result<Ran, RoundError>
         ensures step { IfOk result (λ ran. (answer : Answer) × IsStep (event.Round answer) self.old self.new × (ran ≡ ran_of answer self.old.state)) }
+        ensures steady { OnOk result ((answer : Answer) × (self.new.events ≡ self.old.events ++ event.Round answer ∷ []) × KeepsPlan self.old answer) }
         ensures err { OnErr result (self.new ≡ self.old) }
         ensures refusal { round_due result ≡ round_refusal self.old }
     {
