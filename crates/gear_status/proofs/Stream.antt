@@ -3,8 +3,9 @@ use Rattle.std.proofs.Common.{◌≡◌, ◌≢◌, append_assoc, subst, ℕ, �
 use Rattle.std.specs.List.{slice_split}
 use Rattle.std.proofs.lemmas.Bool.{and_parts, false≢true}
 use Rattle.std.proofs.lemmas.Bool.Decides.{nat_tests}
+use Rattle.gear_status.specs.Device.{Undisturbed}
 use Rattle.gear_status.specs.Status.{Line, at_end, is_line_feed, is_period, is_too_long, line_meaning, meaning_from, put, status, without_return}
-use Rattle.gear_status.specs.Stream.{Answers, IsPart, Part, is_open, is_verdict, meaning_with}
+use Rattle.gear_status.specs.Stream.{Answers, EndsWithPiece, IsPart, Part, is_open, is_verdict, meaning_with}
 use Rattle.gear_status.specs.declared.error.StatusError.{StatusError}
 use Rattle.gear_status.specs.declared.error.StatusError.TheVariants.{BadLine, BadNumber, LineTooLong, Memory, ReadFault, TooManyLines, Truncated}
 
@@ -128,11 +129,11 @@ led_on bytes piece p q ahead on rest =
 
 -- what a piece's fault lets a call answer
 pub fault_answer : (bytes : List ℕ) (lulls failures : ℕ) (ended : Bool) (f : StatusError) → is_verdict f ≡ true → (f ≢ Memory → status bytes ≡ Err f)
-    → Answers bytes lulls failures ended (Err f)
-fault_answer bytes lulls failures ended Memory v e = tt
-fault_answer bytes lulls failures ended Truncated v e = absurd (false≢true v)
-fault_answer bytes lulls failures ended ReadFault v e = absurd (false≢true v)
-fault_answer bytes lulls failures ended (BadLine n) v e = e (λ p. cc)
-fault_answer bytes lulls failures ended (BadNumber n) v e = e (λ p. cc)
-fault_answer bytes lulls failures ended (LineTooLong n) v e = e (λ p. cc)
-fault_answer bytes lulls failures ended TooManyLines v e = e (λ p. cc)
+    → EndsWithPiece bytes ended → Undisturbed lulls failures → Answers bytes lulls failures ended (Err f)
+fault_answer bytes lulls failures ended Memory v e last calm = calm
+fault_answer bytes lulls failures ended Truncated v e last calm = absurd (false≢true v)
+fault_answer bytes lulls failures ended ReadFault v e last calm = absurd (false≢true v)
+fault_answer bytes lulls failures ended (BadLine n) v e last calm = (e (λ p. cc), last, calm)
+fault_answer bytes lulls failures ended (BadNumber n) v e last calm = (e (λ p. cc), last, calm)
+fault_answer bytes lulls failures ended (LineTooLong n) v e last calm = (e (λ p. cc), last, calm)
+fault_answer bytes lulls failures ended TooManyLines v e last calm = (e (λ p. cc), last, calm)

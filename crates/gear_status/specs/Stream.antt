@@ -1,6 +1,7 @@
 -- A status text that has come in part.
-use Rattle.std.specs.Prelude.{ℕ, ◌≡◌, ◌+◌, ◌-◌, ◌*◌, ◌≤◌, ◌⊎◌, List, ◌++◌, take, Bool, true, false, not, length, Option, Some, None, Result, Ok, Err}
+use Rattle.std.specs.Prelude.{ℕ, ◌≡◌, ◌+◌, ◌-◌, ◌*◌, ◌≤◌, List, ◌++◌, take, Bool, true, false, not, length, Option, Some, None, Result, Ok, Err}
 use Rattle.std.specs.List.{list_all, slice_split}
+use Rattle.gear_status.specs.Device.{GaveUp, Undisturbed}
 use Rattle.gear_status.specs.Status.{Line, is_line_feed, meaning_from, status}
 use Rattle.gear_status.specs.declared.error.StatusError.{StatusError}
 use Rattle.gear_status.specs.declared.error.StatusError.TheVariants as fault
@@ -40,19 +41,22 @@ is_verdict fault.Truncated = false
 is_verdict fault.ReadFault = false
 is_verdict _ = true
 
--- the last piece decides, and nothing before it does: no read is made behind the period line
-abbrev pub EndsWithPiece : List ℕ → Type 0
-EndsWithPiece bytes = (before : List ℕ) × (piece : List ℕ) × (bytes ≡ before ++ piece) × (status before ≡ Err fault.Truncated)
+-- The last piece decides, and nothing before it does. It came in one take, of at most 4,096 bytes, and no take after it found
+-- the end: so no read is made behind the period line, or behind a fault.
+abbrev pub EndsWithPiece : List ℕ → Bool → Type 0
+EndsWithPiece bytes ended =
+    ((before : List ℕ) × (piece : List ℕ) × (bytes ≡ before ++ piece) × (status before ≡ Err fault.Truncated) × (length piece ≤ 4096))
+    × (ended ≡ false)
 
 -- What a call may answer that took these bytes and met these lulls, where `failures` are those of
 -- its device in the call, and `ended` says whether the last take found the end.
 abbrev pub Answers : List ℕ → ℕ → ℕ → Bool → Result (List Line) StatusError → Type 0
-Answers bytes lulls failures ended (Ok load) = (status bytes ≡ Ok load) × EndsWithPiece bytes
-Answers bytes lulls failures ended (Err fault.Memory) = Unit {0}
-Answers bytes lulls failures ended (Err fault.Truncated) = (status bytes ≡ Err fault.Truncated) × (ended ≡ true)
-Answers bytes lulls failures ended (Err fault.ReadFault) =
-    (status bytes ≡ Err fault.Truncated) × ((failures ≡ 1) ⊎ (lulls ≡ 65))
-Answers bytes lulls failures ended (Err f) = status bytes ≡ Err f
+Answers bytes lulls failures ended (Ok load) = (status bytes ≡ Ok load) × EndsWithPiece bytes ended × Undisturbed lulls failures
+Answers bytes lulls failures ended (Err fault.Memory) = Undisturbed lulls failures
+Answers bytes lulls failures ended (Err fault.Truncated) =
+    (status bytes ≡ Err fault.Truncated) × (ended ≡ true) × Undisturbed lulls failures
+Answers bytes lulls failures ended (Err fault.ReadFault) = (status bytes ≡ Err fault.Truncated) × GaveUp lulls failures
+Answers bytes lulls failures ended (Err f) = (status bytes ≡ Err f) × EndsWithPiece bytes ended × Undisturbed lulls failures
 
 -- No text that is undecided is longer than this: 65,536 lines of 4,096 bytes with their line feeds, and one more line.
 abbrev pub longest : ℕ
@@ -63,6 +67,6 @@ abbrev pub AnswersWithin : ℕ → List ℕ → ℕ → ℕ → Bool → Result 
 AnswersWithin limit bytes lulls failures ended (Ok (Some load)) =
     Answers bytes lulls failures ended (Ok load) × (length bytes ≤ limit)
 AnswersWithin limit bytes lulls failures ended (Ok None) =
-    (length bytes ≡ limit + 1) × (status (take limit bytes) ≡ Err fault.Truncated) × (limit ≤ longest)
+    (length bytes ≡ limit + 1) × (status (take limit bytes) ≡ Err fault.Truncated) × (limit ≤ longest) × Undisturbed lulls failures
 AnswersWithin limit bytes lulls failures ended (Err f) =
     Answers bytes lulls failures ended (Err f) × (length bytes ≤ limit)

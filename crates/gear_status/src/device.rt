@@ -79,7 +79,7 @@ pub struct Given {
 /// Writes all the bytes, in as many writes as the sink wants. Where a write fails, a front of them has gone out, and
 /// nothing is written after it.
 pub fn give_all<S: Sink>(sink: &mut S, bytes: &[u8]) -> Result<(), Given>
-    requires { S.failures sink.old < 2 ^ 64 - 1 }
+    requires count { S.failures sink.old < 2 ^ 64 - 1 }
     ensures ok { OnOk result (S.got sink.new ≡ and_then (S.got sink.old) bytes.now) }
     ensures ok_count { OnOk result (S.failures sink.new ≡ S.failures sink.old) }
     ensures err { IfErr result (λ g. S.got sink.new ≡ and_then (S.got sink.old) (take g.count bytes.now)) }

@@ -37,7 +37,7 @@ pub enum StatusError {
 impl StatusError {
     /// The number of this refusal, from 1 to 7 in the order above, as fault lines give it.
     pub fn number(self) -> u32
-        ensures { result ≡ spec.number_of self }
+        ensures number { result ≡ spec.number_of self }
     {
         match self {
             StatusError::BadLine(_) => 1,
@@ -52,7 +52,7 @@ impl StatusError {
 
     /// The name of this refusal, as fault lines give it: that of its variant.
     pub fn name(self) -> &'static str
-        ensures { result.now ≡ spec.name_of self }
+        ensures name { result.now ≡ spec.name_of self }
     {
         match self {
             StatusError::BadLine(_) => "BadLine",
@@ -67,7 +67,7 @@ impl StatusError {
 
     /// The line that is refused, counted from 1, where it is one line.
     pub fn line(self) -> Option<u32>
-        ensures { result ≡ spec.line_of self }
+        ensures line { result ≡ spec.line_of self }
     {
         match self {
             StatusError::BadLine(line)

@@ -38,7 +38,7 @@ impl Model for Load {
 impl Load {
     /// A load without lines. It takes no memory before the first `set`.
     pub fn new(alloc: Global) -> Load
-        ensures { result ≡ [] }
+        ensures no_lines { result ≡ [] }
     {
         Load {
             lines: IndexMap::new(alloc),
@@ -70,7 +70,7 @@ impl Load {
     /// How many jobs of a name wait for a worker: the queue less those that run, and 0 where more run or the name is not
     /// there. It looks the name up by its hash.
     pub fn waiting(&self, name: &[u8]) -> u32
-        ensures { result ≡ waiting self.now name.now }
+        ensures jobs { result ≡ waiting self.now name.now }
     {
         match self.lines.get(name) {
             Some(counts) => counts.total.saturating_sub(counts.running),
@@ -78,7 +78,7 @@ impl Load {
         }
     }
 
-    /// An equal load: the same lines in the same order.
+    /// An equal load: the same lines in the same order. The only error is want of memory.
     pub fn copy(&self) -> Result<Load, AllocError>
         ensures { IfOk result (λ load. load ≡ self.now) }
     {

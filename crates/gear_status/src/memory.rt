@@ -28,7 +28,7 @@ impl<'s> Model for SliceSource<'s> {
 impl<'s> SliceSource<'s> {
     /// A source of which nothing has been read.
     pub fn new(all: &'s [u8]) -> SliceSource<'s>
-        ensures { result ≡ record { text = all.now; at = 0; has_ended = false } }
+        ensures unread { result ≡ record { text = all.now; at = 0; has_ended = false } }
     {
         SliceSource {
             all,
@@ -82,7 +82,7 @@ impl Model for VecSink {
 impl VecSink {
     /// A sink that holds nothing.
     pub fn new(alloc: Global) -> VecSink
-        ensures { result ≡ record { bytes = []; failures = 0 } }
+        ensures unwritten { result ≡ record { bytes = []; failures = 0 } }
     {
         VecSink {
             bytes: Vec::new(alloc),
@@ -92,7 +92,7 @@ impl VecSink {
 
     /// The bytes that were written, in order.
     pub fn bytes(&self) -> &[u8]
-        ensures { result.now ≡ self.now.bytes }
+        ensures written { result.now ≡ self.now.bytes }
     {
         self.bytes.as_slice()
     }

@@ -50,7 +50,7 @@ impl Model for Script {
 impl Script {
     /// A script without cues: it ends at its first read, takes whatever is written, and never fails.
     pub fn new(alloc: Global) -> Script
-        ensures { result ≡ first_play }
+        ensures no_cues { result ≡ first_play }
     {
         Script {
             input: Vec::new(alloc),
@@ -68,17 +68,19 @@ impl Script {
         }
     }
 
-    /// Lists a piece of input.
+    /// Lists a piece of input. Where there is no memory for it, the script stays as it was.
     pub fn piece(&mut self, bytes: &[u8]) -> Result<(), AllocError>
-        ensures { OnOk result
+        ensures ok { OnOk result
             (self.new ≡ record self.old { input = self.old.input ++ bytes.now; cues = self.old.cues ++ cues.Bytes (length bytes.now) ∷ [] }) }
+        ensures err { OnErr result (self.new ≡ self.old) }
     {
+        self.cues.reserve(1)?;
         self.input.extend_from_slice(bytes)?;
         self.cues.push(Cue::Bytes(bytes.len()))?;
         Ok(())
     }
 
-    /// Lists a lull.
+    /// Lists a lull. Where there is no memory for it, the script stays as it was.
     pub fn lull(&mut self) -> Result<(), AllocError>
         ensures ok { OnOk result (self.new ≡ record self.old { cues = self.old.cues ++ cues.Lull ∷ [] }) }
         ensures err { OnErr result (self.new ≡ self.old) }
@@ -89,31 +91,31 @@ impl Script {
 
     /// The call of `take` that is to fail, counted from 1 for the next.
     pub fn fail_take(&mut self, call: u64)
-        requires { 1 ≤ call }
-        ensures { self.new ≡ record self.old { sound_takes = Some (call - 1) } }
+        requires counted { 1 ≤ call }
+        ensures planned { self.new ≡ record self.old { sound_takes = Some (call - 1) } }
     {
         self.sound_takes = Some(call - 1);
     }
 
     /// The call of `give` that is to fail, counted from 1 for the next.
     pub fn fail_give(&mut self, call: u64)
-        requires { 1 ≤ call }
-        ensures { self.new ≡ record self.old { sound_gives = Some (call - 1) } }
+        requires counted { 1 ≤ call }
+        ensures planned { self.new ≡ record self.old { sound_gives = Some (call - 1) } }
     {
         self.sound_gives = Some(call - 1);
     }
 
     /// A write takes no more bytes than this.
     pub fn give_at_most(&mut self, count: usize)
-        requires { 1 ≤ count }
-        ensures { self.new ≡ record self.old { widest_give = count } }
+        requires some { 1 ≤ count }
+        ensures planned { self.new ≡ record self.old { widest_give = count } }
     {
         self.widest_give = count;
     }
 
     /// The bytes that were written, in order.
     pub fn output(&self) -> &[u8]
-        ensures { result.now ≡ self.now.output }
+        ensures written { result.now ≡ self.now.output }
     {
         self.output.as_slice()
     }

@@ -20,11 +20,12 @@ const LULLS: u32 = 64;
 /// replaces its counts and keeps its place. A line has at most 4,096 bytes before its line feed, and there are at most 65,536
 /// lines before the period line, so the load and one line bound the memory.
 ///
-/// The source's pieces do not matter. No read is made once the period line has come, and what was read behind it is not looked
-/// at. `ReadFault` is answered only where the source failed in this call, or where it lulled for the 65th time in it.
+/// The source's pieces do not matter. At most 4,096 bytes are taken at a time. No read is made once the period line or a fault
+/// has come, and what was read behind it is not looked at. `ReadFault` is answered exactly where the source failed in this call,
+/// or lulled for the 65th time in it, before its bytes decided: after the first failure nothing is read.
 pub fn read_status<S: Source>(alloc: Global, source: &mut S) -> Result<Load, StatusError>
-    requires { S.failures source.old < 2 ^ 64 - 1 }
-    ensures { (bytes : List ℕ) × (lulls : ℕ) × (failures : ℕ)
+    requires count { S.failures source.old < 2 ^ 64 - 1 }
+    ensures answers { (bytes : List ℕ) × (lulls : ℕ) × (failures : ℕ)
         × (S.given source.new ≡ and_then (S.given source.old) bytes)
         × (S.lulls source.new ≡ counted (S.lulls source.old) lulls)
         × (S.failures source.new ≡ S.failures source.old + failures)
@@ -43,8 +44,8 @@ pub fn read_status_within<S: Source>(
     source: &mut S,
     limit: u64,
 ) -> Result<Option<Load>, StatusError>
-    requires { S.failures source.old < 2 ^ 64 - 1 }
-    ensures { (bytes : List ℕ) × (lulls : ℕ) × (failures : ℕ)
+    requires count { S.failures source.old < 2 ^ 64 - 1 }
+    ensures answers { (bytes : List ℕ) × (lulls : ℕ) × (failures : ℕ)
         × (S.given source.new ≡ and_then (S.given source.old) bytes)
         × (S.lulls source.new ≡ counted (S.lulls source.old) lulls)
         × (S.failures source.new ≡ S.failures source.old + failures)

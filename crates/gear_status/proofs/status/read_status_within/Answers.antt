@@ -3,7 +3,7 @@ use Rattle.std.proofs.Math.Seq.{take-append_seam}
 use Rattle.std.proofs.lemmas.List.{length-take-le}
 use Rattle.std.proofs.lemmas.Result.{err_from_is_err_and}
 use Rattle.gear_status.specs.Device.{FitsBuffer, and_then, counted, is_end, lull_of, taken}
-use Rattle.gear_status.specs.Stream.{LeadsTo}
+use Rattle.gear_status.specs.Stream.{EndsWithPiece, LeadsTo}
 use Rattle.gear_status.proofs.Devices.{lulls_more, lulls_same, none_more, some_more}
 use Rattle.gear_status.proofs.Stream.{complete, fault_answer, faulty, led_on, undecided}
 use Rattle.gear_status.proofs.status.read_status_within.Goals as goal
@@ -17,21 +17,27 @@ returns-in_err-feed-in-Ok-Bytes g c =
     let within : length (so_far.0 ++ piece) ≤ c.args.limit = omega (arith, length-append so_far.0 piece, long, fits.1, so_far.7, c.if-left-eq0.false) in
     let bytes = subst (λ t. g.S.Source.given c.take_up_to.new.source ≡ and_then (g.S.Source.given c.loop-count.source) (taken c.take_up_to.new.buffer (Ok t))) c.in-Ok-Bytes.field-0-is c.in-Ok-Bytes.ensures.bytes in
     let pauses = subst (λ t. g.S.Source.lulls c.take_up_to.new.source ≡ counted (g.S.Source.lulls c.loop-count.source) (lull_of (Ok t))) c.in-Ok-Bytes.field-0-is c.in-Ok-Bytes.ensures.pauses in
+    let more = subst (λ t. g.S.Source.has_ended c.take_up_to.new.source ≡ is_end (Ok t)) c.in-Ok-Bytes.field-0-is c.in-Ok-Bytes.ensures.ends in
+    let one_piece : length piece ≤ 4096 = omega (arith, long, fits.1, c.in-Ok-Bytes.ensures.buffer) in
+    let last : EndsWithPiece (so_far.0 ++ piece) (g.S.Source.has_ended c.take_up_to.new.source) = ((so_far.0, piece, refl, undecided so_far.0 c.loop-count.text so_far.3 so_far.2, one_piece), more) in
     let p = err_from_is_err_and c.from_residual.result c.from_residual.ensures.1 in
-    let f = c.in_err-feed-in-Ok-Bytes.field-0.0 in (
-      so_far.0 ++ piece,
-      c.loop-count.lulls,
-      0,
-      some_more _ _ _ _ _ bytes so_far.1,
-      lulls_same _ _ _ _ pauses so_far.4,
-      omega (arith, c.in-Ok-Bytes.ensures.fails, so_far.5),
-      rw (p.1, p.2) (
-        fault_answer (so_far.0 ++ piece) c.loop-count.lulls 0 (g.S.Source.has_ended c.take_up_to.new.source) f
-            c.in_err-feed-in-Ok-Bytes.ensures.verdict
-            (λ other. faulty so_far.0 piece c.loop-count.text f so_far.2 (c.in_err-feed-in-Ok-Bytes.ensures.err other)),
-        within,
-      ),
-    )
+    let f = c.in_err-feed-in-Ok-Bytes.field-0.0 in record {
+      answers = (
+        so_far.0 ++ piece,
+        c.loop-count.lulls,
+        0,
+        some_more _ _ _ _ _ bytes so_far.1,
+        lulls_same _ _ _ _ pauses so_far.4,
+        omega (arith, c.in-Ok-Bytes.ensures.fails, so_far.5),
+        rw (p.1, p.2) (
+          fault_answer (so_far.0 ++ piece) c.loop-count.lulls 0 (g.S.Source.has_ended c.take_up_to.new.source) f
+              c.in_err-feed-in-Ok-Bytes.ensures.verdict
+              (λ other. faulty so_far.0 piece c.loop-count.text f so_far.2 (c.in_err-feed-in-Ok-Bytes.ensures.err other))
+              last (refl, so_far.6),
+          within,
+        ),
+      );
+    }
 
 pub returns-then-branch : goal.returns-then-branch
 returns-then-branch g c =
@@ -42,21 +48,27 @@ returns-then-branch g c =
     let within : length (so_far.0 ++ piece) ≤ c.args.limit = omega (arith, length-append so_far.0 piece, long, fits.1, so_far.7, c.if-left-eq0.false) in
     let bytes = subst (λ t. g.S.Source.given c.take_up_to.new.source ≡ and_then (g.S.Source.given c.loop-count.source) (taken c.take_up_to.new.buffer (Ok t))) c.in-Ok-Bytes.field-0-is c.in-Ok-Bytes.ensures.bytes in
     let pauses = subst (λ t. g.S.Source.lulls c.take_up_to.new.source ≡ counted (g.S.Source.lulls c.loop-count.source) (lull_of (Ok t))) c.in-Ok-Bytes.field-0-is c.in-Ok-Bytes.ensures.pauses in
-    let done = subst (λ b. LeadsTo c.loop-count.text piece c.feed.new.self b) c.if-branch.true c.in_ok-feed-in-Ok-Bytes.ensures.ok in (
-      so_far.0 ++ piece,
-      c.loop-count.lulls,
-      0,
-      some_more _ _ _ _ _ bytes so_far.1,
-      lulls_same _ _ _ _ pauses so_far.4,
-      omega (arith, c.in-Ok-Bytes.ensures.fails, so_far.5),
-      (
+    let more = subst (λ t. g.S.Source.has_ended c.take_up_to.new.source ≡ is_end (Ok t)) c.in-Ok-Bytes.field-0-is c.in-Ok-Bytes.ensures.ends in
+    let one_piece : length piece ≤ 4096 = omega (arith, long, fits.1, c.in-Ok-Bytes.ensures.buffer) in
+    let last : EndsWithPiece (so_far.0 ++ piece) (g.S.Source.has_ended c.take_up_to.new.source) = ((so_far.0, piece, refl, undecided so_far.0 c.loop-count.text so_far.3 so_far.2, one_piece), more) in
+    let done = subst (λ b. LeadsTo c.loop-count.text piece c.feed.new.self b) c.if-branch.true c.in_ok-feed-in-Ok-Bytes.ensures.ok in record {
+      answers = (
+        so_far.0 ++ piece,
+        c.loop-count.lulls,
+        0,
+        some_more _ _ _ _ _ bytes so_far.1,
+        lulls_same _ _ _ _ pauses so_far.4,
+        omega (arith, c.in-Ok-Bytes.ensures.fails, so_far.5),
         (
-          rw c.into_load.ensures (complete so_far.0 piece c.loop-count.text c.feed.new.self.load so_far.2 done),
-          (so_far.0, piece, refl, undecided so_far.0 c.loop-count.text so_far.3 so_far.2),
+          (
+            rw c.into_load.ensures (complete so_far.0 piece c.loop-count.text c.feed.new.self.load so_far.2 done),
+            last,
+            (refl, so_far.6),
+          ),
+          within,
         ),
-        within,
-      ),
-    )
+      );
+    }
 
 pub loop-count-preserved-else-branch : goal.loop-count-preserved-else-branch
 loop-count-preserved-else-branch g c =
@@ -83,42 +95,48 @@ pub returns-then-lulls-eq-LULLS : goal.returns-then-lulls-eq-LULLS
 returns-then-lulls-eq-LULLS g c =
     let so_far = c.loop-count.invariant in
     let bytes = subst (λ t. g.S.Source.given c.take_up_to.new.source ≡ and_then (g.S.Source.given c.loop-count.source) (taken c.take_up_to.new.buffer (Ok t))) c.in-Ok-Lull.field-0-is c.in-Ok-Lull.ensures.bytes in
-    let pauses = subst (λ t. g.S.Source.lulls c.take_up_to.new.source ≡ counted (g.S.Source.lulls c.loop-count.source) (lull_of (Ok t))) c.in-Ok-Lull.field-0-is c.in-Ok-Lull.ensures.pauses in (
-      so_far.0,
-      c.loop-count.lulls + 1,
-      0,
-      none_more _ _ _ _ bytes so_far.1,
-      lulls_more _ _ _ _ _ pauses so_far.4,
-      omega (arith, c.in-Ok-Lull.ensures.fails, so_far.5),
-      ((undecided so_far.0 c.loop-count.text so_far.3 so_far.2, inr (omega arith)), omega (arith, so_far.7)),
-    )
+    let pauses = subst (λ t. g.S.Source.lulls c.take_up_to.new.source ≡ counted (g.S.Source.lulls c.loop-count.source) (lull_of (Ok t))) c.in-Ok-Lull.field-0-is c.in-Ok-Lull.ensures.pauses in record {
+      answers = (
+        so_far.0,
+        c.loop-count.lulls + 1,
+        0,
+        none_more _ _ _ _ bytes so_far.1,
+        lulls_more _ _ _ _ _ pauses so_far.4,
+        omega (arith, c.in-Ok-Lull.ensures.fails, so_far.5),
+        ((undecided so_far.0 c.loop-count.text so_far.3 so_far.2, inr (omega arith)), omega (arith, so_far.7)),
+      );
+    }
 
 pub returns-in-Ok-Ended : goal.returns-in-Ok-Ended
 returns-in-Ok-Ended g c =
     let so_far = c.loop-count.invariant in
     let bytes = subst (λ t. g.S.Source.given c.take_up_to.new.source ≡ and_then (g.S.Source.given c.loop-count.source) (taken c.take_up_to.new.buffer (Ok t))) c.in-Ok-Ended.field-0-is c.in-Ok-Ended.ensures.bytes in
     let pauses = subst (λ t. g.S.Source.lulls c.take_up_to.new.source ≡ counted (g.S.Source.lulls c.loop-count.source) (lull_of (Ok t))) c.in-Ok-Ended.field-0-is c.in-Ok-Ended.ensures.pauses in
-    let ends = subst (λ t. g.S.Source.has_ended c.take_up_to.new.source ≡ is_end (Ok t)) c.in-Ok-Ended.field-0-is c.in-Ok-Ended.ensures.ends in (
-      so_far.0,
-      c.loop-count.lulls,
-      0,
-      none_more _ _ _ _ bytes so_far.1,
-      lulls_same _ _ _ _ pauses so_far.4,
-      omega (arith, c.in-Ok-Ended.ensures.fails, so_far.5),
-      ((undecided so_far.0 c.loop-count.text so_far.3 so_far.2, ends), omega (arith, so_far.7)),
-    )
+    let ends = subst (λ t. g.S.Source.has_ended c.take_up_to.new.source ≡ is_end (Ok t)) c.in-Ok-Ended.field-0-is c.in-Ok-Ended.ensures.ends in record {
+      answers = (
+        so_far.0,
+        c.loop-count.lulls,
+        0,
+        none_more _ _ _ _ bytes so_far.1,
+        lulls_same _ _ _ _ pauses so_far.4,
+        omega (arith, c.in-Ok-Ended.ensures.fails, so_far.5),
+        ((undecided so_far.0 c.loop-count.text so_far.3 so_far.2, ends, (refl, so_far.6)), omega (arith, so_far.7)),
+      );
+    }
 
 pub returns-in-Err : goal.returns-in-Err
 returns-in-Err g c =
-    let so_far = c.loop-count.invariant in (
-      so_far.0,
-      c.loop-count.lulls,
-      1,
-      none_more _ _ _ _ c.in-Err.ensures.bytes so_far.1,
-      lulls_same _ _ _ _ c.in-Err.ensures.pauses so_far.4,
-      omega (arith, c.in-Err.ensures.fails, so_far.5),
-      ((undecided so_far.0 c.loop-count.text so_far.3 so_far.2, inl (omega arith)), omega (arith, so_far.7)),
-    )
+    let so_far = c.loop-count.invariant in record {
+      answers = (
+        so_far.0,
+        c.loop-count.lulls,
+        1,
+        none_more _ _ _ _ c.in-Err.ensures.bytes so_far.1,
+        lulls_same _ _ _ _ c.in-Err.ensures.pauses so_far.4,
+        omega (arith, c.in-Err.ensures.fails, so_far.5),
+        ((undecided so_far.0 c.loop-count.text so_far.3 so_far.2, inl (omega arith)), omega (arith, so_far.7)),
+      );
+    }
 
 pub returns-then-left-eq0 : goal.returns-then-left-eq0
 returns-then-left-eq0 g c =
@@ -129,16 +147,19 @@ returns-then-left-eq0 g c =
     let bytes = subst (λ t. g.S.Source.given c.take_up_to.new.source ≡ and_then (g.S.Source.given c.loop-count.source) (taken c.take_up_to.new.buffer (Ok t))) c.in-Ok-Bytes.field-0-is c.in-Ok-Bytes.ensures.bytes in
     let pauses = subst (λ t. g.S.Source.lulls c.take_up_to.new.source ≡ counted (g.S.Source.lulls c.loop-count.source) (lull_of (Ok t))) c.in-Ok-Bytes.field-0-is c.in-Ok-Bytes.ensures.pauses in
     let all : length so_far.0 ≡ c.args.limit = omega (arith, so_far.7, c.if-left-eq0.true) in
-    let front : take c.args.limit (so_far.0 ++ piece) ≡ so_far.0 = subst (λ k. take k (so_far.0 ++ piece) ≡ so_far.0) all (take-append_seam so_far.0 piece) in (
-      so_far.0 ++ piece,
-      c.loop-count.lulls,
-      0,
-      some_more _ _ _ _ _ bytes so_far.1,
-      lulls_same _ _ _ _ pauses so_far.4,
-      omega (arith, c.in-Ok-Bytes.ensures.fails, so_far.5),
-      (
-        omega (arith, length-append so_far.0 piece, long, fits.0, fits.1, so_far.7, c.if-left-eq0.true),
-        rw front (undecided so_far.0 c.loop-count.text so_far.3 so_far.2),
-        omega (arith, so_far.8, all),
-      ),
-    )
+    let front : take c.args.limit (so_far.0 ++ piece) ≡ so_far.0 = subst (λ k. take k (so_far.0 ++ piece) ≡ so_far.0) all (take-append_seam so_far.0 piece) in record {
+      answers = (
+        so_far.0 ++ piece,
+        c.loop-count.lulls,
+        0,
+        some_more _ _ _ _ _ bytes so_far.1,
+        lulls_same _ _ _ _ pauses so_far.4,
+        omega (arith, c.in-Ok-Bytes.ensures.fails, so_far.5),
+        (
+          omega (arith, length-append so_far.0 piece, long, fits.0, fits.1, so_far.7, c.if-left-eq0.true),
+          rw front (undecided so_far.0 c.loop-count.text so_far.3 so_far.2),
+          omega (arith, so_far.8, all),
+          (refl, so_far.6),
+        ),
+      );
+    }
