@@ -19,7 +19,8 @@ use Rattle.worker_state.specs.Slots.{is_open, is_reported, last_generation, runs
 use Rattle.pool_core.specs.declared.event.Assignment.{Assignment}
 use Rattle.pool_core.specs.declared.event.Event.{Event}
 use Rattle.pool_core.specs.declared.event.Event.TheVariants as event
-use Rattle.pool_core.specs.Machine.{State, first, standing_in, replay, IsHistory, IsPossible, after, after_round, with_lost, open_ticket}
+use Rattle.pool_core.specs.Machine.{State, first, standing_in, replay, IsHistory, IsPossible, after, after_round, with_lost, open_ticket, input_of}
+use Rattle.plan_model.proofs.Shown.{shown_best}
 use Rattle.pool_core.specs.Kept.{IsSound, IsOpen, OpensAt}
 use Rattle.pool_core.specs.Laws.{Extends, is_grab, is_report, HistoriesExtend, HistoriesCount, ChaptersCount, RoundsAreShown, HistoriesJoin}
 use Rattle.pool_core.proofs.Tables.{standing_given}
@@ -132,7 +133,8 @@ histories_extend_lem rules r earlier later h =
 
 pub rounds_are_shown_lem : RoundsAreShown
 rounds_are_shown_lem rules base earlier later answer h =
-    (history_cut rules base earlier (event.Round answer ∷ later) h).1.0
+    let p = (history_cut rules base earlier (event.Round answer ∷ later) h).1.0 in
+    (p.0, p.1, p.3, shown_best (input_of rules (replay rules base earlier) p.0) answer p.2 p.3)
 
 pub histories_join_lem : HistoriesJoin
 histories_join_lem rules base earlier later h k =

@@ -1,11 +1,11 @@
 -- A history that grows by one event, and what a pool keeps then.
-use Rattle.std.proofs.Common.{◌≡◌, ℕ, ◌+◌, ◌≤◌, List, [], ◌∷◌, ◌++◌, length, refl, sym, ap, ◌∙◌, subst, arith, length-append}
+use Rattle.std.proofs.Common.{◌≡◌, ℕ, ◌+◌, ◌≤◌, List, [], ◌∷◌, ◌++◌, length, refl, sym, ap, ◌∙◌, subst, arith, length-append, append_assoc, append-nil}
 use Rattle.std.specs.Prelude.{count_by}
 use Rattle.pool_settings.specs.Profile.{Profile}
 use Rattle.worker_state.specs.Slots.{is_reported, is_lost}
 use Rattle.pool_core.specs.declared.event.Event.{Event}
-use Rattle.pool_core.specs.Machine.{State, after, IsPossible, replay, IsHistory, Replays, owed}
-use Rattle.pool_core.specs.Kept.{IsKept}
+use Rattle.pool_core.specs.Machine.{State, first, after, IsPossible, replay, IsHistory, Replays, owed}
+use Rattle.pool_core.specs.Kept.{IsKept, IsChapter}
 use Rattle.pool_core.proofs.Sound.{sound_after}
 
 -- joined lists replay one after the other
@@ -25,16 +25,33 @@ replays_more rules base events state e h p =
       replayed = ap (after rules e) h.replayed ∙ sym (replay-append rules base events (e ∷ []));
     }
 
-pub kept_more : (rules : Profile) (events : List Event) (state : State) (owes reported lost capacity : ℕ) → IsKept rules events state owes reported lost capacity
+pub chapter_more : (rules : Profile) (chapters : ℕ) (events : List Event) (state : State) (e : Event) → IsChapter rules chapters events state → IsPossible rules e state → IsChapter rules chapters (events ++ e ∷ []) (after rules e state)
+chapter_more rules chapters events state e h p =
+    record {
+      before = h.before;
+      none_before = h.none_before;
+      replays = subst (λ (all : List Event). Replays rules (first rules) all (after rules e state)) (append_assoc h.before events (e ∷ [])) (replays_more rules (first rules) (h.before ++ events) state e h.replays p);
+    }
+
+-- the next chapter begins where this one ends
+pub next_chapter_is : (rules : Profile) (chapters : ℕ) (events : List Event) (state : State) → IsChapter rules chapters events state → IsChapter rules (chapters + 1) [] state
+next_chapter_is rules chapters events state h =
+    record {
+      before = h.before ++ events;
+      none_before = λ e. absurd (omega arith);
+      replays = subst (λ (all : List Event). Replays rules (first rules) all state) (sym (append-nil (h.before ++ events))) h.replays;
+    }
+
+pub kept_more : (rules : Profile) (chapters : ℕ) (events : List Event) (state : State) (owes reported lost capacity : ℕ) → IsKept rules chapters events state owes reported lost capacity
     → (e : Event) → IsPossible rules e state
     → (owes' reported' lost' capacity' : ℕ) → owes' ≡ owed (after rules e state)
     → reported' ≡ count_by is_reported (after rules e state).standings → lost' ≡ count_by is_lost (after rules e state).standings
     → length events + 1 + owes' ≤ rules.history → length events + 1 + owes' ≤ capacity'
-    → IsKept rules (events ++ e ∷ []) (after rules e state) owes' reported' lost' capacity'
-kept_more rules events state owes reported lost capacity h e p owes' reported' lost' capacity' o r l within reserved =
+    → IsKept rules chapters (events ++ e ∷ []) (after rules e state) owes' reported' lost' capacity'
+kept_more rules chapters events state owes reported lost capacity h e p owes' reported' lost' capacity' o r l within reserved =
     record {
       in_range = h.in_range;
-      history = record { base = h.history.base; sound = h.history.sound; replays = replays_more rules h.history.base events state e h.history.replays p };
+      history = chapter_more rules chapters events state e h.history p;
       sound = sound_after rules e state h.in_range h.sound p;
       owes_is = o;
       reported_is = r;

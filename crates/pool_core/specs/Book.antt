@@ -175,10 +175,14 @@ moved_in (slot ∷ slots) (o ∷ old) [] = 0
 moved_in (slot ∷ slots) (o ∷ old) (n ∷ new) =
     one_moved slot o n + moved_in slots old new
 
+-- a round is admitted
+abbrev pub has_round : Book → Bool
+has_round book = has_room book 1 && nat_lt book.state.rounds (2 ^ 32 - 1)
+
 abbrev pub round_refusal : Book → Option RoundError
 round_refusal book =
     if is_some book.state.load
-    then (if has_room book 1 && nat_lt book.state.rounds (2 ^ 32 - 1) then None else Some round.HistoryFull)
+    then (if has_round book then None else Some round.HistoryFull)
     else Some round.NoLoad
 
 abbrev pub round_due : {A : Type 0} → Result A RoundError → Option RoundError
@@ -208,10 +212,6 @@ abbrev pub view_due : {A : Type 0} → Result A ViewError → Option ViewError
 view_due (Ok x) = None
 view_due (Err view.Memory) = None
 view_due (Err view.NoLoad) = Some view.NoLoad
-
--- a round is admitted
-abbrev pub has_round : Book → Bool
-has_round book = has_room book 1 && nat_lt book.state.rounds (2 ^ 32 - 1)
 
 -- The answer keeps the previous plan, cut to what is live and permitted now, where that plan is best and full.
 abbrev pub KeepsPlan : Book → Answer → Type 0

@@ -1,6 +1,6 @@
 -- What every state that a history leads to has, and what a pool keeps beside its state.
 use Rattle.pool_settings.specs.Slots.{slots as slot_count}
-use Rattle.std.specs.Prelude.{◌≡◌, ℕ, ◌+◌, ◌-◌, ◌<◌, ◌≤◌, List, length, Option, None, Some, true, slice_index_or, count_by}
+use Rattle.std.specs.Prelude.{◌≡◌, ℕ, ◌+◌, ◌-◌, ◌<◌, ◌≤◌, List, [], ◌++◌, length, Option, None, Some, true, slice_index_or, count_by}
 use Rattle.pool_settings.specs.Profile.{Profile, IsProfile}
 use Rattle.worker_state.specs.declared.slot.Slot.{Slot}
 use Rattle.worker_state.specs.declared.slot.Slot.TheVariants.{Empty}
@@ -9,7 +9,7 @@ use Rattle.worker_state.specs.declared.job.Standing.TheVariants.{Running}
 use Rattle.worker_state.specs.Orders.{no_order, IsOrder}
 use Rattle.worker_state.specs.Slots.{last_generation, runs_of, ticket_of, is_open, is_reported, is_lost, closing_events}
 use Rattle.pool_core.specs.declared.event.Event.{Event}
-use Rattle.pool_core.specs.Machine.{State, Replays, owed}
+use Rattle.pool_core.specs.Machine.{State, first, Replays, owed}
 
 -- the ticket is open in the slot of that number
 abbrev pub OpensAt : List Slot → ℕ → ℕ → Type 0
@@ -42,16 +42,16 @@ abbrev pub lost_of : Option ℕ → ℕ
 lost_of None = 0
 lost_of (Some ticket) = 1
 
--- the events lead from a base to the state
-pub record IsChapter (rules : Profile) (events : List Event) (state : State) : Type 0 where
-  pub base : State
-  pub sound : IsSound rules base
-  pub replays : Replays rules base events state
+-- The events of the chapters that have ended, and then those of this one, lead from the first state to the state
+pub record IsChapter (rules : Profile) (chapters : ℕ) (events : List Event) (state : State) : Type 0 where
+  pub before : List Event
+  pub none_before : chapters ≡ 0 → before ≡ []
+  pub replays : Replays rules (first rules) (before ++ events) state
 
 -- the running counts and the room that a pool keeps
-pub record IsKept (rules : Profile) (events : List Event) (state : State) (owes reported lost capacity : ℕ) : Type 0 where
+pub record IsKept (rules : Profile) (chapters : ℕ) (events : List Event) (state : State) (owes reported lost capacity : ℕ) : Type 0 where
   pub in_range : IsProfile rules
-  pub history : IsChapter rules events state
+  pub history : IsChapter rules chapters events state
   pub sound : IsSound rules state
   pub owes_is : owes ≡ owed state
   pub reported_is : reported ≡ count_by is_reported state.standings

@@ -1,9 +1,10 @@
 -- What holds of every history.
 use Rattle.gear_status.specs.Status.{Line}
 use Rattle.std.specs.Prelude.{◌≡◌, ℕ, ◌+◌, List, [], ◌∷◌, ◌++◌, length, Some, ◌⊎◌, Bool, true, false, count_by}
+use Rattle.std.specs.List.{flat_map}
 use Rattle.pool_settings.specs.Profile.{Profile, IsProfile}
 use Rattle.plan_model.specs.declared.answer.Answer.{Answer}
-use Rattle.plan_model.specs.Shown.{Shown}
+use Rattle.plan_model.specs.Shown.{Shown, Best}
 use Rattle.worker_state.specs.declared.job.Standing.{Standing}
 use Rattle.worker_state.specs.Slots.{is_open, is_reported, is_lost}
 use Rattle.pool_core.specs.declared.event.Assignment.{Assignment}
@@ -11,7 +12,7 @@ use Rattle.pool_core.specs.declared.event.Event.{Event}
 use Rattle.pool_core.specs.declared.event.Event.TheVariants as event
 use Rattle.pool_core.specs.Machine.{State, first, standing_in, input_of, replay, IsHistory, Replays}
 use Rattle.pool_core.specs.Kept.{IsSound}
-use Rattle.pool_core.specs.Book.{Book, IsStep}
+use Rattle.pool_core.specs.Book.{Book, IsStep, next_chapter}
 
 -- The jobs have only grown, and one that is reported or lost stands as it did
 pub record Extends (old new : State) : Type 0 where
@@ -64,11 +65,12 @@ ChaptersCount =
     (rules : Profile) → IsProfile rules → (base : State) → IsSound rules base → (events : List Event) → IsHistory rules base events
     → IsCountedFrom base events (replay rules base events)
 
--- Each round of a history holds an answer that is shown for the input of the state before it
+-- Each round of a history holds an answer that is shown for the input of the state before it, and so is best of all plans
 abbrev pub RoundsAreShown : Type 0
 RoundsAreShown =
     (rules : Profile) (base : State) (earlier later : List Event) (answer : Answer) → IsHistory rules base (earlier ++ event.Round answer ∷ later)
-    → (load : List Line) × ((replay rules base earlier).load ≡ Some load) × Shown (input_of rules (replay rules base earlier) load) answer
+    → (load : List Line) × ((replay rules base earlier).load ≡ Some load)
+    × Shown (input_of rules (replay rules base earlier) load) answer × Best (input_of rules (replay rules base earlier) load) answer
 
 -- Joined lists of events replay one after the other
 abbrev pub HistoriesJoin : Type 0
@@ -80,17 +82,33 @@ HistoriesJoin =
 abbrev pub Called : Book → Book → Type 0
 Called old new = (new ≡ old) ⊎ ((e : Event) × IsStep e old new)
 
+-- what a call leaves: the pool, and the events that it hands out
+pub record Outcome : Type 0 where
+  pub book : Book
+  pub handed_out : List Event
+
+-- One call: nothing or one event, and nothing is handed out; or the end of a chapter, which hands out all of its events
+abbrev pub Leaves : Book → Outcome → Type 0
+Leaves old new =
+    (Called old new.book × (new.handed_out ≡ []))
+    ⊎ ((new.book ≡ next_chapter old) × (new.handed_out ≡ old.events))
+
 -- any list of calls
-abbrev pub AllCalled : Book → List Book → Type 0
+abbrev pub AllCalled : Book → List Outcome → Type 0
 AllCalled book [] = Unit {0}
-AllCalled book (next ∷ books) = Called book next × AllCalled next books
+AllCalled book (next ∷ rest) = Leaves book next × AllCalled next.book rest
 
-abbrev pub last_of : Book → List Book → Book
+abbrev pub last_of : Book → List Outcome → Book
 last_of book [] = book
-last_of book (next ∷ books) = last_of next books
+last_of book (next ∷ rest) = last_of next.book rest
 
--- After any list of calls the state is the replay of the events, from the base that it was before
+-- all events that the calls hand out, in order
+abbrev pub all_handed_out : List Outcome → List Event
+all_handed_out outcomes = flat_map (λ outcome. outcome.handed_out) outcomes
+
+-- After any list of calls the state is the replay of the events that were handed out and of those that are there, from the base
+-- that it was before
 abbrev pub CallsReplay : Type 0
 CallsReplay =
-    (base : State) (book : Book) (books : List Book) → Replays book.rules base book.events book.state → AllCalled book books
-    → Replays (last_of book books).rules base (last_of book books).events (last_of book books).state
+    (base : State) (book : Book) (calls : List Outcome) → Replays book.rules base book.events book.state → AllCalled book calls
+    → Replays (last_of book calls).rules base (all_handed_out calls ++ (last_of book calls).events) (last_of book calls).state

@@ -3,7 +3,7 @@ use Rattle.std.specs.Prelude.{◌≡◌, ℕ, ◌+◌, ◌-◌, ◌<◌, ◌==�
 use Rattle.plan_model.specs.declared.answer.Answer.{Answer}
 use Rattle.plan_model.specs.declared.answer.Answer.TheVariants as answers
 use Rattle.pool_settings.specs.Profile.{Profile}
-use Rattle.plan_model.specs.Planning.{Instance, assigned}
+use Rattle.plan_model.specs.Planning.{Instance, IsInstance, assigned}
 use Rattle.gear_status.specs.Status.{Line, waiting}
 use Rattle.pool_settings.specs.Slots.{slots as slot_count}
 use Rattle.pool_settings.specs.Planning.{instance_of}
@@ -91,7 +91,7 @@ IsPossible rules (event.Join slot) state =
     × (last_generation (slot_in state.slots slot) < 262143)
 IsPossible rules (event.Load load) state = Unit {0}
 IsPossible rules (event.Round answer) state =
-    (load : List Line) × (state.load ≡ Some load) × Shown (input_of rules state load) answer
+    (load : List Line) × (state.load ≡ Some load) × IsInstance (input_of rules state load) × Shown (input_of rules state load) answer
 IsPossible rules (event.Grab worker handle function now) state =
     IsTrue (is_live_in state worker) × (open_ticket state worker ≡ None)
 IsPossible rules (event.Begin worker ticket) state =

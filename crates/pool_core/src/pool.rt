@@ -1,6 +1,7 @@
 //! The pool and what it answers without a change. Its calls stand in the files below it, each of one subject.
 ghost use Rattle.std.specs.Prelude.{◌≡◌, ◌+◌, ◌<◌, ◌≤◌, slice_get, IfSome, IfNone, [], Some, None, length, IfOk};
-ghost use Rattle.pool_core.specs.Machine.{first, slot_in, standing_in, assignment_in};
+ghost use Rattle.pool_core.specs.Machine.{first, slot_in, standing_in, assignment_in, owed};
+ghost use Rattle.pool_settings.specs.Profile.{IsProfile};
 ghost use Rattle.worker_state.specs.Orders.{IsOrder};
 ghost use Rattle.pool_core.specs.Kept.{IsChapter};
 ghost use Rattle.pool_core.specs.Book.{Book, has_room, totals_of};
@@ -181,10 +182,13 @@ impl Pool {
         }
     }
 
-    /// The events of this chapter: they are a history, and lead to the state.
+    /// The events of this chapter. With those of the chapters before it they are a history, which leads from the first state to
+    /// the state of now, and with those that are owed they are no more than the settings allow.
     pub fn history(&self) -> &[Event]
         ensures events { result.now ≡ self.now.events }
-        ensures replays { IsChapter self.now.rules self.now.events self.now.state }
+        ensures settings { IsProfile self.now.rules }
+        ensures replays { IsChapter self.now.rules self.now.chapters self.now.events self.now.state }
+        ensures within { length self.now.events + owed self.now.state ≤ self.now.rules.history }
     {
         self.events.as_slice()
     }

@@ -1,5 +1,6 @@
 //! Chapters of the history.
 ghost use Rattle.std.specs.Prelude.{◌≡◌, ◌+◌, IfOk, OnOk, OnErr};
+ghost use Rattle.pool_core.specs.Kept.{IsChapter};
 ghost use Rattle.pool_core.specs.Book.{Book, chapter_due, chapter_refusal, next_chapter};
 
 use super::Pool;
@@ -11,6 +12,7 @@ impl Pool {
     /// previous plan and rounds go on, and what is owed stays owed, with room made for it. This is no event.
     pub fn end_chapter(&mut self) -> Result<Chapter, ChapterError>
         ensures events { IfOk result (λ chapter. chapter.events.items ≡ self.old.events) }
+        ensures replays { IfOk result (λ chapter. IsChapter self.old.rules self.old.chapters chapter.events.items self.new.state) }
         ensures number { IfOk result (λ chapter. chapter.number ≡ self.old.chapters + 1) }
         ensures next { OnOk result (self.new ≡ next_chapter self.old) }
         ensures err { OnErr result (self.new ≡ self.old) }

@@ -1,6 +1,7 @@
 //! Loads and rounds.
 ghost use Rattle.std.specs.Prelude.{◌≡◌, ◌+◌, ◌<◌, ◌-◌, ◌^◌, IsTrue, ◌↔◌, [], ◌∷◌, ◌++◌, IfSome, IfOk, OnOk, OnErr};
 ghost use Rattle.pool_core.specs.Machine.{input_of, IsPossible};
+ghost use Rattle.plan_model.specs.Planning.{IsInstance};
 ghost use Rattle.plan_model.specs.Shown.{Shown};
 ghost use Rattle.level_search.specs.Steady.{IsSteady};
 ghost use Rattle.pool_core.specs.Book.{Book, IsStep, has_room, load_due, load_refusal, round_refusal, round_due, ran_of, IsInput, view_due, view_refusal, has_round, Adopts, KeepsPlan};
@@ -44,11 +45,15 @@ impl Pool {
 
     /// What a round has to plan for now.
     fn input(&self, load: &Load) -> Result<Input, AllocError>
-        ensures { IfOk result (λ input. input ≡ input_of self.now.rules self.now.state load.now) }
+        ensures input { IfOk result (λ input. input ≡ input_of self.now.rules self.now.state load.now) }
+        ensures valid { OnOk result (IsInstance (input_of self.now.rules self.now.state load.now)) }
     {
         let live = rounds::live_marks(self.alloc, &self.slots)?;
         let waiting = rounds::waiting_jobs(self.alloc, &self.settings, load)?;
-        self.settings.input(self.alloc, &live, &waiting)
+        let input = self.settings.input(self.alloc, &live, &waiting)?;
+        // The clause `valid` is one of any input.
+        let _live = input.live();
+        Ok(input)
     }
 
     /// What a round would plan for now, and the plan before it, for a search elsewhere. Nothing changes.
@@ -70,6 +75,7 @@ impl Pool {
 
     /// The best answer for the input of now. All tables of the search lie in one arena, which is given up here.
     fn solution(&self, load: &Load) -> Result<Answer, AllocError>
+        ensures valid { OnOk result (IsInstance (input_of self.now.rules self.now.state load.now)) }
         ensures shown { IfOk result (λ answer. Shown (input_of self.now.rules self.now.state load.now) answer) }
         ensures steady { IfOk result (λ answer. IfSome self.now.state.previous (λ plan. IsSteady (input_of self.now.rules self.now.state load.now) plan answer)) }
     {
@@ -102,8 +108,11 @@ impl Pool {
     }
 
     fn is_input(&self, load: &Load, input: &Input) -> bool
-        ensures { IsTrue result ↔ (input.now ≡ input_of self.now.rules self.now.state load.now) }
+        ensures same { IsTrue result ↔ (input.now ≡ input_of self.now.rules self.now.state load.now) }
+        ensures valid { IsInstance input.now }
     {
+        // The clause `valid` is one of any input.
+        let _live = input.live();
         rounds::is_input(&self.settings, &self.slots, load, input)
     }
 

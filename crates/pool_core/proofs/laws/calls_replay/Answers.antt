@@ -1,22 +1,46 @@
-use Rattle.std.proofs.Common.{sym, subst, [], ◌∷◌, inl, inr}
+use Rattle.std.proofs.Common.{◌≡◌, sym, ap, subst, List, [], ◌∷◌, ◌++◌, ◌∙◌, inl, inr, append_assoc, append-nil}
 use Rattle.pool_core.specs.declared.event.Event.{Event}
-use Rattle.pool_core.specs.Machine.{State, Replays}
-use Rattle.pool_core.specs.Book.{Book, IsStep}
-use Rattle.pool_core.specs.Laws.{Called, CallsReplay}
+use Rattle.pool_core.specs.Machine.{State, Replays, after}
+use Rattle.pool_core.specs.Book.{Book, IsStep, next_chapter}
+use Rattle.pool_core.specs.Laws.{Called, Outcome, Leaves, AllCalled, CallsReplay, last_of, all_handed_out}
 use Rattle.pool_core.proofs.Steps.{replays_more}
 use Rattle.pool_core.proofs.laws.calls_replay.Goals as goal
 
-step_replays : (base : State) (e : Event) (old new : Book) → Replays old.rules base old.events old.state → IsStep e old new → Replays new.rules base new.events new.state
-step_replays base e old new h s =
-    rw (s.rules, s.events, s.state) (replays_more old.rules base old.events old.state e h s.possible)
+-- the events that were handed out, and those that are there, replay to the state
+record Leads (base : State) (out : List Event) (book : Book) : Type 0 where
+  all : Replays book.rules base (out ++ book.events) book.state
 
-called_replays : (base : State) (old new : Book) → Replays old.rules base old.events old.state → Called old new → Replays new.rules base new.events new.state
-called_replays base old new h c =
-    elim c [ inl e ↦ subst (λ (b : Book). Replays b.rules base b.events b.state) (sym e) h | inr t ↦ step_replays base t.0 old new h t.1 ]
+step_leads : (base : State) (out : List Event) (e : Event) (old new : Book) → Leads base out old → IsStep e old new → Leads base out new
+step_leads base out e old new h s =
+    record {
+      all = rw (s.rules, s.events, s.state) (
+          subst (λ (es : List Event). Replays old.rules base es (after old.rules e old.state)) (append_assoc out old.events (e ∷ []))
+          (replays_more old.rules base (out ++ old.events) old.state e h.all s.possible));
+    }
+
+called_leads : (base : State) (out : List Event) (old new : Book) → Leads base out old → Called old new → Leads base out new
+called_leads base out old new h c =
+    elim c [ inl e ↦ subst (Leads base out) (sym e) h | inr t ↦ step_leads base out t.0 old new h t.1 ]
+
+chapter_leads : (base : State) (out : List Event) (old : Book) → Leads base out old → Leads base (out ++ old.events) (next_chapter old)
+chapter_leads base out old h =
+    record { all = subst (λ (es : List Event). Replays old.rules base es old.state) (sym (append-nil (out ++ old.events))) h.all }
+
+call_leads : (base : State) (out : List Event) (old : Book) (new : Outcome) → Leads base out old → Leaves old new → Leads base (out ++ new.handed_out) new.book
+call_leads base out old new h c =
+    elim c [
+      | inl t ↦ subst (λ (es : List Event). Leads base es new.book) (sym (ap (λ (es : List Event). out ++ es) t.1 ∙ append-nil out)) (called_leads base out old new.book h t.0)
+      | inr t ↦ subst (λ (es : List Event). Leads base (out ++ es) new.book) (sym t.1) (subst (Leads base (out ++ old.events)) (sym t.0) (chapter_leads base out old h))
+    ]
+
+calls_lead : (base : State) (out : List Event) (book : Book) (calls : List Outcome) → Leads base out book → AllCalled book calls → Leads base (out ++ all_handed_out calls) (last_of book calls)
+calls_lead base out book [] h c = subst (λ (es : List Event). Leads base es book) (sym (append-nil out)) h
+calls_lead base out book (next ∷ rest) h c =
+    subst (λ (es : List Event). Leads base es (last_of next.book rest)) (append_assoc out next.handed_out (all_handed_out rest))
+    (calls_lead base (out ++ next.handed_out) next.book rest (call_leads base out book next h c.0) c.1)
 
 calls_replay_lem : CallsReplay
-calls_replay_lem base book [] h c = h
-calls_replay_lem base book (next ∷ books) h c = calls_replay_lem base next books (called_replays base book next h c.0) c.1
+calls_replay_lem base book calls h c = (calls_lead base [] book calls (record { all = h }) c).all
 
 pub returns : goal.returns
 returns c = calls_replay_lem

@@ -7,7 +7,7 @@ use Rattle.pool_core.proofs.pool.Pool.begin_report.Goals as goal
 pub invariant_of-self : goal.invariant_of-self
 invariant_of-self c =
     let p = c.self.inside in
-    kept_begin p.settings p.events.items (state_of p) p.owed p.reported p.lost _ c.self.invariant
+    kept_begin p.settings p.chapters p.events.items (state_of p) p.owed p.reported p.lost _ c.self.invariant
     c.name-worker.result c.args.ticket
     (ap (λ (b : Book). begin_refusal b c.name-worker.result c.args.ticket) c.self.view_is ∙ (sym c.begin_refusal.ensures ∙ c.in_default.is))
     c.push_reserved.new.self.items c.push_reserved.ensures.items

@@ -22,7 +22,7 @@ invariant_of-self-2 c =
     let logged : c.push_reserved-3.new.self.items ≡ c.reserve_job.new.events.items ++ event.Grab w c.args.handle c.in_ok-noted.noted c.args.now_ms ∷ [] = c.push_reserved-3.ensures.items in
     let assigned : c.push_reserved.new.self.items ≡ c.reserve_job.new.assignments.items ++ record { handle = c.copy.result; function = c.in_ok-function.function } ∷ [] = c.push_reserved.ensures.items in
     let stood : c.push_reserved-2.new.self.items ≡ c.reserve_job.new.standings.items ++ Running ∷ [] = c.push_reserved-2.ensures.items in
-    kept_grab p.settings p.events.items (state_of p) p.owed p.reported p.lost _ c.self.invariant
+    kept_grab p.settings p.chapters p.events.items (state_of p) p.owed p.reported p.lost _ c.self.invariant
     w c.args.handle c.args.function.now c.args.now_ms
     (ap (λ (b : Book). grab_refusal b w) c.self.view_is ∙ (sym c.grab_refusal.ensures ∙ c.in_default.is))
     c.push_reserved-3.new.self.items (logged ∙ ap (λ (es : List Event). es ++ event.Grab w c.args.handle c.in_ok-noted.noted c.args.now_ms ∷ []) c.in_ok-reserve_job.ensures.events ∙ ap (λ (f : List ℕ). p.events.items ++ event.Grab w c.args.handle f c.args.now_ms ∷ []) c.in_ok-noted.ensures)

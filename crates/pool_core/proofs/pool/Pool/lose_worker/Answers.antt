@@ -17,7 +17,7 @@ pub overflow_sub-self : goal.overflow_sub-self
 overflow_sub-self c =
     let p = c.self.inside in
     let owed : c.put_lost-owed.result ≡ closing_of p.standings.items (open_ticket (state_of p) c.args.worker) = cc in
-    omega (arith, owed, owes_loss p.settings p.events.items (state_of p) p.owed p.reported p.lost _ c.self.invariant c.args.worker (subst (λ (b : Book). is_live_in b.state c.args.worker ≡ true) (sym c.self.view_is) c.requires))
+    omega (arith, owed, owes_loss p.settings p.chapters p.events.items (state_of p) p.owed p.reported p.lost _ c.self.invariant c.args.worker (subst (λ (b : Book). is_live_in b.state c.args.worker ≡ true) (sym c.self.view_is) c.requires))
 
 pub invariant_of-self : goal.invariant_of-self
 invariant_of-self c =
@@ -26,7 +26,7 @@ invariant_of-self c =
     let ticket : c.open_in-ticket.result ≡ ticket_of (slot_in p.slots.items w.slot) = cc in
     let owed : c.put_lost-owed.result ≡ closing_of p.standings.items (ticket_of (slot_in p.slots.items w.slot)) = cc in
     let lost : c.lost_jobs-jobs.result ≡ lost_of (ticket_of (slot_in p.slots.items w.slot)) = cc in
-    rw (owed, lost) (kept_lost p.settings p.events.items (state_of p) p.owed p.reported p.lost _ c.self.invariant
+    rw (owed, lost) (kept_lost p.settings p.chapters p.events.items (state_of p) p.owed p.reported p.lost _ c.self.invariant
     w c.args.cause (subst (λ (b : Book). is_live_in b.state w ≡ true) (sym c.self.view_is) c.requires)
     c.push_reserved.new.self.items c.push_reserved.ensures.items
     c.put_slot.new.slots.items c.put_slot.ensures

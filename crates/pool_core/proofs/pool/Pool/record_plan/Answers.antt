@@ -22,7 +22,7 @@ pub invariant_of-self-2 : goal.invariant_of-self-2
 invariant_of-self-2 c =
     let p = c.self.inside in
     let room : length p.events.items + owed (state_of p) + 1 ≤ p.settings.history = leb-true _ _ (ap (λ (b : Book). has_room b 1) c.self.view_is ∙ c.requires.room) in
-    kept_plan p.settings p.events.items (state_of p) p.owed p.reported p.lost _ c.self.invariant
+    kept_plan p.settings p.chapters p.events.items (state_of p) p.owed p.reported p.lost _ c.self.invariant
     c.args.plan c.args.backlog c.args.short
     (subst (λ (b : Book). IsPossible b.rules (event.Round (answers.Planned c.args.plan c.args.backlog c.args.short)) b.state) (sym c.self.view_is) c.requires.possible) room
     c.push_reserved.new.self.items (c.push_reserved.ensures.items ∙ ap (λ (es : List Event). es ++ event.Round (answers.Planned c.args.plan c.args.backlog c.args.short) ∷ []) c.in_ok-reserve.ensures.items)
