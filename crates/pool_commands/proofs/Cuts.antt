@@ -1,5 +1,5 @@
 -- A text cut at its first byte of one kind.
-use Rattle.std.proofs.Common.{◌≡◌, ◌-◌, ◌+◌, ◌==◌, ◌∙◌, ℕ, List, Option, None, Some, option_map, length, length-drop, take, drop, ap, sym, arith}
+use Rattle.std.proofs.Common.{◌≡◌, ◌-◌, ◌+◌, ◌==◌, ◌∙◌, ℕ, List, None, Some, option_map, length, length-drop, take, drop, ap, sym, arith}
 use Rattle.std.specs.Prelude.{position}
 use Rattle.std.proofs.lemmas.List.{take_all}
 use Rattle.pool_commands.specs.Words.{cut_at}

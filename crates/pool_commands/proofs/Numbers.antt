@@ -1,5 +1,5 @@
 -- Numbers, as texts of digits.
-use Rattle.std.proofs.Common.{◌≡◌, ◌≢◌, ℕ, ◌<◌, ◌^◌, List, [], ◌∷◌, Bool, true, false, None, Some, Result, Ok, Err, get_or, length, refl, ap, ltb, leb, arith}
+use Rattle.std.proofs.Common.{◌≡◌, ℕ, ◌<◌, ◌^◌, List, Bool, true, false, None, Some, Result, Ok, Err, length, refl, ap, ltb, leb, arith}
 use Rattle.std.specs.Result.{OkIff, result_ok}
 use Rattle.std.specs.Str.{all_ascii_digits, IsUtf8}
 use Rattle.std.specs.Str.Parse.{digits_value}

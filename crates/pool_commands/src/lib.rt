@@ -41,8 +41,13 @@
 
 mod command;
 mod form;
+mod law;
 mod line;
 mod word;
 
 pub use command::{Command, Word};
+pub use law::workers_read_back;
 pub use line::command_in;
+
+#[cfg(test)]
+mod tests;

@@ -1,4 +1,4 @@
-use Rattle.std.proofs.Common.{rules, tests, ◌≡◌, ◌≢◌, ℕ, Bor, List, length, arith}
+use Rattle.std.proofs.Common.{rules, tests, ◌≢◌, ℕ, Bor, List, length}
 use Rattle.pool_commands.proofs.Forms.{no_lose}
 use Rattle.pool_commands.proofs.form.lose_in.Goals.{in_default-via-then-args-lt2, in_default-via-else-args-lt2+else-args-lt3}
 use Rattle.pool_commands.proofs.form.lose_in.Goals as goal

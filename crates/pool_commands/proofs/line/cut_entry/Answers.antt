@@ -1,4 +1,4 @@
-use Rattle.std.proofs.Common.{rules, tests, ◌≡◌, ◌<◌, ℕ, Bor, List, Option, length, option_map, ap}
+use Rattle.std.proofs.Common.{rules, tests, ◌<◌, ℕ, Bor, List, Option, length, option_map, ap}
 use Rattle.pool_commands.proofs.Lines.{entry_read}
 use Rattle.pool_commands.proofs.line.cut_entry.Goals as goal
 

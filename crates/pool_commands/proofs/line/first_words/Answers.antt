@@ -1,4 +1,4 @@
-use Rattle.std.proofs.Common.{rules, ◌≡◌, ◌++◌, ◌-◌, ◌∙◌, ℕ, Bor, List, Option, map, option_map, take, ap, sym, subst, arith}
+use Rattle.std.proofs.Common.{◌++◌, ◌-◌, ◌∙◌, ℕ, Bor, List, Option, map, option_map, take, ap, sym, arith}
 use Rattle.pool_commands.specs.Words.{words_in}
 use Rattle.pool_commands.proofs.Lines.{words_all, words_full, words_kept}
 use Rattle.pool_commands.proofs.line.first_words.Goals as goal

@@ -1,0 +1,9 @@
+// A law of the command lines, as a function that does nothing when it runs.
+
+ghost use Rattle.pool_commands.specs.Law.{AreWorkersReadBack};
+
+/// A law: under any settings, the name of a slot's worker, `#` and a generation from 1 to 262,143 in decimal are read as that
+/// worker of that slot. So what is printed of a worker can be typed, and no two workers are printed alike.
+pub fn workers_read_back()
+    ensures { AreWorkersReadBack }
+{}
