@@ -41,7 +41,7 @@ pub enum SettingsError {
 impl SettingsError {
     /// The number of this refusal, from 1 to 9 in the order above, as fault lines give it.
     pub fn number(self) -> u32
-        ensures { result ≡ spec.number_of self }
+        ensures number { result ≡ spec.number_of self }
     {
         match self {
             SettingsError::Text => 1,
@@ -58,7 +58,7 @@ impl SettingsError {
 
     /// The name of this refusal, as fault lines give it: that of its variant.
     pub fn name(self) -> &'static str
-        ensures { result.now ≡ spec.name_of self }
+        ensures name { result.now ≡ spec.name_of self }
     {
         match self {
             SettingsError::Text => "Text",

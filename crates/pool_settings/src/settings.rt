@@ -138,7 +138,27 @@ fn read_tree(alloc: Global, tree: &Table) -> Result<Settings, SettingsError>
 }
 
 impl Settings {
-    /// Reads a settings file.
+    /// Reads a settings file: TOML, version 1, with the keys of this table and no others.
+    ///
+    /// | key | place | value | default |
+    /// |---|---|---|---|
+    /// | `version` | top | 1 | required |
+    /// | `server` | top | a text of 1 to 255 bytes, dialled as `host:port` | `127.0.0.1:4730` |
+    /// | `job_timeout_ms` | top | 1 to 4,294,967,295 milliseconds | 60,000 |
+    /// | `max_runs` | top | 1 to 4,294,967,295 | 4,294,967,295 |
+    /// | `round_ms` | top | 1 to 3,600,000 milliseconds | 1,000 |
+    /// | `lull_ms` | top | 1 to 3,600,000 milliseconds | 100 |
+    /// | `history` | top | 1 to 1,048,576 events | 1,048,576 |
+    /// | `functions` | top | a table of one table for each function | required |
+    /// | `least` | a function | 0 to 4,096 | 0 |
+    /// | `machines` | top | a table of one table for each machine | required |
+    /// | `workers` | a machine | 0 to 4,096 | required |
+    /// | `functions` | a machine | a list of texts, each the name of a function | required |
+    ///
+    /// A name has 1 to 64 bytes from `!` to `~`, and a machine's holds no `/` and no `#`. A function that a machine lists twice is
+    /// permitted once. The file is checked in the order of `SettingsError`, each check over the whole file before the next, and the
+    /// first that fails is answered; `SettingsError` says what each is. What should be a table and is not has no keys and lacks
+    /// none: it is `BadValue`. `Memory` comes only where a growth was refused, and may come in the place of a later refusal.
     pub fn read(alloc: Global, bytes: &[u8]) -> Result<Settings, SettingsError>
         ensures ok { IfOk result (λ s. spec.reading bytes.now ≡ Ok s) }
         ensures refused { IfErr result (λ f. f ≢ SettingsError.Memory → spec.reading bytes.now ≡ Err f) }
@@ -154,9 +174,9 @@ impl Settings {
         }
     }
 
-    /// Equal settings.
+    /// Equal settings. The only error is want of memory.
     pub fn copy(&self, alloc: Global) -> Result<Settings, AllocError>
-        ensures { IfOk result (λ s. s ≡ self.now) }
+        ensures equal { IfOk result (λ s. s ≡ self.now) }
     {
         Ok(Settings {
             server: String::from_str(alloc, self.server.as_str())?,
@@ -260,7 +280,7 @@ impl Settings {
 
     /// The name of a function, and the empty text behind the last function.
     pub fn function_name(&self, function: FuncId) -> &str
-        ensures { result.now ≡ names.name_at self.now.functions function }
+        ensures name { result.now ≡ names.name_at self.now.functions function }
     {
         self.functions.at(function.number())
     }
@@ -276,7 +296,7 @@ impl Settings {
 
     /// The name of a machine, and the empty text behind the last machine.
     pub fn machine_name(&self, machine: MachineId) -> &str
-        ensures { result.now ≡ names.name_at self.now.machines machine }
+        ensures name { result.now ≡ names.name_at self.now.machines machine }
     {
         self.machines.at(machine.number())
     }
@@ -302,7 +322,7 @@ impl Settings {
     /// Whether the workers of a machine may do a function, by binary search.
     pub fn may(&self, machine: MachineId, function: FuncId) -> bool
         requires { machine < length self.now.machines }
-        ensures { result ≡ may_do self.now machine function }
+        ensures row { result ≡ may_do self.now machine function }
     {
         self.permitted(machine).binary_search(&function).is_ok()
     }
@@ -322,7 +342,7 @@ impl Settings {
     /// How many workers a machine has.
     pub fn workers(&self, machine: MachineId) -> u32
         requires { machine < length self.now.machines }
-        ensures { result ≡ slice_index self.now.workers machine }
+        ensures count { result ≡ slice_index self.now.workers machine }
     {
         self.slots.workers()[machine.number() as usize]
     }
@@ -389,10 +409,12 @@ impl Settings {
 
 /// What there is to plan for.
 impl Settings {
-    /// The planning problem where the slots that are marked are live and these jobs wait for each function.
+    /// The planning problem where the slots that are marked are live, and these jobs wait for each function, by its number. A slot
+    /// without a mark, behind the last of `live`, is not live, and a mark behind the last slot counts for nothing. The only error
+    /// is want of memory.
     pub fn input(&self, alloc: Global, live: &[bool], waiting: &[u32]) -> Result<Input, AllocError>
         requires { length waiting.now ≡ length self.now.functions }
-        ensures { IfOk result (λ input. input ≡ instance_of self.now live.now waiting.now) }
+        ensures problem { IfOk result (λ input. input ≡ instance_of self.now live.now waiting.now) }
     {
         let workers = live_workers(alloc, self.slots.owners(), live)?;
         match Input::new(alloc, &workers, &self.may, &self.least, waiting) {

@@ -1,3 +1,5 @@
+mod rules;
+
 use crate::{Settings, SettingsError};
 use plan_model::{FuncId, MachineId, SlotId};
 use std::alloc::{AllocError, Global};

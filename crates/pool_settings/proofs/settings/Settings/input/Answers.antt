@@ -21,8 +21,10 @@ returns-in-Ok c =
     c.deref.ensures.value ∙ c.in_ok-workers.ensures ∙ ap (λ (machines : List ℕ). filter (λ worker. get_or c.args.live.now worker.0 false) (enumerate_from 0 machines)) c.owners.ensures in
     let may : map (λ row. row.items) c.deref-2.result.now ≡ p.may = ap (map (λ row. row.items)) c.deref-2.ensures.value in
     let least : c.deref-3.result.now ≡ p.least = c.deref-3.ensures.value in
-    c.in-Ok.ensures.ok ∙ same_instance _ _ _ _ _ _ c.args.waiting.now live may least ∙ planned p c.self.invariant c.args.live.now c.args.waiting.now
-    ∙ ap (λ (p : Profile). instance_of p c.args.live.now c.args.waiting.now) c.self.view_is
+    record {
+      problem = c.in-Ok.ensures.ok ∙ same_instance _ _ _ _ _ _ c.args.waiting.now live may least ∙ planned p c.self.invariant c.args.live.now c.args.waiting.now
+          ∙ ap (λ (p : Profile). instance_of p c.args.live.now c.args.waiting.now) c.self.view_is;
+    }
 
 pub unreachable-requires : goal.unreachable-requires
 unreachable-requires c =

@@ -6,4 +6,4 @@ use Rattle.pool_settings.proofs.settings.Settings.may.Goals as goal
 pub returns : goal.returns
 returns c =
     let row = c.permitted.result.now in
-    c.is_ok.ensures.value ∙ list_any-searched row c.args.function c.binary_search.result c.permitted.ensures.rising c.binary_search.ensures.position ∙ ap (list_any (λ g. eqb g c.args.function)) c.permitted.ensures.row
+    record { row = c.is_ok.ensures.value ∙ list_any-searched row c.args.function c.binary_search.result c.permitted.ensures.rising c.binary_search.ensures.position ∙ ap (list_any (λ g. eqb g c.args.function)) c.permitted.ensures.row }
