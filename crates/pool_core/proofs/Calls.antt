@@ -124,7 +124,13 @@ kept_lost rules chapters events state owes reported lost capacity h w cause live
     (omega (arith, h.within, t.0, h.owes_is))
     (omega (arith, h.reserved, t.0, h.owes_is, is_capacity)))
 
--- a report and a loss are owed
+-- a report's beginning, a report and a loss are owed
+pub owes_begin : (rules : Profile) (chapters : ℕ) (events : List Event) (state : State) (owes reported lost capacity : ℕ) → IsKept rules chapters events state owes reported lost capacity
+    → (w : WorkerName) (k : ℕ) → begin_refusal (record { rules = rules; events = events; state = state; chapters = 0 }) w k ≡ None → 1 ≤ owes
+owes_begin rules chapters events state owes reported lost capacity h w k none =
+    let p = begin_possible (record { rules = rules; events = events; state = state; chapters = 0 }) w k none in
+    omega (arith, owed_begin rules state w k p, h.owes_is)
+
 pub owes_report : (rules : Profile) (chapters : ℕ) (events : List Event) (state : State) (owes reported lost capacity : ℕ) → IsKept rules chapters events state owes reported lost capacity
     → (w : WorkerName) (k : ℕ) → report_refusal (record { rules = rules; events = events; state = state; chapters = 0 }) w k ≡ None
     → (stays : Bool) → stays ≡ nat_lt (runs_of (slot_in state.slots w.slot) + 1) rules.max_runs → 2 ≤ owes + cond stays 1 0

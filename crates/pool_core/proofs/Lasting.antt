@@ -5,13 +5,15 @@ use Rattle.std.specs.Prelude.{count_by, ◌==◌, slice_get, replicate}
 use Rattle.std.proofs.lemmas.List.{get_or-set_other, get_or_append_left}
 use Rattle.std.proofs.lemmas.List.Sums.{sum_by-cons}
 use Rattle.std.proofs.lemmas.Option.{slice_get-get_or}
+use Rattle.std.proofs.lemmas.Grind.{get_or-set_at}
 use Rattle.std.proofs.lemmas.Bool.{both_ways, cond-false, ne_eqb}
 use Rattle.pool_settings.specs.Profile.{Profile, IsProfile}
 use Rattle.plan_model.specs.declared.answer.Answer.{Answer}
 use Rattle.plan_model.specs.declared.answer.Answer.TheVariants as answers
 use Rattle.worker_state.specs.declared.slot.WorkerName.{WorkerName}
 use Rattle.worker_state.specs.declared.cause.Cause.{Cause}
-use Rattle.worker_state.specs.declared.slot.Slot.TheVariants.{Empty}
+use Rattle.worker_state.specs.declared.slot.Slot.{Slot}
+use Rattle.worker_state.specs.declared.slot.Slot.TheVariants.{Empty, Live}
 use Rattle.worker_state.specs.declared.job.Standing.{Standing}
 use Rattle.worker_state.specs.declared.job.Standing.TheVariants as standing
 use Rattle.worker_state.specs.Orders.{no_order, IsOrder}
@@ -19,12 +21,12 @@ use Rattle.worker_state.specs.Slots.{is_open, is_reported, last_generation, runs
 use Rattle.pool_core.specs.declared.event.Assignment.{Assignment}
 use Rattle.pool_core.specs.declared.event.Event.{Event}
 use Rattle.pool_core.specs.declared.event.Event.TheVariants as event
-use Rattle.pool_core.specs.Machine.{State, first, standing_in, replay, IsHistory, IsPossible, after, after_round, with_lost, open_ticket, input_of}
+use Rattle.pool_core.specs.Machine.{State, first, slot_in, standing_in, replay, IsHistory, IsPossible, after, after_round, with_lost, is_live_in, open_ticket, input_of, slot_after_run}
 use Rattle.plan_model.proofs.Shown.{shown_best}
 use Rattle.pool_core.specs.Kept.{IsSound, IsOpen, OpensAt}
-use Rattle.pool_core.specs.Laws.{Extends, is_grab, is_report, HistoriesExtend, HistoriesCount, ChaptersCount, RoundsAreShown, HistoriesJoin}
+use Rattle.pool_core.specs.Laws.{Extends, is_grab, is_report, next_generation, HistoriesExtend, HistoriesAreSound, WorkersAreNew, HistoriesCount, ChaptersCount, RoundsAreShown, HistoriesJoin}
 use Rattle.pool_core.proofs.Tables.{standing_given}
-use Rattle.pool_core.proofs.Sound.{sound_after}
+use Rattle.pool_core.proofs.Sound.{sound_after, generation_last, run_generation}
 use Rattle.pool_core.proofs.Steps.{replay-append, history-append}
 use Rattle.pool_core.proofs.Sums.{counts_all, reported_reported, reported_begin, counts_lost, count_by-push, one_if, as_number}
 
@@ -49,41 +51,62 @@ lost_keeps : (standings : List Standing) (o : Option ℕ) (w : WorkerName) (caus
 lost_keeps standings None w cause h k x is closed = is
 lost_keeps standings (Some j) w cause h k x is closed = written_keeps standings (j - 1) (standing.Lost w cause) (h j refl).goes_on k x is closed
 
-same_jobs : (old new : State) → new.assignments ≡ old.assignments → ((k : ℕ) (x : Standing) → standing_in old.standings k ≡ Some x → is_open x ≡ false → standing_in new.standings k ≡ Some x) → Extends old new
-same_jobs old new is h = record { jobs = ([], is ∙ sym (append-nil old.assignments)); closed = h }
+-- a slot whose last generation does not fall
+no_fall : (slots : List Slot) (i : ℕ) (x : Slot) → last_generation (get_or slots i (Empty 0)) ≤ last_generation x → (s : ℕ) → last_generation (get_or slots s (Empty 0)) ≤ last_generation (get_or (set slots i x) s (Empty 0))
+no_fall [] i x h s = omega arith
+no_fall (y ∷ slots) zero x h zero = h
+no_fall (y ∷ slots) zero x h (suc s) = omega arith
+no_fall (y ∷ slots) (suc i) x h zero = omega arith
+no_fall (y ∷ slots) (suc i) x h (suc s) = no_fall slots i x h s
+
+-- the worker that is there has the slot's last generation
+no_fall_of : (state : State) (w : WorkerName) (x : Slot) → is_live_in state w ≡ true → last_generation x ≡ w.generation → (s : ℕ) → last_generation (slot_in state.slots s) ≤ last_generation (get_or (set state.slots w.slot x) s (Empty 0))
+no_fall_of state w x live is s = no_fall state.slots w.slot x (omega (arith, is, generation_last (slot_in state.slots w.slot) w.generation live)) s
+
+same_slots : (state : State) (s : ℕ) → last_generation (slot_in state.slots s) ≤ last_generation (slot_in state.slots s)
+same_slots state s = omega arith
+
+same_jobs : (old new : State) → new.assignments ≡ old.assignments → ((k : ℕ) (x : Standing) → standing_in old.standings k ≡ Some x → is_open x ≡ false → standing_in new.standings k ≡ Some x)
+    → ((s : ℕ) → last_generation (slot_in old.slots s) ≤ last_generation (slot_in new.slots s)) → Extends old new
+same_jobs old new is h g = record { jobs = ([], is ∙ sym (append-nil old.assignments)); closed = h; generations = g }
 
 round_keeps : (answer : Answer) (state : State) → Extends state (after_round answer state)
-round_keeps (answers.Planned plan backlog short) state = same_jobs state (after_round (answers.Planned plan backlog short) state) refl (λ k x is closed. is)
-round_keeps (answers.NoPlan short) state = same_jobs state (after_round (answers.NoPlan short) state) refl (λ k x is closed. is)
+round_keeps (answers.Planned plan backlog short) state = same_jobs state (after_round (answers.Planned plan backlog short) state) refl (λ k x is closed. is) (same_slots state)
+round_keeps (answers.NoPlan short) state = same_jobs state (after_round (answers.NoPlan short) state) refl (λ k x is closed. is) (same_slots state)
 
 pub extends_after : (rules : Profile) (e : Event) (state : State) → IsSound rules state → IsPossible rules e state → Extends state (after rules e state)
-extends_after rules (event.Join slot) state h p = same_jobs state (after rules (event.Join slot) state) refl (λ k x is closed. is)
-extends_after rules (event.Load load) state h p = same_jobs state (after rules (event.Load load) state) refl (λ k x is closed. is)
+extends_after rules (event.Join slot) state h p = same_jobs state (after rules (event.Join slot) state) refl (λ k x is closed. is) (no_fall state.slots slot (Live (last_generation (slot_in state.slots slot) + 1) 0 None) (omega arith))
+extends_after rules (event.Load load) state h p = same_jobs state (after rules (event.Load load) state) refl (λ k x is closed. is) (same_slots state)
 extends_after rules (event.Round answer) state h p = round_keeps answer state
 extends_after rules (event.Grab worker handle function now) state h p =
     record {
       jobs = (record { handle = handle; function = function } ∷ [], refl);
       closed = λ k x is closed. pushed_keeps state.standings standing.Running k x is;
+      generations = no_fall_of state worker (Live worker.generation (runs_of (slot_in state.slots worker.slot)) (Some (length state.standings + 1))) p.0 refl;
     }
 extends_after rules (event.Begin worker ticket) state h p =
     same_jobs state (after rules (event.Begin worker ticket) state) refl
     (written_keeps state.standings (ticket - 1) standing.Reporting (ap is_open (standing_given state.standings ticket standing.Running standing.Running p.2).2))
+    (same_slots state)
 extends_after rules (event.Reported worker ticket end) state h p =
     same_jobs state (after rules (event.Reported worker ticket end) state) refl
     (written_keeps state.standings (ticket - 1) (standing.Reported end) (ap is_open (standing_given state.standings ticket standing.Reporting standing.Running p.2).2))
+    (no_fall_of state worker (slot_after_run rules worker.generation (runs_of (slot_in state.slots worker.slot))) p.0 (run_generation rules worker.generation (runs_of (slot_in state.slots worker.slot))))
 extends_after rules (event.Lost worker cause) state h p =
     same_jobs state (after rules (event.Lost worker cause) state) refl
     (lost_keeps state.standings (open_ticket state worker) worker cause (λ k e. h.tickets worker.slot k e))
+    (no_fall_of state worker (Empty worker.generation) p refl)
 
 extends_trans : (a b c : State) → Extends a b → Extends b c → Extends a c
 extends_trans a b c h k =
     record {
       jobs = (h.jobs.0 ++ k.jobs.0, k.jobs.1 ∙ ap (λ (xs : List Assignment). xs ++ k.jobs.0) h.jobs.1 ∙ append_assoc a.assignments h.jobs.0 k.jobs.0);
       closed = λ t x is closed. k.closed t x (h.closed t x is closed) closed;
+      generations = λ s. omega (arith, h.generations s, k.generations s);
     }
 
 extends_all : (rules : Profile) → IsProfile rules → (events : List Event) (state : State) → IsSound rules state → IsHistory rules state events → Extends state (replay rules state events)
-extends_all rules r [] state h p = same_jobs state state refl (λ k x is closed. is)
+extends_all rules r [] state h p = same_jobs state state refl (λ k x is closed. is) (same_slots state)
 extends_all rules r (e ∷ events) state h p =
     extends_trans state (after rules e state) (replay rules (after rules e state) events) (extends_after rules e state h p.0)
     (extends_all rules r events (after rules e state) (sound_after rules e state r h p.0) p.1)
@@ -108,6 +131,9 @@ length-copies : {X : Type 0} (n : ℕ) (x : X) → length (replicate n x) ≡ n
 length-copies zero x = refl
 length-copies (suc n) x = ap suc (length-copies n x)
 
+pub none_open : (rules : Profile) (s : ℕ) (k : ℕ) → OpensAt (first rules).slots s k → ⊥
+none_open rules s k o = let e = sym (ap ticket_of (copy_at (slot_count rules) s (Empty 0))) ∙ o in cc
+
 pub sound_first : (rules : Profile) → IsProfile rules → IsSound rules (first rules)
 sound_first rules r =
     record {
@@ -118,12 +144,10 @@ sound_first rules r =
       generations = λ s. omega (arith, ap last_generation (copy_at (slot_count rules) s (Empty 0)));
       ranges = λ s. subst IsOrder (sym (copy_at (slot_count rules) s no_order)) (record { generation = omega arith; function = tt });
       runs = λ s. omega (arith, ap runs_of (copy_at (slot_count rules) s (Empty 0)), r.max_runs_some);
-      tickets = λ s k o. absurd (none_open s k o);
-      alone = λ s t k o q. absurd (none_open s k o);
+      tickets = λ s k o. absurd (none_open rules s k o);
+      alone = λ s t k o q. absurd (none_open rules s k o);
+      held = λ k o. absurd (let t = o.given in omega (arith, o.from_one, t));
     }
-  where
-    none_open : (s : ℕ) (k : ℕ) → OpensAt (first rules).slots s k → ⊥
-    none_open s k o = let e = sym (ap ticket_of (copy_at (slot_count rules) s (Empty 0))) ∙ o in cc
 
 pub histories_extend_lem : HistoriesExtend
 histories_extend_lem rules r earlier later h =
@@ -140,7 +164,7 @@ pub histories_join_lem : HistoriesJoin
 histories_join_lem rules base earlier later h k =
     (history-append rules base earlier later h k, replay-append rules base earlier later)
 
-length-with_lost : (standings : List Standing) (o : Option ℕ) (w : WorkerName) (cause : Cause) → length (with_lost standings o w cause) ≡ length standings
+pub length-with_lost : (standings : List Standing) (o : Option ℕ) (w : WorkerName) (cause : Cause) → length (with_lost standings o w cause) ≡ length standings
 length-with_lost standings None w cause = refl
 length-with_lost standings (Some k) w cause = length-set standings (k - 1) (standing.Lost w cause)
 
@@ -187,6 +211,26 @@ counts_replayed rules r (e ∷ events) state h p =
       omega (arith, t.0, a.grabs, sum_by-cons (one_if is_grab) e events),
       omega (arith, t.1, a.reports, sum_by-cons (one_if is_report) e events),
     )
+
+pub histories_are_sound_lem : HistoriesAreSound
+histories_are_sound_lem rules r events h = sound_all rules r events (first rules) (sound_first rules r) h
+
+-- the generation of a slot after a worker joined it, and ever after
+joined_stays : (rules : Profile) → IsProfile rules → (state : State) (slot : ℕ) (events : List Event) → IsSound rules state → IsHistory rules state (event.Join slot ∷ events)
+    → next_generation state slot < next_generation (replay rules state (event.Join slot ∷ events)) slot
+joined_stays rules r state slot events h p =
+    let new = Live (last_generation (slot_in state.slots slot) + 1) 0 None in
+    let here : last_generation (get_or (set state.slots slot new) slot (Empty 0)) ≡ last_generation (slot_in state.slots slot) + 1 = ap last_generation (get_or-set_at state.slots slot slot new (Empty 0) refl p.0.0) in
+    let later = extends_all rules r events (after rules (event.Join slot) state) (sound_after rules (event.Join slot) state r h p.0) p.1 in
+    omega (arith, here, later.generations slot)
+
+pub workers_are_new_lem : WorkersAreNew
+workers_are_new_lem rules r earlier between later slot h =
+    let t = history_cut rules (first rules) earlier (event.Join slot ∷ (between ++ event.Join slot ∷ later)) h in
+    let base = replay rules (first rules) earlier in
+    let u = history_cut rules (after rules (event.Join slot) base) between (event.Join slot ∷ later) t.1.1 in
+    subst (λ (s : State). next_generation base slot < next_generation s slot) (sym (replay-append rules (first rules) earlier (event.Join slot ∷ between)))
+    (joined_stays rules r base slot between (sound_all rules r earlier (first rules) (sound_first rules r) t.0) (t.1.0, u.0))
 
 pub histories_count_lem : HistoriesCount
 histories_count_lem rules r events h =

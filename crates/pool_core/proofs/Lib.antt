@@ -6,4 +6,7 @@ pub mod Steps
 pub mod Refusals
 pub mod Calls
 pub mod Lasting
+pub mod Booked
+pub mod Grabbers
+pub mod Ordered
 mod Inputs

@@ -1,8 +1,9 @@
 -- Every event keeps a state sound.
-use Rattle.std.proofs.Common.{◌≡◌, ◌≢◌, ℕ, ◌+◌, ◌-◌, ◌<◌, ◌≤◌, suc, true, List, [], ◌∷◌, ◌++◌, length, get_or, set, Option, None, Some, inl, inr, refl, sym, ap, ◌∙◌, subst, arith, length-append, length-set}
-use Rattle.std.specs.Prelude.{nat_lt}
+use Rattle.std.proofs.Common.{◌≡◌, ◌≢◌, ℕ, ◌+◌, ◌-◌, ◌<◌, ◌≤◌, suc, Bool, true, false, List, [], ◌∷◌, ◌++◌, length, get_or, set, Option, None, Some, inl, inr, refl, sym, ap, ◌∙◌, subst, arith, length-append, length-set}
+use Rattle.std.specs.Prelude.{nat_lt, ◌==◌}
 use Rattle.std.proofs.lemmas.List.{get_or-set_other, get_or_append_left, get_or-append_right}
-use Rattle.std.proofs.lemmas.Bool.{cond_both, ltb-true, false≢true, and_parts}
+use Rattle.std.proofs.lemmas.Grind.{get_or-set_at}
+use Rattle.std.proofs.lemmas.Bool.{cond_both, ltb-true, false≢true, and_parts, eqb-true, eq-eqb}
 use Rattle.std.proofs.lemmas.Bool.Decides.{nat_tests}
 use Rattle.pool_settings.specs.Profile.{Profile, IsProfile}
 use Rattle.plan_model.specs.declared.answer.Answer.{Answer}
@@ -22,12 +23,43 @@ use Rattle.pool_core.specs.declared.event.Event.TheVariants as event
 use Rattle.pool_core.specs.Machine.{State, has_generation, slot_in, is_live_in, open_ticket, after, IsPossible, slot_after_run, with_lost, orders_from, after_round, input_of}
 use Rattle.pool_core.specs.Kept.{OpensAt, IsOpen, IsSound}
 use Rattle.pool_core.proofs.Ranges.{ranges_after}
-use Rattle.pool_core.proofs.Tables.{at_set, live_within, live_has, opens_elsewhere, opens_here, open_is}
+use Rattle.pool_core.proofs.Tables.{at_set, live_within, live_has, opens_elsewhere, opens_here, open_is, opens_still, opens_written, empty_none, holds_none, holds_one, standing_given}
 
 -- the generation of a live worker is its slot's last
 pub generation_last : (x : Slot) (g : ℕ) → has_generation x g ≡ true → last_generation x ≡ g
 generation_last (Empty last) g h = absurd (false≢true h)
 generation_last (Live own runs ticket) g h = grind (arith, nat_tests)
+
+-- a job that goes on after one standing was written went on before, where that one did
+open_before : (standings : List Standing) (i : ℕ) (y : Standing) (k : ℕ) → is_open (get_or standings i standing.Running) ≡ true → IsOpen (set standings i y) k → IsOpen standings k
+open_before standings i y k goes h = record { from_one = h.from_one; given = omega (arith, length-set standings i y, h.given); goes_on = by (k - 1 == i) refl }
+  where
+    by : (b : Bool) → (k - 1 == i) ≡ b → is_open (get_or standings (k - 1) standing.Running) ≡ true
+    by true e = ap (λ (n : ℕ). is_open (get_or standings n standing.Running)) (eqb-true (k - 1) i e) ∙ goes
+    by false e = ap is_open (sym (get_or-set_other standings i (k - 1) y standing.Running (λ f. false≢true (sym e ∙ eq-eqb (k - 1) i f)))) ∙ h.goes_on
+
+-- a job that goes on after one was closed is another one
+open_other : (standings : List Standing) (j : ℕ) (y : Standing) (k : ℕ) → is_open y ≡ false → 0 < j → j ≤ length standings → IsOpen (set standings (j - 1) y) k → k ≢ j
+open_other standings j y k closed from_one given h e =
+    false≢true (sym closed ∙ ap is_open (sym (get_or-set_at standings (j - 1) (k - 1) y standing.Running (ap (λ (n : ℕ). n - 1) e) (omega (arith, from_one, given)))) ∙ h.goes_on)
+
+open_beside_before : (standings : List Standing) (j : ℕ) (y : Standing) (k : ℕ) → 0 < j → k ≢ j → IsOpen (set standings (j - 1) y) k → IsOpen standings k
+open_beside_before standings j y k from_one other h =
+    record {
+      from_one = h.from_one;
+      given = omega (arith, length-set standings (j - 1) y, h.given);
+      goes_on = ap is_open (sym (get_or-set_other standings (j - 1) (k - 1) y standing.Running (λ e. other (omega (arith, h.from_one, from_one))))) ∙ h.goes_on;
+    }
+
+-- a job that goes on and is not the last one went on before that one
+open_pushed_before : (standings : List Standing) (y : Standing) (k : ℕ) → k ≢ length standings + 1 → IsOpen (standings ++ y ∷ []) k → IsOpen standings k
+open_pushed_before standings y k other h =
+    let given : k ≤ length standings = omega (arith, length-append standings (y ∷ []), h.given, other) in
+    record {
+      from_one = h.from_one;
+      given = given;
+      goes_on = ap is_open (sym (get_or_append_left standings (y ∷ []) standing.Running (k - 1) (omega (arith, h.from_one, given)))) ∙ h.goes_on;
+    }
 
 -- one standing written, by one that goes on
 open_stays : (standings : List Standing) (i : ℕ) (y : Standing) (k : ℕ) → is_open y ≡ true → IsOpen standings k → IsOpen (set standings i y) k
@@ -70,10 +102,13 @@ sound_join rules state slot some h p =
       runs = λ s. at_set (λ x. runs_of x < rules.max_runs) state.slots slot new (Empty 0) s (h.runs s) some;
       tickets = λ s k o. h.tickets s k (opens_elsewhere state.slots slot new s k p.0 refl o).1;
       alone = λ s t k o q. h.alone s t k (opens_elsewhere state.slots slot new s k p.0 refl o).1 (opens_elsewhere state.slots slot new t k p.0 refl q).1;
+      held = λ k o.
+          let t = h.held k o in
+          (t.0, opens_still state.slots slot new t.0 k (holds_none state.slots slot t.0 k (empty_none (slot_in state.slots slot) p.1) t.1) t.1);
     }
 
-pub sound_begin : (rules : Profile) (state : State) (w : WorkerName) (k : ℕ) → IsSound rules state → IsSound rules (after rules (event.Begin w k) state)
-sound_begin rules state w k h =
+pub sound_begin : (rules : Profile) (state : State) (w : WorkerName) (k : ℕ) → IsSound rules state → IsPossible rules (event.Begin w k) state → IsSound rules (after rules (event.Begin w k) state)
+sound_begin rules state w k h p =
     record {
       slots = h.slots;
       grab_times = h.grab_times;
@@ -84,6 +119,7 @@ sound_begin rules state w k h =
       runs = h.runs;
       tickets = λ s t o. open_stays state.standings (k - 1) standing.Reporting t refl (h.tickets s t o);
       alone = h.alone;
+      held = λ t o. h.held t (open_before state.standings (k - 1) standing.Reporting t (ap is_open (standing_given state.standings k standing.Running standing.Running p.2).2) o);
     }
 
 -- runs of the worker that is there
@@ -103,8 +139,8 @@ other_ticket : (rules : Profile) (state : State) → IsSound rules state → (s 
 other_ticket rules state h s t k j o q apart e =
     apart (h.alone s t k o (q ∙ ap (λ (n : ℕ). let o : Option ℕ = Some n in o) (sym e)))
 
-pub sound_grab : (rules : Profile) (state : State) (w : WorkerName) (handle function : List ℕ) (now : ℕ) → IsSound rules state → is_live_in state w ≡ true → IsSound rules (after rules (event.Grab w handle function now) state)
-sound_grab rules state w handle function now h live =
+pub sound_grab : (rules : Profile) (state : State) (w : WorkerName) (handle function : List ℕ) (now : ℕ) → IsSound rules state → is_live_in state w ≡ true → open_ticket state w ≡ None → IsSound rules (after rules (event.Grab w handle function now) state)
+sound_grab rules state w handle function now h live idle =
     let next : ℕ = (length state.standings + 1) in
     let new = Live w.generation (runs_of (slot_in state.slots w.slot)) (Some next) in
     let fresh : IsOpen (state.standings ++ standing.Running ∷ []) next = record {
@@ -135,12 +171,23 @@ sound_grab rules state w handle function now h live =
           | inr b ↦ h.alone s t k a.1 b.1
         ]
       ];
+      held = λ k o. held k o (k == next) refl;
     }
+  where
+    held : (k : ℕ) → IsOpen (state.standings ++ standing.Running ∷ []) k → (b : Bool) → (k == length state.standings + 1) ≡ b
+        → (s : ℕ) × OpensAt (set state.slots w.slot (Live w.generation (runs_of (slot_in state.slots w.slot)) (Some (length state.standings + 1)))) s k
+    held k o true e =
+        let here : OpensAt (set state.slots w.slot (Live w.generation (runs_of (slot_in state.slots w.slot)) (Some (length state.standings + 1)))) w.slot (length state.standings + 1) =
+        opens_written state.slots w.slot _ (length state.standings + 1) (worker_within state w live) refl in
+        (w.slot, subst (OpensAt (set state.slots w.slot (Live w.generation (runs_of (slot_in state.slots w.slot)) (Some (length state.standings + 1)))) w.slot) (sym (eqb-true k (length state.standings + 1) e)) here)
+    held k o false e =
+        let t = h.held k (open_pushed_before state.standings standing.Running k (λ f. false≢true (sym e ∙ eq-eqb k (length state.standings + 1) f)) o) in
+        (t.0, opens_still state.slots w.slot _ t.0 k (holds_none state.slots w.slot t.0 k idle t.1) t.1)
 
 -- a slot that is given up, with its ticket's standing
-cleared : (rules : Profile) (state : State) (slot : ℕ) (new : Slot) (k : ℕ) (y : Standing) → IsSound rules state → slot < length state.slots → ticket_of new ≡ None → last_generation new ≤ 262143 → runs_of new < rules.max_runs → OpensAt state.slots slot k
+cleared : (rules : Profile) (state : State) (slot : ℕ) (new : Slot) (k : ℕ) (y : Standing) → IsSound rules state → slot < length state.slots → ticket_of new ≡ None → last_generation new ≤ 262143 → runs_of new < rules.max_runs → is_open y ≡ false → OpensAt state.slots slot k
     → IsSound rules (record state { slots = set state.slots slot new; standings = set state.standings (k - 1) y })
-cleared rules state slot new k y h within none generation runs own =
+cleared rules state slot new k y h within none generation runs closed own =
     record {
       slots = length-set state.slots slot new ∙ h.slots;
       grab_times = h.grab_times;
@@ -153,12 +200,17 @@ cleared rules state slot new k y h within none generation runs own =
           let e = opens_elsewhere state.slots slot new s j within none o in
           open_beside state.standings k y j (h.tickets slot k own).from_one (other_ticket rules state h s slot j k e.1 own e.0) (h.tickets s j e.1);
       alone = λ s t j o q. h.alone s t j (opens_elsewhere state.slots slot new s j within none o).1 (opens_elsewhere state.slots slot new t j within none q).1;
+      held = λ j o.
+          let t = h.tickets slot k own in
+          let other = open_other state.standings k y j closed t.from_one t.given o in
+          let u = h.held j (open_beside_before state.standings k y j t.from_one other o) in
+          (u.0, opens_still state.slots slot new u.0 j (λ e. other (holds_one state.slots slot j k (subst (λ (n : ℕ). OpensAt state.slots n j) e u.1) own)) u.1);
     }
 
 -- a slot that is given up without a ticket
-cleared_idle : (rules : Profile) (state : State) (slot : ℕ) (new : Slot) → IsSound rules state → slot < length state.slots → ticket_of new ≡ None → last_generation new ≤ 262143 → runs_of new < rules.max_runs
+cleared_idle : (rules : Profile) (state : State) (slot : ℕ) (new : Slot) → IsSound rules state → slot < length state.slots → ticket_of new ≡ None → last_generation new ≤ 262143 → runs_of new < rules.max_runs → ticket_of (slot_in state.slots slot) ≡ None
     → IsSound rules (record state { slots = set state.slots slot new })
-cleared_idle rules state slot new h within none generation runs =
+cleared_idle rules state slot new h within none generation runs idle =
     record {
       slots = length-set state.slots slot new ∙ h.slots;
       grab_times = h.grab_times;
@@ -169,13 +221,16 @@ cleared_idle rules state slot new h within none generation runs =
       runs = λ s. at_set (λ x. runs_of x < rules.max_runs) state.slots slot new (Empty 0) s (h.runs s) runs;
       tickets = λ s j o. h.tickets s j (opens_elsewhere state.slots slot new s j within none o).1;
       alone = λ s t j o q. h.alone s t j (opens_elsewhere state.slots slot new s j within none o).1 (opens_elsewhere state.slots slot new t j within none q).1;
+      held = λ j o.
+          let u = h.held j o in
+          (u.0, opens_still state.slots slot new u.0 j (holds_none state.slots slot u.0 j idle u.1) u.1);
     }
 
 -- the slot after one more run: its ticket, generation and runs
-run_none : (rules : Profile) (g r : ℕ) → ticket_of (slot_after_run rules g r) ≡ None
+pub run_none : (rules : Profile) (g r : ℕ) → ticket_of (slot_after_run rules g r) ≡ None
 run_none rules g r = cond_both (nat_lt (r + 1) rules.max_runs) (Live g (r + 1) None) (Empty g) (λ x. ticket_of x ≡ None) (λ e. refl) (λ e. refl)
 
-run_generation : (rules : Profile) (g r : ℕ) → last_generation (slot_after_run rules g r) ≡ g
+pub run_generation : (rules : Profile) (g r : ℕ) → last_generation (slot_after_run rules g r) ≡ g
 run_generation rules g r = cond_both (nat_lt (r + 1) rules.max_runs) (Live g (r + 1) None) (Empty g) (λ x. last_generation x ≡ g) (λ e. refl) (λ e. refl)
 
 run_runs : (rules : Profile) (g r : ℕ) → 0 < rules.max_runs → runs_of (slot_after_run rules g r) < rules.max_runs
@@ -185,15 +240,15 @@ pub sound_reported : (rules : Profile) (state : State) (w : WorkerName) (k : ℕ
 sound_reported rules state w k end some h p =
     let r = runs_of (slot_in state.slots w.slot) in
     cleared rules state w.slot (slot_after_run rules w.generation r) k (standing.Reported end) h (worker_within state w p.0)
-    (run_none rules w.generation r) (omega (arith, run_generation rules w.generation r, generation_there rules state h w p.0)) (run_runs rules w.generation r some)
+    (run_none rules w.generation r) (omega (arith, run_generation rules w.generation r, generation_there rules state h w p.0)) (run_runs rules w.generation r some) refl
     (open_is (open_ticket state w) k p.1)
 
 lost_with : (rules : Profile) (state : State) (w : WorkerName) (cause : Cause) (o : Option ℕ) → o ≡ open_ticket state w → 0 < rules.max_runs → IsSound rules state → is_live_in state w ≡ true
     → IsSound rules (record state { slots = set state.slots w.slot (Empty w.generation); standings = with_lost state.standings o w cause })
 lost_with rules state w cause None e some h live =
-    cleared_idle rules state w.slot (Empty w.generation) h (worker_within state w live) refl (generation_there rules state h w live) some
+    cleared_idle rules state w.slot (Empty w.generation) h (worker_within state w live) refl (generation_there rules state h w live) some (sym e)
 lost_with rules state w cause (Some k) e some h live =
-    cleared rules state w.slot (Empty w.generation) k (standing.Lost w cause) h (worker_within state w live) refl (generation_there rules state h w live) some (sym e)
+    cleared rules state w.slot (Empty w.generation) k (standing.Lost w cause) h (worker_within state w live) refl (generation_there rules state h w live) some refl (sym e)
 
 pub sound_lost : (rules : Profile) (state : State) (w : WorkerName) (cause : Cause) → 0 < rules.max_runs → IsSound rules state → is_live_in state w ≡ true → IsSound rules (after rules (event.Lost w cause) state)
 sound_lost rules state w cause some h live = lost_with rules state w cause (open_ticket state w) refl some h live
@@ -215,17 +270,18 @@ sound_round rules (answers.Planned plan backlog short) state r h p =
       runs = h.runs;
       tickets = h.tickets;
       alone = h.alone;
+      held = h.held;
     }
 sound_round rules (answers.NoPlan short) state r h p =
-    record { slots = h.slots; grab_times = h.grab_times; orders = h.orders; assignments = h.assignments; generations = h.generations; ranges = h.ranges; runs = h.runs; tickets = h.tickets; alone = h.alone }
+    record { slots = h.slots; grab_times = h.grab_times; orders = h.orders; assignments = h.assignments; generations = h.generations; ranges = h.ranges; runs = h.runs; tickets = h.tickets; alone = h.alone; held = h.held }
 
 -- every event keeps a state sound
 pub sound_after : (rules : Profile) (e : Event) (state : State) → IsProfile rules → IsSound rules state → IsPossible rules e state → IsSound rules (after rules e state)
 sound_after rules (event.Join slot) state r h p = sound_join rules state slot r.max_runs_some h p
 sound_after rules (event.Load load) state r h p =
-    record { slots = h.slots; grab_times = h.grab_times; orders = h.orders; assignments = h.assignments; generations = h.generations; ranges = h.ranges; runs = h.runs; tickets = h.tickets; alone = h.alone }
+    record { slots = h.slots; grab_times = h.grab_times; orders = h.orders; assignments = h.assignments; generations = h.generations; ranges = h.ranges; runs = h.runs; tickets = h.tickets; alone = h.alone; held = h.held }
 sound_after rules (event.Round answer) state r h p = sound_round rules answer state r h p
-sound_after rules (event.Grab worker handle function now) state r h p = sound_grab rules state worker handle function now h p.0
-sound_after rules (event.Begin worker ticket) state r h p = sound_begin rules state worker ticket h
+sound_after rules (event.Grab worker handle function now) state r h p = sound_grab rules state worker handle function now h p.0 p.1
+sound_after rules (event.Begin worker ticket) state r h p = sound_begin rules state worker ticket h p
 sound_after rules (event.Reported worker ticket end) state r h p = sound_reported rules state worker ticket end r.max_runs_some h p
 sound_after rules (event.Lost worker cause) state r h p = sound_lost rules state worker cause r.max_runs_some h p

@@ -81,7 +81,7 @@ reported_begin rules state w k p =
     )
 
 -- a standing that goes on is neither reported nor lost
-open_neither : (x : Standing) → is_open x ≡ true → (is_reported x ≡ false) × (is_lost x ≡ false)
+pub open_neither : (x : Standing) → is_open x ≡ true → (is_reported x ≡ false) × (is_lost x ≡ false)
 open_neither standing.Running h = (refl, refl)
 open_neither standing.Reporting h = (refl, refl)
 open_neither (standing.Reported end) h = absurd (false≢true h)

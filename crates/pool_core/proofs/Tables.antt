@@ -1,7 +1,9 @@
 -- Slots and standings, one of them written.
-use Rattle.std.proofs.Common.{◌≡◌, ◌≢◌, ℕ, ◌+◌, ◌-◌, ◌<◌, ◌≤◌, zero, suc, Bool, true, false, cond, List, [], ◌∷◌, ◌++◌, length, get_or, set, Option, None, Some, ◌⊎◌, inl, inr, refl, ap, ◌∙◌, arith}
+use Rattle.std.proofs.Common.{◌≡◌, ◌≢◌, ℕ, ◌+◌, ◌-◌, ◌<◌, ◌≤◌, zero, suc, Bool, true, false, cond, List, [], ◌∷◌, ◌++◌, length, get_or, set, Option, None, Some, ◌⊎◌, inl, inr, refl, sym, ap, ◌∙◌, arith}
 use Rattle.std.specs.Prelude.{slice_get, replicate, ◌==◌}
 use Rattle.std.proofs.lemmas.Option.{slice_get_within, get_or_from_slice_get}
+use Rattle.std.proofs.lemmas.List.{get_or-set_other}
+use Rattle.std.proofs.lemmas.Grind.{get_or-set_at}
 use Rattle.std.proofs.lemmas.Bool.{eqb-true, false≢true}
 use Rattle.std.proofs.lemmas.Bool.Decides.{nat_tests}
 use Rattle.worker_state.specs.declared.slot.Slot.{Slot}
@@ -62,6 +64,27 @@ standing_given standings k x d h = given_by_test standings k x d (k == 0) refl h
 pub open_is : (o : Option ℕ) (k : ℕ) → has_open o k ≡ true → o ≡ Some k
 open_is None k h = absurd (false≢true h)
 open_is (Some own) k h = ap (λ (n : ℕ). let o : Option ℕ = Some n in o) (eqb-true own k h)
+
+-- what is open in a slot stays so where another one is written
+pub opens_still : (slots : List Slot) (i : ℕ) (x : Slot) (s : ℕ) (k : ℕ) → s ≢ i → OpensAt slots s k → OpensAt (set slots i x) s k
+opens_still slots i x s k other o = ap ticket_of (get_or-set_other slots i s x (Empty 0) other) ∙ o
+
+-- what was written in a slot that is there is open
+pub opens_written : (slots : List Slot) (i : ℕ) (x : Slot) (k : ℕ) → i < length slots → ticket_of x ≡ Some k → OpensAt (set slots i x) i k
+opens_written slots i x k within is = ap ticket_of (get_or-set_at slots i i x (Empty 0) refl within) ∙ is
+
+-- an empty slot has no open ticket
+pub empty_none : (x : Slot) → is_live x ≡ false → ticket_of x ≡ None
+empty_none (Empty last) h = refl
+empty_none (Live generation runs ticket) h = absurd (false≢true (sym h))
+
+-- a slot without an open ticket is another than one that has one
+pub holds_none : (slots : List Slot) (i s k : ℕ) → ticket_of (get_or slots i (Empty 0)) ≡ None → OpensAt slots s k → s ≢ i
+holds_none slots i s k none o e = let f = sym (ap (λ (n : ℕ). ticket_of (get_or slots n (Empty 0))) e ∙ none) ∙ o in absurd (cc)
+
+-- the two tickets that are open in one slot are one
+pub holds_one : (slots : List Slot) (s j k : ℕ) → OpensAt slots s j → OpensAt slots s k → j ≡ k
+holds_one slots s j k o q = let e = sym o ∙ q in cc
 
 -- one more copy
 pub copies_more : {X : Type 0} (n : ℕ) (x : X) → replicate n x ++ x ∷ [] ≡ replicate (n + 1) x

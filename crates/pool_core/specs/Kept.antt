@@ -21,6 +21,7 @@ pub record IsOpen (standings : List Standing) (ticket : ℕ) : Type 0 where
   pub given : ticket ≤ length standings
   pub goes_on : is_open (slice_index_or standings (ticket - 1) Running) ≡ true
 
+-- Each slot's worker is within its limits, and the jobs that go on are those that live workers hold, each by one
 pub record IsSound (rules : Profile) (state : State) : Type 0 where
   pub slots : length state.slots ≡ slot_count rules
   pub grab_times : length state.grab_times ≡ slot_count rules
@@ -31,6 +32,7 @@ pub record IsSound (rules : Profile) (state : State) : Type 0 where
   pub runs : (s : ℕ) → runs_of (slice_index_or state.slots s (Empty 0)) < rules.max_runs
   pub tickets : (s : ℕ) (k : ℕ) → OpensAt state.slots s k → IsOpen state.standings k
   pub alone : (s t : ℕ) (k : ℕ) → OpensAt state.slots s k → OpensAt state.slots t k → s ≡ t
+  pub held : (k : ℕ) → IsOpen state.standings k → (s : ℕ) × OpensAt state.slots s k
 
 -- how many events are owed for the job of the ticket that is open
 abbrev pub closing_of : List Standing → Option ℕ → ℕ

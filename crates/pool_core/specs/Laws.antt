@@ -1,23 +1,40 @@
 -- What holds of every history.
 use Rattle.gear_status.specs.Status.{Line}
-use Rattle.std.specs.Prelude.{◌≡◌, ℕ, ◌+◌, List, [], ◌∷◌, ◌++◌, length, Some, ◌⊎◌, Bool, true, false, count_by}
-use Rattle.std.specs.List.{flat_map}
+use Rattle.std.specs.Prelude.{◌≡◌, ℕ, ◌+◌, ◌-◌, ◌<◌, ◌≤◌, ◌==◌, List, [], ◌∷◌, ◌++◌, length, Option, None, Some, ◌⊎◌, Bool, true, false, IsTrue, if◌then◌else◌, slice_get, slice_index_or, count_by}
+use Rattle.std.specs.List.{filter_map, flat_map}
 use Rattle.pool_settings.specs.Profile.{Profile, IsProfile}
 use Rattle.plan_model.specs.declared.answer.Answer.{Answer}
+use Rattle.plan_model.specs.declared.answer.Answer.TheVariants as answers
+use Rattle.plan_model.specs.Planning.{assigned}
 use Rattle.plan_model.specs.Shown.{Shown, Best}
 use Rattle.worker_state.specs.declared.job.Standing.{Standing}
-use Rattle.worker_state.specs.Slots.{is_open, is_reported, is_lost}
+use Rattle.worker_state.specs.declared.job.Standing.TheVariants as standing
+use Rattle.worker_state.specs.declared.slot.Slot.{Slot}
+use Rattle.worker_state.specs.declared.slot.WorkerName.{WorkerName}
+use Rattle.worker_state.specs.declared.order.Order.{Order}
+use Rattle.worker_state.specs.declared.cause.Cause.{Cause}
+use Rattle.worker_state.specs.Slots.{is_live, last_generation, is_open, is_reported, is_lost}
+use Rattle.worker_state.specs.Orders.{no_order}
 use Rattle.pool_core.specs.declared.event.Assignment.{Assignment}
 use Rattle.pool_core.specs.declared.event.Event.{Event}
 use Rattle.pool_core.specs.declared.event.Event.TheVariants as event
-use Rattle.pool_core.specs.Machine.{State, first, standing_in, input_of, replay, IsHistory, Replays}
 use Rattle.pool_core.specs.Kept.{IsSound}
+use Rattle.pool_core.specs.Machine.{State, first, slot_in, standing_in, what_of, input_of, after_round, replay, IsHistory, Replays}
 use Rattle.pool_core.specs.Book.{Book, IsStep, next_chapter}
 
--- The jobs have only grown, and one that is reported or lost stands as it did
+-- the generation of the next worker of a slot
+abbrev pub next_generation : State → ℕ → ℕ
+next_generation state slot = last_generation (slot_in state.slots slot) + 1
+
+-- the order of a slot; a slot that is not there has none
+abbrev pub order_in : List Order → ℕ → Order
+order_in orders slot = slice_index_or orders slot no_order
+
+-- The jobs have only grown, one that is reported or lost stands as it did, and no slot's last generation is smaller
 pub record Extends (old new : State) : Type 0 where
   pub jobs : (more : List Assignment) × (new.assignments ≡ old.assignments ++ more)
   pub closed : (k : ℕ) (x : Standing) → standing_in old.standings k ≡ Some x → is_open x ≡ false → standing_in new.standings k ≡ Some x
+  pub generations : (s : ℕ) → last_generation (slot_in old.slots s) ≤ last_generation (slot_in new.slots s)
 
 abbrev pub is_grab : Event → Bool
 is_grab (event.Join slot) = false
@@ -36,6 +53,47 @@ is_report (event.Grab worker handle function now) = false
 is_report (event.Begin worker ticket) = false
 is_report (event.Reported worker ticket end) = true
 is_report (event.Lost worker cause) = false
+
+-- the job that an event grabs, and the worker that grabs it
+abbrev pub job_of : Event → Option Assignment
+job_of (event.Join slot) = None
+job_of (event.Load load) = None
+job_of (event.Round answer) = None
+job_of (event.Grab worker handle function now) = Some (record { handle = handle; function = function })
+job_of (event.Begin worker ticket) = None
+job_of (event.Reported worker ticket end) = None
+job_of (event.Lost worker cause) = None
+
+abbrev pub grabber_of : Event → Option WorkerName
+grabber_of (event.Join slot) = None
+grabber_of (event.Load load) = None
+grabber_of (event.Round answer) = None
+grabber_of (event.Grab worker handle function now) = Some worker
+grabber_of (event.Begin worker ticket) = None
+grabber_of (event.Reported worker ticket end) = None
+grabber_of (event.Lost worker cause) = None
+
+-- the jobs that events grab, and the workers that grab them, in the order of the tickets
+abbrev pub grabbed_jobs : List Event → List Assignment
+grabbed_jobs events = filter_map job_of events
+
+abbrev pub grabbers : List Event → List WorkerName
+grabbers events = filter_map grabber_of events
+
+-- the event reports the job of this ticket
+abbrev pub is_report_of : ℕ → Event → Bool
+is_report_of k (event.Join slot) = false
+is_report_of k (event.Load load) = false
+is_report_of k (event.Round answer) = false
+is_report_of k (event.Grab worker handle function now) = false
+is_report_of k (event.Begin worker ticket) = false
+is_report_of k (event.Reported worker ticket end) = ticket == k
+is_report_of k (event.Lost worker cause) = false
+
+-- 1 for a job that is reported, and 0 for every other
+abbrev pub times_reported : Option Standing → ℕ
+times_reported None = 0
+times_reported (Some standing) = if is_reported standing then 1 else 0
 
 -- Later states extend earlier ones
 abbrev pub HistoriesExtend : Type 0
@@ -64,6 +122,49 @@ abbrev pub ChaptersCount : Type 0
 ChaptersCount =
     (rules : Profile) → IsProfile rules → (base : State) → IsSound rules base → (events : List Event) → IsHistory rules base events
     → IsCountedFrom base events (replay rules base events)
+
+-- Every state that a history leads to is sound
+abbrev pub HistoriesAreSound : Type 0
+HistoriesAreSound =
+    (rules : Profile) → IsProfile rules → (events : List Event) → IsHistory rules (first rules) events
+    → IsSound rules (replay rules (first rules) events)
+
+-- The jobs are those that were grabbed; a job that is reported was so by one event, and every other by none
+pub record IsBooked (events : List Event) (state : State) : Type 0 where
+  pub jobs : state.assignments ≡ grabbed_jobs events
+  pub reports : (k : ℕ) → count_by (is_report_of k) events ≡ times_reported (standing_in state.standings k)
+
+abbrev pub JobsAreBookedOnce : Type 0
+JobsAreBookedOnce =
+    (rules : Profile) → IsProfile rules → (events : List Event) → IsHistory rules (first rules) events
+    → IsBooked events (replay rules (first rules) events)
+
+-- Each lost job is lost with the worker that grabbed it
+abbrev pub JobsAreLostWithTheirWorkers : Type 0
+JobsAreLostWithTheirWorkers =
+    (rules : Profile) → IsProfile rules → (events : List Event) → IsHistory rules (first rules) events
+    → (k : ℕ) (worker : WorkerName) (cause : Cause)
+    → standing_in (replay rules (first rules) events).standings k ≡ Some (standing.Lost worker cause)
+    → slice_get (grabbers events) (k - 1) ≡ Some worker
+
+-- Of two workers that join a slot the later one has the greater generation
+abbrev pub WorkersAreNew : Type 0
+WorkersAreNew =
+    (rules : Profile) → IsProfile rules → (earlier between later : List Event) (slot : ℕ)
+    → IsHistory rules (first rules) (earlier ++ event.Join slot ∷ (between ++ event.Join slot ∷ later))
+    → next_generation (replay rules (first rules) earlier) slot
+    < next_generation (replay rules (first rules) (earlier ++ event.Join slot ∷ between)) slot
+
+-- After a round with a plan the order of each live worker is its function by the plan, and the order of an empty slot is as it was
+pub record FollowsPlan (plan : List (ℕ × Option ℕ)) (slots : List Slot) (old new : List Order) : Type 0 where
+  pub live : (s : ℕ) → IsTrue (is_live (slot_in slots s))
+      → ((order_in new s).generation ≡ last_generation (slot_in slots s)) × ((order_in new s).what ≡ what_of (assigned plan s))
+  pub empty : (s : ℕ) → is_live (slot_in slots s) ≡ false → order_in new s ≡ order_in old s
+
+abbrev pub RoundsOrder : Type 0
+RoundsOrder =
+    (rules : Profile) (state : State) → IsSound rules state → (plan : List (ℕ × Option ℕ)) (backlog : ℕ) (short : Option (List ℕ))
+    → FollowsPlan plan state.slots state.orders (after_round (answers.Planned plan backlog short) state).orders
 
 -- Each round of a history holds an answer that is shown for the input of the state before it, and so is best of all plans
 abbrev pub RoundsAreShown : Type 0

@@ -1,7 +1,7 @@
 //! Laws over every history: contracts of functions that do nothing.
-ghost use Rattle.pool_core.specs.Laws.{HistoriesExtend, HistoriesCount, ChaptersCount, RoundsAreShown, HistoriesJoin, CallsReplay};
+ghost use Rattle.pool_core.specs.Laws.{HistoriesExtend, HistoriesAreSound, HistoriesCount, ChaptersCount, JobsAreBookedOnce, JobsAreLostWithTheirWorkers, WorkersAreNew, RoundsAreShown, RoundsOrder, HistoriesJoin, CallsReplay};
 
-/// Jobs are never dropped, and a report or a loss is never taken back.
+/// Jobs are never dropped, a report or a loss is never taken back, and generations never fall.
 pub fn histories_extend()
     ensures { HistoriesExtend }
 {}
@@ -16,9 +16,34 @@ pub fn chapters_count()
     ensures { ChaptersCount }
 {}
 
-/// Every round is one that the machine allows.
+/// Every state of a history is sound: so a job that goes on is held by one live worker.
+pub fn histories_are_sound()
+    ensures { HistoriesAreSound }
+{}
+
+/// The jobs are those of the grab events, and each is reported by at most one event.
+pub fn jobs_are_booked_once()
+    ensures { JobsAreBookedOnce }
+{}
+
+/// A lost job names the worker that grabbed it.
+pub fn jobs_are_lost_with_their_workers()
+    ensures { JobsAreLostWithTheirWorkers }
+{}
+
+/// A slot gives each generation to one worker alone.
+pub fn workers_are_new()
+    ensures { WorkersAreNew }
+{}
+
+/// Every round holds an answer that is shown for its input, and so is best of all plans.
 pub fn rounds_are_shown()
     ensures { RoundsAreShown }
+{}
+
+/// A round with a plan orders each live worker to its function by the plan, and no other.
+pub fn rounds_order()
+    ensures { RoundsOrder }
 {}
 
 /// The parts of a history replay one after the other.
@@ -26,7 +51,7 @@ pub fn histories_join()
     ensures { HistoriesJoin }
 {}
 
-/// After any list of calls the state is the replay of the events.
+/// After any list of calls the state is the replay of the events, those that were handed out among them.
 pub fn calls_replay()
     ensures { CallsReplay }
 {}

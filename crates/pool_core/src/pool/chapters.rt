@@ -10,6 +10,8 @@ use crate::event::Chapter;
 impl Pool {
     /// Hands out all events since the last chapter ended. The state is the base of the next chapter: slots, orders, load, jobs,
     /// previous plan and rounds go on, and what is owed stays owed, with room made for it. This is no event.
+    ///
+    /// Refused, in this order, as `ChaptersUsed` or `Memory`.
     pub fn end_chapter(&mut self) -> Result<Chapter, ChapterError>
         ensures events { IfOk result (λ chapter. chapter.events.items ≡ self.old.events) }
         ensures replays { IfOk result (λ chapter. IsChapter self.old.rules self.old.chapters chapter.events.items self.new.state) }

@@ -36,6 +36,8 @@ impl Pool {
     ///
     /// The function may be any bytes. The time is in milliseconds, of the clock that `expire` is given. It makes the room for the
     /// events that close the job.
+    ///
+    /// Refused, in this order, as `Gone`, `Busy`, `HistoryFull` or `Memory`.
     pub fn grab(
         &mut self,
         pass: &Pass,
@@ -102,6 +104,8 @@ impl Pool {
 
     /// Begins to report a job: from now on it is not late. A session calls it before it writes the first byte of the answer.
     /// It takes no memory and needs no room.
+    ///
+    /// Refused, in this order, as `Gone`, `WrongTicket` or `AlreadyReporting`.
     pub fn begin_report(&mut self, pass: &Pass, ticket: Ticket) -> Result<(), BeginError>
         ensures step { OnOk result (IsStep (event.Begin pass.now ticket) self.old self.new) }
         ensures err { OnErr result (self.new ≡ self.old) }
@@ -145,6 +149,8 @@ impl Pool {
 
     /// Books that the answer to a job was written whole, and counts a run. At the greatest number of runs the worker retires: its
     /// slot is empty then. It takes no memory and needs no room.
+    ///
+    /// Refused, in this order, as `Gone`, `WrongTicket` or `NotReporting`.
     pub fn reported(
         &mut self,
         pass: &Pass,

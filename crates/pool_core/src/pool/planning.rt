@@ -21,7 +21,8 @@ use plan_model::{Answer, Certified, FuncSet, Input, Plan};
 use std::alloc::AllocError;
 
 impl Pool {
-    /// Takes what the server says of its queues, in the place of what it said before.
+    /// Takes what the server says of its queues, in the place of what it said before. Refused, in this order, as `HistoryFull` or
+    /// `Memory`.
     pub fn load(&mut self, load: Load) -> Result<(), LoadError>
         ensures step { OnOk result (IsStep (event.Load load) self.old self.new) }
         ensures err { OnErr result (self.new ≡ self.old) }
@@ -56,7 +57,8 @@ impl Pool {
         Ok(input)
     }
 
-    /// What a round would plan for now, and the plan before it, for a search elsewhere. Nothing changes.
+    /// What a round would plan for now, and the plan before it, for a search elsewhere. Nothing changes. Refused, in this order, as
+    /// `NoLoad` or `Memory`.
     pub fn view(&self) -> Result<(Input, Option<Plan>), ViewError>
         ensures input { IfOk result (λ view. IsInput self.now view.0) }
         ensures previous { IfOk result (λ view. view.1 ≡ self.now.state.previous) }
@@ -91,6 +93,8 @@ impl Pool {
     /// It is `view`, `solve` and `adopt` in one event. An order whose function stays keeps its round number. Where there is no
     /// plan, the orders and the previous plan stay as they are. Where the previous plan, cut to live workers and permitted
     /// functions, is best and leaves nobody idle who may do something, it is the round's plan.
+    ///
+    /// Refused, in this order, as `NoLoad`, `HistoryFull` or `Memory`.
     pub fn round(&mut self) -> Result<Ran, RoundError>
         ensures step { IfOk result (λ ran. (answer : Answer) × IsStep (event.Round answer) self.old self.new × (ran ≡ ran_of answer self.old.state)) }
         ensures steady { OnOk result ((answer : Answer) × (self.new.events ≡ self.old.events ++ event.Round answer ∷ []) × KeepsPlan self.old answer) }
@@ -117,6 +121,8 @@ impl Pool {
     }
 
     /// Takes over an answer that was found elsewhere, where its input is, by value, the one that `view` would give now.
+    ///
+    /// Refused, in this order, as `NoLoad`, `Stale`, `HistoryFull` or `Memory`.
     pub fn adopt(&mut self, certified: Certified) -> Result<Ran, AdoptError>
         ensures step { OnOk result (IsStep (event.Round certified.answer) self.old self.new) }
         ensures ran { IfOk result (λ ran. ran ≡ ran_of certified.answer self.old.state) }

@@ -34,6 +34,8 @@ impl Pool {
     /// A new worker in an empty slot, of the next generation, with no runs, no job and an idle order.
     ///
     /// It makes the room for the event that ends the worker. A slot gives 262,143 generations.
+    ///
+    /// Refused, in this order, as `AlreadyLive`, `GenerationsUsed`, `HistoryFull` or `Memory`.
     pub fn join(&mut self, slot: SlotId) -> Result<Pass, JoinError>
         requires { slot < length self.old.state.slots }
         ensures step { OnOk result (IsStep (event.Join slot) self.old self.new) }
@@ -93,7 +95,7 @@ impl Pool {
     }
 
     /// Loses a worker, and with it the job that it had. The pass is spent, also where it is refused. It takes no memory and needs
-    /// no room.
+    /// no room, and is refused as `Gone` alone.
     pub fn lose(&mut self, pass: Pass, cause: Cause) -> Result<(), LoseError>
         ensures step { OnOk result (IsStep (event.Lost pass cause) self.old self.new) }
         ensures err { OnErr result (self.new ≡ self.old) }
@@ -131,6 +133,8 @@ impl Pool {
 
     /// Loses the worker of that generation where its job is late, unless the report has begun: where the time of the grab and the
     /// job timeout add up to no more than now. It takes no memory and needs no room.
+    ///
+    /// Refused, in this order, as `Gone`, `NoJob`, `Reporting` or `NotLate`.
     pub fn expire(&mut self, slot: SlotId, generation: u32, now_ms: u64) -> Result<(), ExpireError>
         requires { slot < length self.old.state.slots }
         ensures step { OnOk result (IsStep (event.Lost (record { slot = slot; generation = generation }) Late) self.old self.new) }

@@ -1,7 +1,7 @@
-use Rattle.std.proofs.Common.{ap, ◌∙◌, sym}
+use Rattle.std.proofs.Common.{ap, ◌∙◌, sym, arith}
 use Rattle.pool_core.specs.Book.{Book, begin_refusal}
 use Rattle.pool_core.specs.View.{state_of}
-use Rattle.pool_core.proofs.Calls.{kept_begin}
+use Rattle.pool_core.proofs.Calls.{kept_begin, owes_begin}
 use Rattle.pool_core.proofs.pool.Pool.begin_report.Goals as goal
 
 pub invariant_of-self : goal.invariant_of-self
@@ -13,3 +13,10 @@ invariant_of-self c =
     c.push_reserved.new.self.items c.push_reserved.ensures.items
     c.put_standing.new.standings.items c.put_standing.ensures
     _ c.push_reserved.ensures.capacity
+
+pub push_reserved-requires : goal.push_reserved-requires
+push_reserved-requires c =
+    let p = c.self.inside in
+    let owed = owes_begin p.settings p.chapters p.events.items (state_of p) p.owed p.reported p.lost _ c.self.invariant c.name-worker.result c.args.ticket
+    (ap (λ (b : Book). begin_refusal b c.name-worker.result c.args.ticket) c.self.view_is ∙ (sym c.begin_refusal.ensures ∙ c.in_default.is)) in
+    omega (arith, owed, c.self.invariant.reserved, p.events.ok.0)

@@ -1,0 +1,66 @@
+-- Orders after a round with a plan.
+use Rattle.std.proofs.Common.{◌≡◌, ℕ, ◌+◌, zero, suc, Bool, true, false, List, [], ◌∷◌, length, get_or, Option, refl, sym, ap, ◌∙◌, subst, arith}
+use Rattle.std.specs.Prelude.{◌==◌, ◌&&◌, if◌then◌else◌}
+use Rattle.std.proofs.lemmas.Bool.{cond_both, and_parts, eqb-true, false≢true}
+use Rattle.plan_model.specs.Planning.{assigned}
+use Rattle.worker_state.specs.declared.slot.Slot.{Slot}
+use Rattle.worker_state.specs.declared.slot.Slot.TheVariants.{Empty, Live}
+use Rattle.worker_state.specs.declared.order.Order.{Order}
+use Rattle.worker_state.specs.declared.order.What.{What}
+use Rattle.worker_state.specs.declared.order.What.TheVariants.{Idle, Work, Stop}
+use Rattle.worker_state.specs.Slots.{is_live, last_generation}
+use Rattle.worker_state.specs.Orders.{no_order}
+use Rattle.pool_core.specs.Machine.{what_of, same_what, ordered, orders_from}
+use Rattle.pool_core.specs.Laws.{RoundsOrder}
+
+-- the order of one slot
+order_at : (plan : List (ℕ × Option ℕ)) (round n : ℕ) (slots : List Slot) (orders : List Order) (s : ℕ) → length slots ≡ length orders
+    → get_or (orders_from n plan round slots orders) s no_order ≡ ordered (what_of (assigned plan (n + s))) round (get_or slots s (Empty 0)) (get_or orders s no_order)
+order_at plan round n [] [] s e = refl
+order_at plan round n [] (order ∷ orders) s e = absurd (omega arith)
+order_at plan round n (slot ∷ slots) [] s e = absurd (omega arith)
+order_at plan round n (slot ∷ slots) (order ∷ orders) zero e =
+    ap (λ (m : ℕ). ordered (what_of (assigned plan m)) round slot order) (let i : n ≡ n + 0 = omega arith in i)
+order_at plan round n (slot ∷ slots) (order ∷ orders) (suc s) e =
+    order_at plan round (n + 1) slots orders s (omega (arith, e))
+    ∙ ap (λ (m : ℕ). ordered (what_of (assigned plan m)) round (get_or slots s (Empty 0)) (get_or orders s no_order)) (let i : n + 1 + s ≡ n + suc s = omega arith in i)
+
+same_what_is : (a b : What) → same_what a b ≡ true → a ≡ b
+same_what_is Idle Idle h = refl
+same_what_is Idle (Work g) h = absurd (false≢true h)
+same_what_is Idle Stop h = absurd (false≢true h)
+same_what_is (Work f) Idle h = absurd (false≢true h)
+same_what_is (Work f) (Work g) h = ap (λ (n : ℕ). let w : What = Work n in w) (eqb-true f g h)
+same_what_is (Work f) Stop h = absurd (false≢true h)
+same_what_is Stop Idle h = absurd (false≢true h)
+same_what_is Stop (Work g) h = absurd (false≢true h)
+same_what_is Stop Stop h = refl
+
+live_ordered : (what : What) (round : ℕ) (slot : Slot) (order : Order) → is_live slot ≡ true
+    → ((ordered what round slot order).generation ≡ last_generation slot) × ((ordered what round slot order).what ≡ what)
+live_ordered what round (Empty last) order h = absurd (false≢true h)
+live_ordered what round (Live generation runs ticket) order h =
+    cond_both ((order.generation == generation) && same_what order.what what) order (record { generation = generation; round = round; what = what })
+    (λ o. (o.generation ≡ generation) × (o.what ≡ what))
+    (λ e.
+    let t = and_parts (order.generation == generation) (same_what order.what what) e in
+    (eqb-true order.generation generation t.0, same_what_is order.what what t.1))
+    (λ e. (refl, refl))
+
+empty_ordered : (what : What) (round : ℕ) (slot : Slot) (order : Order) → is_live slot ≡ false → ordered what round slot order ≡ order
+empty_ordered what round (Empty last) order h = refl
+empty_ordered what round (Live generation runs ticket) order h = absurd (false≢true (sym h))
+
+pub rounds_order_lem : RoundsOrder
+rounds_order_lem rules state h plan backlog short =
+    record {
+      live = λ s is.
+          let t = live_ordered (what_of (assigned plan s)) (state.rounds + 1) (get_or state.slots s (Empty 0)) (get_or state.orders s no_order) is in
+          (ap (λ (o : Order). o.generation) (here s) ∙ t.0, ap (λ (o : Order). o.what) (here s) ∙ t.1);
+      empty = λ s is. here s ∙ empty_ordered (what_of (assigned plan s)) (state.rounds + 1) (get_or state.slots s (Empty 0)) (get_or state.orders s no_order) is;
+    }
+  where
+    here : (s : ℕ) → get_or (orders_from 0 plan (state.rounds + 1) state.slots state.orders) s no_order ≡ ordered (what_of (assigned plan s)) (state.rounds + 1) (get_or state.slots s (Empty 0)) (get_or state.orders s no_order)
+    here s =
+        order_at plan (state.rounds + 1) 0 state.slots state.orders s (h.slots ∙ sym h.orders)
+        ∙ ap (λ (m : ℕ). ordered (what_of (assigned plan m)) (state.rounds + 1) (get_or state.slots s (Empty 0)) (get_or state.orders s no_order)) (let i : 0 + s ≡ s = omega arith in i)
