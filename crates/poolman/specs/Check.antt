@@ -1,7 +1,7 @@
 -- What `check` finds a report to be, what it writes, and how it ends.
-use Rattle.std.specs.Prelude.{◌≡◌, ◌≢◌, ℕ, ◌<◌, ◌≤◌, ◌⊎◌, List, [], ◌∷◌, ◌++◌, codes, length, take, Bool, true, Option, None, Some, Result, Ok, Err}
+use Rattle.std.specs.Prelude.{◌≡◌, ◌≢◌, ℕ, ◌<◌, ◌≤◌, List, [], ◌∷◌, ◌++◌, codes, length, take, Bool, true, Option, None, Some, Result, Ok, Err}
 use Rattle.std.specs.Fmt.{decimal}
-use Rattle.gear_status.specs.Device.{and_then}
+use Rattle.gear_status.specs.Device.{GaveUp, Undisturbed, and_then}
 use Rattle.plan_model.specs.Planning.{Instance}
 use Rattle.plan_model.specs.Shown.{IsFirstReason, Shown, reason_name, reason_number}
 use Rattle.plan_model.specs.declared.answer.Answer.{Answer}
@@ -40,33 +40,44 @@ Judges p i report (Err (fault.Report e)) = meaning p report ≡ Err e
 Judges p i report (Err fault.Memory) = Unit {0}
 Judges p i report (Err other) = ⊥
 
+-- The bytes go above the limit with the piece of the last take, of at most 4,096 bytes, and not before it.
+abbrev pub GoesOver : List ℕ → Type 0
+GoesOver bytes =
+    (before : List ℕ) × (piece : List ℕ) × (bytes ≡ before ++ piece) × (length before ≤ limit) × (length piece ≤ 4096)
+    × (limit < length bytes)
+
 -- the bytes that were taken, up to the end of their device and no more than the limit, or why there are none
 abbrev pub TakesWhole : List ℕ → ℕ → ℕ → Bool → Result (List ℕ) Fault → Type 0
-TakesWhole bytes lulls failures ended (Ok text) = (text ≡ bytes) × (length bytes ≤ limit) × (ended ≡ true)
-TakesWhole bytes lulls failures ended (Err fault.TooLong) = limit < length bytes
-TakesWhole bytes lulls failures ended (Err fault.ReadFault) = (failures ≡ 1) ⊎ (lulls ≡ 65)
-TakesWhole bytes lulls failures ended (Err fault.Memory) = Unit {0}
+TakesWhole bytes lulls failures ended (Ok text) =
+    (text ≡ bytes) × (length bytes ≤ limit) × (ended ≡ true) × Undisturbed lulls failures
+TakesWhole bytes lulls failures ended (Err fault.TooLong) = GoesOver bytes × Undisturbed lulls failures
+TakesWhole bytes lulls failures ended (Err fault.ReadFault) = (length bytes ≤ limit) × GaveUp lulls failures
+TakesWhole bytes lulls failures ended (Err fault.Memory) = Undisturbed lulls failures
 TakesWhole bytes lulls failures ended (Err other) = ⊥
 
--- what is found of the report that was taken, or the first fault of settings, lost workers, status text, input and report
+-- What is found of the report that was taken, or the first fault of settings, lost workers, status text, input and report.
+-- Nothing is taken where one of the first three is at fault.
 abbrev pub Examines : List ℕ → List (List ℕ) → List ℕ → List ℕ → ℕ → ℕ → Bool → Result Verdict Fault → Type 0
 Examines settings lost text bytes lulls failures ended (Ok found) =
-    (p : Problem) × (problem_of_text settings lost text ≡ Ok p) × (ended ≡ true) × Judges p.profile p.input bytes (Ok found)
+    (p : Problem) × (problem_of_text settings lost text ≡ Ok p) × TakesWhole bytes lulls failures ended (Ok bytes)
+    × Judges p.profile p.input bytes (Ok found)
 Examines settings lost text bytes lulls failures ended (Err (fault.Report e)) =
-    (p : Problem) × (problem_of_text settings lost text ≡ Ok p) × (ended ≡ true) × (meaning p.profile bytes ≡ Err e)
+    (p : Problem) × (problem_of_text settings lost text ≡ Ok p) × TakesWhole bytes lulls failures ended (Ok bytes)
+    × (meaning p.profile bytes ≡ Err e)
 Examines settings lost text bytes lulls failures ended (Err fault.TooLong) =
-    (p : Problem) × (problem_of_text settings lost text ≡ Ok p) × (limit < length bytes)
+    (p : Problem) × (problem_of_text settings lost text ≡ Ok p) × TakesWhole bytes lulls failures ended (Err fault.TooLong)
 Examines settings lost text bytes lulls failures ended (Err fault.ReadFault) =
-    (p : Problem) × (problem_of_text settings lost text ≡ Ok p) × ((failures ≡ 1) ⊎ (lulls ≡ 65))
-Examines settings lost text bytes lulls failures ended (Err fault.Memory) = Unit {0}
+    (p : Problem) × (problem_of_text settings lost text ≡ Ok p) × TakesWhole bytes lulls failures ended (Err fault.ReadFault)
+Examines settings lost text bytes lulls failures ended (Err fault.Memory) = Undisturbed lulls failures
 Examines settings lost text bytes lulls failures ended (Err fault.WriteFault) = ⊥
 Examines settings lost text bytes lulls failures ended (Err fault.NoFile) = ⊥
-Examines settings lost text bytes lulls failures ended (Err f) = problem_of_text settings lost text ≡ Err f
+Examines settings lost text bytes lulls failures ended (Err f) =
+    (problem_of_text settings lost text ≡ Err f) × (bytes ≡ []) × Undisturbed lulls failures
 
 -- what a sink has got that had `old` before, where this line was to be written
 abbrev pub Writes : List ℕ → Option (List ℕ) → Option (List ℕ) → Result (Unit {0}) Fault → Type 0
 Writes line old new (Ok done) = new ≡ and_then old line
-Writes line old new (Err fault.WriteFault) = (count : ℕ) × (new ≡ and_then old (take count line))
+Writes line old new (Err fault.WriteFault) = (count : ℕ) × (new ≡ and_then old (take count line)) × (count < length line)
 Writes line old new (Err fault.Memory) = new ≡ old
 Writes line old new (Err other) = ⊥
 
@@ -77,6 +88,6 @@ Checks settings lost text bytes lulls failures ended old new status None =
     × (new ≡ and_then old (verdict_line found)) × (status ≡ verdict_status found)
 Checks settings lost text bytes lulls failures ended old new status (Some fault.WriteFault) =
     (found : Verdict) × (count : ℕ) × Examines settings lost text bytes lulls failures ended (Ok found)
-    × (new ≡ and_then old (take count (verdict_line found))) × (status ≡ 4)
+    × (new ≡ and_then old (take count (verdict_line found))) × (count < length (verdict_line found)) × (status ≡ 4)
 Checks settings lost text bytes lulls failures ended old new status (Some f) =
     Examines settings lost text bytes lulls failures ended (Err f) × (new ≡ old) × (status ≡ status_of f)

@@ -20,6 +20,14 @@ status_of fault.NoFile = 4
 status_of fault.Memory = 4
 status_of _ = 3
 
+-- a fault that a file may have
+abbrev pub IsOfFile : Fault → Type 0
+IsOfFile fault.NoFile = Unit {0}
+IsOfFile fault.ReadFault = Unit {0}
+IsOfFile fault.TooLong = Unit {0}
+IsOfFile fault.Memory = Unit {0}
+IsOfFile _ = ⊥
+
 -- Want of memory is one fault, whoever meets it.
 abbrev pub settings_fault : SettingsError → Fault
 settings_fault settings.Memory = fault.Memory

@@ -1,7 +1,6 @@
 -- What `plan` writes, and how it ends.
-use Rattle.std.specs.Prelude.{◌≡◌, ℕ, Bool, true, List, take, Option, None, Some, Result, Ok, Err}
-use Rattle.gear_status.specs.Device.{and_then}
-use Rattle.gear_status.specs.declared.error.StatusError.TheVariants.{Truncated}
+use Rattle.std.specs.Prelude.{◌≡◌, ℕ, ◌<◌, Bool, List, length, take, Option, None, Some, Result, Ok, Err}
+use Rattle.gear_status.specs.Device.{Undisturbed, and_then}
 use Rattle.plan_model.specs.Planning.{Instance}
 use Rattle.plan_model.specs.Shown.{Shown}
 use Rattle.plan_model.specs.declared.answer.Answer.{Answer}
@@ -9,7 +8,7 @@ use Rattle.plan_model.specs.declared.answer.Answer.TheVariants.{Planned, NoPlan}
 use Rattle.pool_report.specs.Answered.{report_text}
 use Rattle.pool_settings.specs.Profile.{Profile}
 use Rattle.poolman.specs.Fault.{status_of}
-use Rattle.poolman.specs.Posing.{IsReadFault}
+use Rattle.poolman.specs.Posing.{AreRight, IsDecided, IsReadFault, ReadsTo}
 use Rattle.poolman.specs.Problem.{Problem, problem}
 use Rattle.poolman.specs.declared.fault.Fault.{Fault}
 use Rattle.poolman.specs.declared.fault.Fault.TheVariants as fault
@@ -29,21 +28,21 @@ Ends p i old new (Ok status) =
     (answer : Answer) × Reports (record { profile = p; input = i }) answer (λ text. text) old new × (status ≡ status_with answer)
 Ends p i old new (Err fault.WriteFault) =
     (answer : Answer) × (count : ℕ) × Reports (record { profile = p; input = i }) answer (take count) old new
+    × (count < length (report_text p i answer))
 Ends p i old new (Err fault.Memory) = new ≡ old
 Ends p i old new (Err other) = ⊥
 
 -- What a sink has got that had `old` before, and with which status `plan` ends, for each fault and for none
 abbrev pub Plans : List ℕ → List (List ℕ) → List ℕ → ℕ → ℕ → Bool → Option (List ℕ) → Option (List ℕ) → ℕ → Option Fault → Type 0
 Plans settings lost bytes lulls failures ended old new status None =
-    (p : Problem) × (answer : Answer) × (problem settings lost bytes ≡ Ok p)
+    (p : Problem) × (answer : Answer) × (problem settings lost bytes ≡ Ok p) × IsDecided bytes lulls failures ended
     × Reports p answer (λ text. text) old new × (status ≡ status_with answer)
 Plans settings lost bytes lulls failures ended old new status (Some fault.WriteFault) =
-    (p : Problem) × (answer : Answer) × (count : ℕ) × (problem settings lost bytes ≡ Ok p)
-    × Reports p answer (take count) old new × (status ≡ 4)
+    (p : Problem) × (answer : Answer) × (count : ℕ) × (problem settings lost bytes ≡ Ok p) × IsDecided bytes lulls failures ended
+    × Reports p answer (take count) old new × (count < length (report_text p.profile p.input answer)) × (status ≡ 4)
 Plans settings lost bytes lulls failures ended old new status (Some fault.ReadFault) =
-    IsReadFault bytes lulls failures × (new ≡ old) × (status ≡ 4)
-Plans settings lost bytes lulls failures ended old new status (Some fault.Memory) = (new ≡ old) × (status ≡ 4)
-Plans settings lost bytes lulls failures ended old new status (Some (fault.Status e)) =
-    (problem settings lost bytes ≡ Err (fault.Status e)) × (e ≡ Truncated → ended ≡ true) × (new ≡ old) × (status ≡ 3)
+    AreRight settings lost × IsReadFault bytes lulls failures × (new ≡ old) × (status ≡ 4)
+Plans settings lost bytes lulls failures ended old new status (Some fault.Memory) =
+    Undisturbed lulls failures × (new ≡ old) × (status ≡ 4)
 Plans settings lost bytes lulls failures ended old new status (Some f) =
-    (problem settings lost bytes ≡ Err f) × (new ≡ old) × (status ≡ status_of f)
+    (problem settings lost bytes ≡ Err f) × ReadsTo f bytes lulls failures ended × (new ≡ old) × (status ≡ status_of f)

@@ -131,8 +131,10 @@ fn examine<R: Source>(
 /// without.
 ///
 /// Faults are looked for in the settings, then in the names of the lost workers, in the status text, in
-/// the source, which gives at most 16,777,216 bytes, and in the report. After a `WriteFault`, which comes
-/// only where the sink failed, a front of the line was written, and after any other fault nothing.
+/// the source, which gives at most 16,777,216 bytes, and in the report. The source is read only where the
+/// first three are right, and up to its end; where it failed or lulled for the 65th time the fault is
+/// `ReadFault`. After a `WriteFault`, which comes only where the sink failed, a front of the line was
+/// written and not all of it, and after any other fault nothing.
 pub fn check_text<R: Source, S: Sink>(
     alloc: Global,
     settings: &[u8],

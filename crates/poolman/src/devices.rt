@@ -1,9 +1,11 @@
-//! Standard input as a source and standard output as a sink.
+//! Readers as sources and writers as sinks: standard input and output, and files.
 
 ghost use Rattle.std.specs.Prelude.{◌≡◌};
+ghost use Rattle.poolman.specs.Devices.{first_input, first_output};
 
 use gear_status::{DeviceFault, Sink, Source, Took};
 use std::io::{ErrorKind, Read, Write};
+use std::marker::Model;
 
 /// A reader, of whose bytes nothing is known. It has no time limit, so that it lulls only where a
 /// signal interrupts it.
@@ -14,10 +16,18 @@ pub struct InputSource<R> {
     has_ended: bool,
 }
 
+impl<R> Model for InputSource<R> {
+    ghost use Rattle.poolman.specs.Devices.{Input};
+
+    ghost Value = { Input };
+
+    ghost view = { λ s. record { failures = s.failures; has_ended = s.has_ended } };
+}
+
 impl<R: Read + Drop> InputSource<R> {
-    /// A source that has not failed.
+    /// A source that has not failed, and has not found its end.
     pub fn new(reader: R) -> InputSource<R>
-        ensures { result.failures ≡ 0 }
+        ensures { result ≡ first_input }
     {
         InputSource {
             reader,
@@ -64,10 +74,18 @@ pub struct OutputSink<W> {
     failures: u64,
 }
 
+impl<W> Model for OutputSink<W> {
+    ghost use Rattle.poolman.specs.Devices.{Output};
+
+    ghost Value = { Output };
+
+    ghost view = { λ s. record { failures = s.failures } };
+}
+
 impl<W: Write + Drop> OutputSink<W> {
     /// A sink that has not failed.
     pub fn new(writer: W) -> OutputSink<W>
-        ensures { result.failures ≡ 0 }
+        ensures { result ≡ first_output }
     {
         OutputSink {
             writer,

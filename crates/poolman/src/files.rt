@@ -1,43 +1,36 @@
 //! Files, read whole and no further than their limit.
 
-use crate::fault::Fault;
-use crate::input::LIMIT;
-use std::fs::File;
-use std::io::{ErrorKind, Read};
+ghost use Rattle.std.specs.Prelude.{◌≤◌, IfErr, IfOk, length};
+ghost use Rattle.poolman.specs.Fault.{IsOfFile};
+ghost use Rattle.poolman.specs.Problem.{limit};
 
-/// How many bytes one read asks for.
-const PIECE: usize = 65_536;
+use crate::devices::InputSource;
+use crate::fault::Fault;
+use crate::input::read_whole;
+use std::fs::File;
+use std::io::{Error, ErrorKind};
 
 /// A file's bytes. A file that is longer than `LIMIT` is not held whole.
 ///
-/// `NoFile` where the file is not there or may not be opened, `ReadFault` where a read of it fails,
-/// `TooLong` above the limit, `Memory` where its bytes find no room.
-pub fn read_file(rt: &HostRuntime, path: &str) -> Result<Vec<u8>, Fault> {
-    let mut file = match File::open(rt, path) {
-        Ok(file) => file,
-        Err(_) => return Err(Fault::NoFile),
-    };
-    let mut bytes = Vec::new(rt.alloc());
-    let mut buffer = vec![in rt.alloc(); 0u8; PIECE]?;
-    for _ in 0..u64::MAX {
-        match file.read(&mut buffer) {
-            Ok(0) => break,
-            Ok(count) => push_piece(&mut bytes, &buffer[..count])?,
-            Err(error) => {
-                if error.kind() != ErrorKind::Interrupted {
-                    return Err(Fault::ReadFault);
-                }
-            }
-        }
+/// `NoFile` where the file is not there or may not be opened, `ReadFault` where a read of it fails or is
+/// interrupted for the 65th time, `TooLong` above the limit, `Memory` where memory is refused.
+pub fn read_file(rt: &HostRuntime, path: &str) -> Result<Vec<u8>, Fault>
+    ensures within { IfOk result (λ bytes. length bytes.items ≤ limit) }
+    ensures err { IfErr result IsOfFile }
+{
+    match File::open(rt, path) {
+        Ok(file) => read_whole(rt.alloc(), &mut InputSource::new(file)),
+        Err(error) => Err(unopened(&error)),
     }
-    Ok(bytes)
 }
 
-/// Appends a piece of a file, as far as the limit.
-fn push_piece(bytes: &mut Vec<u8>, piece: &[u8]) -> Result<(), Fault> {
-    if bytes.len() as u64 + piece.len() as u64 > LIMIT {
-        return Err(Fault::TooLong);
+/// Why a file was not opened. Want of memory says nothing of the file.
+fn unopened(error: &Error) -> Fault
+    ensures { IsOfFile result }
+{
+    if error.kind() == ErrorKind::OutOfMemory {
+        Fault::Memory
+    } else {
+        Fault::NoFile
     }
-    bytes.extend_from_slice(piece)?;
-    Ok(())
 }

@@ -17,7 +17,8 @@ const LULLS: u32 = 64;
 
 /// All bytes of a source, up to its end and no more than `LIMIT`.
 ///
-/// `TooLong` where another byte comes, `ReadFault` where the source fails or lulls for the 65th time.
+/// `TooLong` where another byte comes, `ReadFault` where the source fails or lulls for the 65th time. At most
+/// 4,096 bytes are taken at a time, so no more than these are taken above the limit.
 pub fn read_whole<R: Source>(alloc: Global, source: &mut R) -> Result<Vec<u8>, Fault>
     requires { R.failures source.old < 2 ^ 64 - 1 }
     ensures { (bytes : List ℕ) × (lulls : ℕ) × (failures : ℕ)

@@ -51,9 +51,12 @@ fn report<S: Sink>(alloc: Global, problem: &Problem, sink: &mut S) -> Result<u8,
 /// 1 where there is none.
 ///
 /// Faults are looked for in the settings, then in the names of the lost workers, and then in the
-/// status text, which is read no further than its period line. The report is made whole before its
-/// first byte goes out: after a `WriteFault`, which comes only where the sink failed, a front of it was
-/// written, and after any other fault nothing.
+/// status text. The source is read only where the first two are right, and no further than the piece
+/// with its period line or its first fault; of a text that is too long, one byte above 16,777,216
+/// bytes is taken. Where the source failed or lulled for the 65th time the fault is `ReadFault`.
+///
+/// The report is made whole before its first byte goes out: after a `WriteFault`, which comes only
+/// where the sink failed, a front of it was written and not all of it, and after any other fault nothing.
 pub fn plan_text<R: Source, S: Sink>(
     alloc: Global,
     settings: &[u8],

@@ -48,7 +48,7 @@ fn waiting_for(alloc: Global, settings: &Settings, load: &Load) -> Result<Vec<u3
     Ok(waiting)
 }
 
-/// Reads a status text of no more than `LIMIT` bytes.
+/// Reads a status text of no more than `LIMIT` bytes, up to the piece that decides.
 fn read_load<S: Source>(alloc: Global, source: &mut S) -> Result<Load, Fault>
     requires { S.failures source.old < 2 ^ 64 - 1 }
     ensures { (bytes : List ℕ) × (lulls : ℕ) × (failures : ℕ)
@@ -77,7 +77,7 @@ fn input_of(
 }
 
 /// The problem that the settings, the lost workers and the status text of the source pose. Faults are
-/// looked for in this order.
+/// looked for in this order, and the source is read only where the first two are right.
 pub fn pose<S: Source>(
     alloc: Global,
     settings: &[u8],

@@ -1,4 +1,4 @@
-use Rattle.std.proofs.Common.{[], ◌∙◌, map, arith, subst}
+use Rattle.std.proofs.Common.{[], ◌∙◌, map, arith, refl, subst}
 use Rattle.std.proofs.lemmas.Result.{err_from_is_err_and}
 use Rattle.gear_status.proofs.Devices.{counted_nothing, told_nothing}
 use Rattle.poolman.specs.Check.{Judges}
@@ -15,7 +15,7 @@ returns-in_err-problem g c =
       counted_nothing (g.R.Source.lulls c.args.source.now),
       omega arith,
       rw (p.1, p.2) (unposed c.args.settings.now (map (λ w. w.now) c.args.lost.now) c.args.status.now [] 0 0 (g.R.Source.has_ended c.args.source.now)
-          c.in_err-problem.field-0.0 c.in_err-problem.ensures.posed),
+          refl (refl, omega arith) c.in_err-problem.field-0.0 c.in_err-problem.ensures.posed),
     )
 
 pub returns : goal.returns
@@ -29,6 +29,6 @@ returns g c =
       told.4,
       told.5,
       judged c.args.settings.now (map (λ w. w.now) c.args.lost.now) c.args.status.now told.0 told.1 told.2 (g.R.Source.has_ended c.read_whole.new.source)
-          c.in_ok-problem.problem.settings c.in_ok-problem.problem.input c.in_ok-problem.ensures.posed taken.2 c.judge.result
+          c.in_ok-problem.problem.settings c.in_ok-problem.problem.input c.in_ok-problem.ensures.posed (refl, taken.1, taken.2, taken.3) c.judge.result
           (subst (λ t. Judges c.in_ok-problem.problem.settings c.in_ok-problem.problem.input t c.judge.result) (c.deref.ensures.value ∙ taken.0) c.judge.ensures),
     )

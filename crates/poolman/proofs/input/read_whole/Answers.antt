@@ -1,4 +1,4 @@
-use Rattle.std.proofs.Common.{◌≡◌, ◌+◌, ◌++◌, Ok, length, length-append, take, inr, arith, subst}
+use Rattle.std.proofs.Common.{◌≡◌, ◌+◌, ◌++◌, Ok, length, length-append, take, refl, inr, arith, subst}
 use Rattle.std.proofs.lemmas.List.{length-take-le}
 use Rattle.std.proofs.lemmas.Result.{err_from_is_err_and}
 use Rattle.gear_status.specs.Device.{FitsBuffer, and_then, counted, lull_of, taken}
@@ -20,7 +20,17 @@ returns-then-len-count-gt-LIMIT g c =
       some_more _ _ _ _ _ bytes so_far.given,
       lulls_same _ _ _ _ pauses so_far.lulls,
       omega (arith, c.in-Ok-Bytes.ensures.fails, so_far.failures),
-      omega (arith, c.if-len-count-gt-LIMIT.true, c.len.ensures, c.loop-count.bytes.ok.0, length-append held piece, long),
+      (
+        (
+          held,
+          piece,
+          refl,
+          so_far.few,
+          omega (arith, long, fits.1, c.take.auto.buffer),
+          omega (arith, c.if-len-count-gt-LIMIT.true, c.len.ensures, c.loop-count.bytes.ok.0, length-append held piece, long),
+        ),
+        (refl, so_far.few_lulls),
+      ),
     )
 
 pub returns-in_err-extend_from_slice-in-Ok-Bytes : goal.returns-in_err-extend_from_slice-in-Ok-Bytes
@@ -37,7 +47,7 @@ returns-in_err-extend_from_slice-in-Ok-Bytes g c =
       some_more _ _ _ _ _ bytes so_far.given,
       lulls_same _ _ _ _ pauses so_far.lulls,
       omega (arith, c.in-Ok-Bytes.ensures.fails, so_far.failures),
-      rw (p.1, p.2) tt,
+      rw (p.1, p.2) (refl, so_far.few_lulls),
     )
 
 pub returns-then-lulls-eq-LULLS : goal.returns-then-lulls-eq-LULLS
@@ -51,5 +61,5 @@ returns-then-lulls-eq-LULLS g c =
       none_more _ _ _ _ bytes so_far.given,
       lulls_more _ _ _ _ _ pauses so_far.lulls,
       omega (arith, c.in-Ok-Lull.ensures.fails, so_far.failures),
-      inr (omega arith),
+      (so_far.few, inr (omega arith)),
     )

@@ -24,7 +24,7 @@ returns-clause-outcome g c =
       told.4,
       told.5,
       rw c.refused-in-Err-report.ensures (unreported c.args.settings.now (map (λ w. w.now) c.args.lost.now) told.0 told.1 told.2 (g.R.Source.has_ended c.pose.new.source) (g.S.Sink.got c.args.sink.now)
-          (g.S.Sink.got c.report.new.sink) c.in-Ok.problem.settings c.in-Ok.problem.input told.6 c.in-Err-report.fault c.in-Err-report.ensures.written),
+          (g.S.Sink.got c.report.new.sink) c.in-Ok.problem.settings c.in-Ok.problem.input told.6.0 told.6.1 c.in-Err-report.fault c.in-Err-report.ensures.written),
     )
 
 pub returns-in-Ok-report-clause-outcome : goal.returns-in-Ok-report-clause-outcome
@@ -37,5 +37,5 @@ returns-in-Ok-report-clause-outcome g c =
       told.4,
       told.5,
       rw c.answered.ensures (reported c.args.settings.now (map (λ w. w.now) c.args.lost.now) told.0 told.1 told.2 (g.R.Source.has_ended c.pose.new.source) (g.S.Sink.got c.args.sink.now)
-          (g.S.Sink.got c.report.new.sink) c.in-Ok.problem.settings c.in-Ok.problem.input told.6 c.in-Ok-report.status c.in-Ok-report.ensures.written),
+          (g.S.Sink.got c.report.new.sink) c.in-Ok.problem.settings c.in-Ok.problem.input told.6.0 told.6.1 c.in-Ok-report.status c.in-Ok-report.ensures.written),
     )

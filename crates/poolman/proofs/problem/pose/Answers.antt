@@ -33,4 +33,4 @@ pub returns-in_err-input-clause-posed : goal.returns-in_err-input-clause-posed
 returns-in_err-input-clause-posed g c =
     let p = err_from_is_err_and c.from_residual-in_err-input.result c.from_residual-in_err-input.ensures.1 in
     let told = c.in_ok-load.ensures in
-    (told.0, told.1, told.2, told.3, told.4, told.5, rw (p.1, p.2) tt)
+    (told.0, told.1, told.2, told.3, told.4, told.5, rw (p.1, p.2) told.6.1.2)
