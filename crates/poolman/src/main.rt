@@ -97,6 +97,8 @@ fn main(rt: HostRuntime) -> ExitCode {
 }
 
 #[cfg(test)]
+mod device_tests;
+#[cfg(test)]
 mod line_tests;
 #[cfg(test)]
 mod tests;

@@ -1,0 +1,161 @@
+//! Commands on devices that fail, that give nothing for a while or that give too much.
+
+ghost use Rattle.std.specs.Prelude.{◌≡◌, IfOk};
+
+use crate::check::check_text;
+use crate::fault::{Exit, Fault};
+use crate::plan::plan_text;
+use gear_status::{Script, SliceSource, StatusError, read_status_within};
+use pool_report::ReadError;
+use pool_settings::SettingsError;
+use std::alloc::{AllocError, Global};
+
+/// One worker, for one function.
+const SETTINGS: &[u8] = b"version = 1
+[functions.x]
+[machines.a]
+workers = 1
+functions = [\"x\"]
+";
+
+const STATUS: &[u8] = b"x\t0\t0\t0\n.\n";
+
+const REPORT: &[u8] = b"report 1
+backlog 0
+work a/0 x
+end
+";
+
+/// The most bytes that an input may have.
+const LIMIT: usize = 16_777_216;
+
+/// A source that fails at its first read.
+fn broken(alloc: Global) -> Script
+    ensures { result.take_failures ≡ 0 }
+{
+    let mut script = Script::new(alloc);
+    script.fail_take(1);
+    script
+}
+
+/// A source that gives a text after so many lulls.
+fn after(alloc: Global, lulls: u32, text: &[u8]) -> Result<Script, AllocError>
+    ensures { IfOk result (λ script. script.take_failures ≡ 0) }
+{
+    let mut script = Script::new(alloc);
+    for _ in 0..lulls {
+        script.lull()?;
+    }
+    script.piece(text)?;
+    Ok(script)
+}
+
+/// The exit of `plan` on this source.
+fn plan_on(alloc: Global, settings: &[u8], lost: &[&str], mut source: Script) -> Exit
+    requires { source.take_failures ≡ 0 }
+{
+    let mut sink = Script::new(alloc);
+    plan_text(alloc, settings, lost, &mut source, &mut sink)
+}
+
+/// The exit of `check` on this source.
+fn check_on(
+    alloc: Global,
+    settings: &[u8],
+    status: &[u8],
+    lost: &[&str],
+    mut source: Script,
+) -> Exit
+    requires { source.take_failures ≡ 0 }
+{
+    let mut sink = Script::new(alloc);
+    check_text(alloc, settings, status, lost, &mut source, &mut sink)
+}
+
+/// The exit of `check` on the report, after so many lulls.
+fn check_after(alloc: Global, lulls: u32) -> Result<Exit, AllocError> {
+    let source = after(alloc, lulls, REPORT)?;
+    Ok(check_on(alloc, SETTINGS, STATUS, &[], source))
+}
+
+/// Whether a sink that takes so many bytes one by one, and then fails, has got them of the verdict.
+fn check_fails_after(alloc: Global, sent: u32) -> bool {
+    let mut source = SliceSource::new(REPORT);
+    let mut sink = Script::new(alloc);
+    sink.give_at_most(1);
+    sink.fail_give(u64::from(sent) + 1);
+    let exit = check_text(alloc, SETTINGS, STATUS, &[], &mut source, &mut sink);
+    exit == Exit::refused(Fault::WriteFault)
+        && b"shown\n".get(..sent as usize) == Some(sink.output())
+}
+
+#[test]
+fn plan_looks_at_its_source_last(rt: HostRuntime) {
+    let alloc = rt.alloc();
+    let version = Fault::Settings(SettingsError::Version);
+    let unknown = Fault::UnknownWorker;
+    assert!(rt; plan_on(alloc, b"", &["c/0"], broken(alloc)) == Exit::refused(version));
+    assert!(rt; plan_on(alloc, SETTINGS, &["c/0"], broken(alloc)) == Exit::refused(unknown));
+    let failed = Fault::ReadFault;
+    assert!(rt; plan_on(alloc, SETTINGS, &[], broken(alloc)) == Exit::refused(failed));
+}
+
+#[test]
+fn check_looks_at_its_source_last(rt: HostRuntime) {
+    let alloc = rt.alloc();
+    let version = Fault::Settings(SettingsError::Version);
+    let unknown = Fault::UnknownWorker;
+    assert!(rt; check_on(alloc, b"", b"", &["c/0"], broken(alloc)) == Exit::refused(version));
+    assert!(rt; check_on(alloc, SETTINGS, b"", &["c/0"], broken(alloc)) == Exit::refused(unknown));
+    let cut = Fault::Status(StatusError::Truncated);
+    assert!(rt; check_on(alloc, SETTINGS, b"", &[], broken(alloc)) == Exit::refused(cut));
+    let failed = Fault::ReadFault;
+    assert!(rt; check_on(alloc, SETTINGS, STATUS, &[], broken(alloc)) == Exit::refused(failed));
+}
+
+#[test]
+fn check_waits_out_64_lulls(rt: HostRuntime) {
+    let alloc = rt.alloc();
+    assert!(rt; check_after(alloc, 64) == Ok(Exit::answered(0)));
+    assert!(rt; check_after(alloc, 65) == Ok(Exit::refused(Fault::ReadFault)));
+}
+
+#[test]
+fn check_tells_each_failed_write(rt: HostRuntime) {
+    let alloc = rt.alloc();
+    assert!(rt; (0..6).all(|sent| check_fails_after(alloc, sent)));
+}
+
+/// The exit of `check` on a report of so many bytes, all of one line that does not end.
+fn check_long(alloc: Global, len: usize) -> Result<Exit, AllocError> {
+    let report = vec![in alloc; b'x'; len]?;
+    let mut source = SliceSource::new(&report);
+    let mut sink = Script::new(alloc);
+    Ok(check_text(alloc, SETTINGS, STATUS, &[], &mut source, &mut sink))
+}
+
+#[test]
+fn check_takes_reports_up_to_the_limit(rt: HostRuntime) {
+    let alloc = rt.alloc();
+    let cut = Fault::Report(ReadError::Truncated);
+    assert!(rt; check_long(alloc, LIMIT) == Ok(Exit::refused(cut)));
+    assert!(rt; check_long(alloc, LIMIT + 1) == Ok(Exit::refused(Fault::TooLong)));
+}
+
+/// Whether the status text is read where no more than so many bytes may be taken. The limit of `plan`, 16,777,216
+/// bytes, is too far for a test of a text that is right up to there.
+fn is_read_within(alloc: Global, limit: u64) -> Option<bool> {
+    match read_status_within(alloc, &mut SliceSource::new(STATUS), limit) {
+        Ok(load) => Some(load.is_some()),
+        Err(_) => None,
+    }
+}
+
+#[test]
+fn status_texts_up_to_a_limit(rt: HostRuntime) {
+    let alloc = rt.alloc();
+    let len = STATUS.len() as u64;
+    assert!(rt; is_read_within(alloc, len) == Some(true));
+    assert!(rt; is_read_within(alloc, len - 1) == Some(false));
+    assert!(rt; is_read_within(alloc, 0) == Some(false));
+}
