@@ -5,23 +5,24 @@ use Rattle.std.proofs.lemmas.List.{get_or-set_other, get_or_append_left}
 use Rattle.std.proofs.lemmas.List.Elements.{filter_map-append}
 use Rattle.std.proofs.lemmas.Grind.{get_or-set_at}
 use Rattle.std.proofs.lemmas.Bool.{eqb-true, eq-eqb, false≢true}
-use Rattle.pool_settings.specs.Profile.{Profile, IsProfile}
+use Rattle.pool_settings.specs.Profile.{Profile}
 use Rattle.plan_model.specs.declared.answer.Answer.TheVariants as answers
 use Rattle.worker_state.specs.declared.slot.Slot.{Slot}
 use Rattle.worker_state.specs.declared.slot.Slot.TheVariants.{Empty, Live}
 use Rattle.worker_state.specs.declared.slot.WorkerName.{WorkerName}
 use Rattle.worker_state.specs.declared.cause.Cause.{Cause}
+use Rattle.worker_state.specs.declared.job.EndKind.{EndKind}
 use Rattle.worker_state.specs.declared.job.Standing.{Standing}
 use Rattle.worker_state.specs.declared.job.Standing.TheVariants as standing
 use Rattle.worker_state.specs.Slots.{last_generation, ticket_of, runs_of}
 use Rattle.pool_core.specs.declared.event.Event.{Event}
 use Rattle.pool_core.specs.declared.event.Event.TheVariants as event
-use Rattle.pool_core.specs.Machine.{State, first, slot_in, standing_in, replay, IsHistory, IsPossible, after, with_lost, is_live_in, open_ticket, slot_after_run}
-use Rattle.pool_core.specs.Kept.{IsSound, OpensAt}
+use Rattle.pool_core.specs.Machine.{State, first, slot_in, standing_in, replay, IsHistory, IsPossible, after, with_lost, open_ticket, slot_after_run}
+use Rattle.pool_core.specs.Kept.{OpensAt}
 use Rattle.pool_core.specs.Laws.{grabber_of, grabbers, JobsAreLostWithTheirWorkers}
 use Rattle.pool_core.proofs.Tables.{standing_given, opens_elsewhere, opens_here}
-use Rattle.pool_core.proofs.Sound.{sound_after, generation_last, worker_within, run_none}
-use Rattle.pool_core.proofs.Lasting.{standing_from, sound_first, length-with_lost, none_open}
+use Rattle.pool_core.proofs.Sound.{generation_last, worker_within, run_none}
+use Rattle.pool_core.proofs.Lasting.{standing_from, length-with_lost, none_open}
 
 -- the worker that a slot with this content had last
 abbrev named : ℕ → Slot → WorkerName
@@ -117,7 +118,7 @@ grabbed_begin rules by state w j g =
       lost = λ k v cause is. elim (stood state.standings (j - 1) standing.Reporting k (standing.Lost v cause) is) [ inl t ↦ absurd (let e = t.1 in cc) | inr t ↦ g.lost k v cause t ];
     }
 
-grabbed_reported : (rules : Profile) (by : List WorkerName) (state : State) (w : WorkerName) (j : ℕ) (end : _) → AreGrabbed by state → IsPossible rules (event.Reported w j end) state → AreGrabbed by (after rules (event.Reported w j end) state)
+grabbed_reported : (rules : Profile) (by : List WorkerName) (state : State) (w : WorkerName) (j : ℕ) (end : EndKind) → AreGrabbed by state → IsPossible rules (event.Reported w j end) state → AreGrabbed by (after rules (event.Reported w j end) state)
 grabbed_reported rules by state w j end g p =
     record {
       many = g.many ∙ sym (length-set state.standings (j - 1) (standing.Reported end));

@@ -11,6 +11,7 @@ use Rattle.worker_state.specs.declared.order.What.{What}
 use Rattle.worker_state.specs.declared.slot.Slot.{Slot}
 use Rattle.worker_state.specs.declared.slot.Slot.TheVariants.{Empty, Live}
 use Rattle.worker_state.specs.Orders.{no_order, IsOrder, IsWithin}
+use Rattle.worker_state.specs.Limits.{max_generation}
 use Rattle.worker_state.specs.Slots.{is_live, last_generation}
 use Rattle.pool_core.specs.Machine.{ordered, orders_from, same_what, what_of}
 use Rattle.pool_core.specs.Walk.{live_from}
@@ -35,7 +36,7 @@ what_within : (i : Instance) → All (λ row. All (λ g. g < 1024) row) i.may �
 what_within i rows machine None h = tt
 what_within i rows machine (Some f) h = rows_below i.may machine f 1024 rows h
 
-order_within : (what : What) (round : ℕ) (slot : Slot) (order : Order) → IsOrder order → last_generation slot ≤ 262143 → (is_live slot ≡ true → IsWithin what) → IsOrder (ordered what round slot order)
+order_within : (what : What) (round : ℕ) (slot : Slot) (order : Order) → IsOrder order → last_generation slot ≤ max_generation → (is_live slot ≡ true → IsWithin what) → IsOrder (ordered what round slot order)
 order_within what round (Empty last) order h few known = h
 order_within what round (Live generation runs ticket) order h few known =
     cond_both ((order.generation == generation) && same_what order.what what) order (record { generation = generation; round = round; what = what }) IsOrder (λ e. h) (λ e. record { generation = few; function = known refl })
@@ -47,7 +48,7 @@ walk_parts p false worker rest h = (λ e. absurd (false≢true e), h)
 
 orders_within : (i : Instance) → All (λ row. All (λ g. g < 1024) row) i.may → (plan : List (ℕ × Option ℕ)) (round number : ℕ) (slots : List Slot) (machines : List ℕ) (orders : List Order) → length slots ≡ length machines
     → list_all (λ worker. may_have i worker.1 (assigned plan worker.0)) (live_from number machines slots) ≡ true
-    → ((s : ℕ) → last_generation (get_or slots s (Empty 0)) ≤ 262143) → ((s : ℕ) → IsOrder (get_or orders s no_order))
+    → ((s : ℕ) → last_generation (get_or slots s (Empty 0)) ≤ max_generation) → ((s : ℕ) → IsOrder (get_or orders s no_order))
     → (s : ℕ) → IsOrder (get_or (orders_from number plan round slots orders) s no_order)
 orders_within i rows plan round number [] machines orders e h few known s = known s
 orders_within i rows plan round number (slot ∷ slots) [] orders e h few known s = absurd (omega arith)
@@ -62,7 +63,7 @@ orders_within i rows plan round number (slot ∷ slots) (machine ∷ machines) (
 -- the orders after a round with a plan
 pub ranges_after : (rules : Profile) → IsProfile rules → (i : Instance) → i.may ≡ rules.may → (slots : List Slot) → length slots ≡ slot_count rules → i.live ≡ live_workers rules (map is_live slots)
     → (plan : List (ℕ × Option ℕ)) (round : ℕ) (orders : List Order) → is_permitted i (assigned plan) ≡ true
-    → ((s : ℕ) → last_generation (get_or slots s (Empty 0)) ≤ 262143) → ((s : ℕ) → IsOrder (get_or orders s no_order))
+    → ((s : ℕ) → last_generation (get_or slots s (Empty 0)) ≤ max_generation) → ((s : ℕ) → IsOrder (get_or orders s no_order))
     → (s : ℕ) → IsOrder (get_or (orders_from 0 plan round slots orders) s no_order)
 ranges_after rules r i may slots long live plan round orders permitted few known =
     let rows : All (λ row. All (λ g. g < 1024) row) rules.may = λ k d within j e inside. omega (arith, r.may_within k d within j e inside, r.functions_few) in

@@ -1,10 +1,11 @@
 -- Where no refusal is due the event is possible.
-use Rattle.std.proofs.Common.{◌≡◌, ℕ, ◌+◌, ◌-◌, ◌^◌, ◌<◌, ◌≤◌, Bool, true, false, length, Option, None, Some, refl, sym}
+use Rattle.std.proofs.Common.{◌≡◌, ℕ, ◌+◌, ◌-◌, ◌<◌, ◌≤◌, Bool, true, false, length, Option, None, Some, refl, sym}
 use Rattle.std.specs.Prelude.{◌&&◌, nat_lt, if◌then◌else◌, is_some}
 use Rattle.std.proofs.lemmas.Bool.{false≢true, and_parts, leb-true, ltb-true}
 use Rattle.worker_state.specs.declared.slot.WorkerName.{WorkerName}
 use Rattle.worker_state.specs.declared.job.Standing.{Standing}
 use Rattle.worker_state.specs.declared.job.Standing.TheVariants as standing
+use Rattle.worker_state.specs.Limits.{max_generation, max_tickets}
 use Rattle.worker_state.specs.Slots.{is_live, last_generation}
 use Rattle.pool_core.specs.declared.error.BeginError.TheVariants as begin
 use Rattle.pool_core.specs.declared.error.ReportError.TheVariants as report
@@ -60,10 +61,10 @@ none_is (Some x) h = absurd (false≢true (sym h))
 
 -- a grab is possible, and there is room for it and the two that close it
 pub grab_possible : (book : Book) (w : WorkerName) → grab_refusal book w ≡ None
-    → (is_live_in book.state w ≡ true) × (open_ticket book.state w ≡ None) × (length book.events + owed book.state + 3 ≤ book.rules.history) × (length book.state.standings < 2 ^ 64 - 1)
+    → (is_live_in book.state w ≡ true) × (open_ticket book.state w ≡ None) × (length book.events + owed book.state + 3 ≤ book.rules.history) × (length book.state.standings < max_tickets)
 grab_possible book w h =
-    let t = full_or (is_live_in book.state w) (is_some (open_ticket book.state w)) (has_room book 3 && nat_lt (length book.state.standings) (2 ^ 64 - 1)) grab.Gone grab.Busy grab.HistoryFull h in
-    let u = and_parts (has_room book 3) (nat_lt (length book.state.standings) (2 ^ 64 - 1)) t.2 in
+    let t = full_or (is_live_in book.state w) (is_some (open_ticket book.state w)) (has_room book 3 && nat_lt (length book.state.standings) max_tickets) grab.Gone grab.Busy grab.HistoryFull h in
+    let u = and_parts (has_room book 3) (nat_lt (length book.state.standings) max_tickets) t.2 in
     (t.0, none_is (open_ticket book.state w) t.1, leb-true _ _ u.0, ltb-true _ _ u.1)
 
 used_or : {R : Type 0} (a b c : Bool) (x y z : R) → (if a then Some x else if b then (if c then None else Some z) else Some y) ≡ None → (a ≡ false) × (b ≡ true) × (c ≡ true)
@@ -73,9 +74,9 @@ used_or false false c x y z h = absurd (cc)
 used_or true b c x y z h = absurd (cc)
 
 pub join_possible : (book : Book) (slot : ℕ) → join_refusal book slot ≡ None
-    → (is_live (slot_in book.state.slots slot) ≡ false) × (last_generation (slot_in book.state.slots slot) < 262143) × (length book.events + owed book.state + 2 ≤ book.rules.history)
+    → (is_live (slot_in book.state.slots slot) ≡ false) × (last_generation (slot_in book.state.slots slot) < max_generation) × (length book.events + owed book.state + 2 ≤ book.rules.history)
 join_possible book slot h =
-    let t = used_or (is_live (slot_in book.state.slots slot)) (nat_lt (last_generation (slot_in book.state.slots slot)) 262143) (has_room book 2) join.AlreadyLive join.GenerationsUsed join.HistoryFull h in
+    let t = used_or (is_live (slot_in book.state.slots slot)) (nat_lt (last_generation (slot_in book.state.slots slot)) max_generation) (has_room book 2) join.AlreadyLive join.GenerationsUsed join.HistoryFull h in
     (t.0, ltb-true _ _ t.1, leb-true _ _ t.2)
 
 gone_or : {R : Type 0} (a : Bool) (x : R) → (if a then None else Some x) ≡ None → a ≡ true

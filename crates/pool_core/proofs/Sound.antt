@@ -18,6 +18,7 @@ use Rattle.worker_state.specs.declared.cause.Cause.{Cause}
 use Rattle.worker_state.specs.declared.job.EndKind.{EndKind}
 use Rattle.worker_state.specs.declared.job.Standing.{Standing}
 use Rattle.worker_state.specs.declared.job.Standing.TheVariants as standing
+use Rattle.worker_state.specs.Limits.{max_generation}
 use Rattle.worker_state.specs.Slots.{ticket_of, is_open, last_generation, runs_of}
 use Rattle.pool_core.specs.declared.event.Event.TheVariants as event
 use Rattle.pool_core.specs.Machine.{State, has_generation, slot_in, is_live_in, open_ticket, after, IsPossible, slot_after_run, with_lost, orders_from, after_round, input_of}
@@ -97,7 +98,7 @@ sound_join rules state slot some h p =
       grab_times = h.grab_times;
       orders = length-set state.orders slot _ ∙ h.orders;
       assignments = h.assignments;
-      generations = λ s. at_set (λ x. last_generation x ≤ 262143) state.slots slot new (Empty 0) s (h.generations s) (omega (arith, p.2));
+      generations = λ s. at_set (λ x. last_generation x ≤ max_generation) state.slots slot new (Empty 0) s (h.generations s) (omega (arith, p.2));
       ranges = λ s. at_set IsOrder state.orders slot _ no_order s (h.ranges s) (record { generation = omega (arith, p.2); function = tt });
       runs = λ s. at_set (λ x. runs_of x < rules.max_runs) state.slots slot new (Empty 0) s (h.runs s) some;
       tickets = λ s k o. h.tickets s k (opens_elsewhere state.slots slot new s k p.0 refl o).1;
@@ -126,7 +127,7 @@ sound_begin rules state w k h p =
 runs_there : (rules : Profile) (state : State) → IsSound rules state → (slot : ℕ) → runs_of (slot_in state.slots slot) < rules.max_runs
 runs_there rules state h slot = h.runs slot
 
-generation_there : (rules : Profile) (state : State) → IsSound rules state → (w : WorkerName) → is_live_in state w ≡ true → w.generation ≤ 262143
+generation_there : (rules : Profile) (state : State) → IsSound rules state → (w : WorkerName) → is_live_in state w ≡ true → w.generation ≤ max_generation
 generation_there rules state h w live =
     omega (arith, generation_last (slot_in state.slots w.slot) w.generation live, h.generations w.slot)
 
@@ -154,7 +155,7 @@ sound_grab rules state w handle function now h live idle =
       grab_times = length-set state.grab_times w.slot now ∙ h.grab_times;
       orders = h.orders;
       assignments = omega (arith, h.assignments, length-append state.assignments (record { handle = handle; function = function } ∷ []), length-append state.standings (standing.Running ∷ []));
-      generations = λ s. at_set (λ x. last_generation x ≤ 262143) state.slots w.slot new (Empty 0) s (h.generations s) (generation_there rules state h w live);
+      generations = λ s. at_set (λ x. last_generation x ≤ max_generation) state.slots w.slot new (Empty 0) s (h.generations s) (generation_there rules state h w live);
       ranges = h.ranges;
       runs = λ s. at_set (λ x. runs_of x < rules.max_runs) state.slots w.slot new (Empty 0) s (h.runs s) (runs_there rules state h w.slot);
       tickets = λ s k o. elim (opens_here state.slots w.slot new s k o) [
@@ -185,7 +186,7 @@ sound_grab rules state w handle function now h live idle =
         (t.0, opens_still state.slots w.slot _ t.0 k (holds_none state.slots w.slot t.0 k idle t.1) t.1)
 
 -- a slot that is given up, with its ticket's standing
-cleared : (rules : Profile) (state : State) (slot : ℕ) (new : Slot) (k : ℕ) (y : Standing) → IsSound rules state → slot < length state.slots → ticket_of new ≡ None → last_generation new ≤ 262143 → runs_of new < rules.max_runs → is_open y ≡ false → OpensAt state.slots slot k
+cleared : (rules : Profile) (state : State) (slot : ℕ) (new : Slot) (k : ℕ) (y : Standing) → IsSound rules state → slot < length state.slots → ticket_of new ≡ None → last_generation new ≤ max_generation → runs_of new < rules.max_runs → is_open y ≡ false → OpensAt state.slots slot k
     → IsSound rules (record state { slots = set state.slots slot new; standings = set state.standings (k - 1) y })
 cleared rules state slot new k y h within none generation runs closed own =
     record {
@@ -193,7 +194,7 @@ cleared rules state slot new k y h within none generation runs closed own =
       grab_times = h.grab_times;
       orders = h.orders;
       assignments = h.assignments ∙ sym (length-set state.standings (k - 1) y);
-      generations = λ s. at_set (λ x. last_generation x ≤ 262143) state.slots slot new (Empty 0) s (h.generations s) generation;
+      generations = λ s. at_set (λ x. last_generation x ≤ max_generation) state.slots slot new (Empty 0) s (h.generations s) generation;
       ranges = h.ranges;
       runs = λ s. at_set (λ x. runs_of x < rules.max_runs) state.slots slot new (Empty 0) s (h.runs s) runs;
       tickets = λ s j o.
@@ -208,7 +209,7 @@ cleared rules state slot new k y h within none generation runs closed own =
     }
 
 -- a slot that is given up without a ticket
-cleared_idle : (rules : Profile) (state : State) (slot : ℕ) (new : Slot) → IsSound rules state → slot < length state.slots → ticket_of new ≡ None → last_generation new ≤ 262143 → runs_of new < rules.max_runs → ticket_of (slot_in state.slots slot) ≡ None
+cleared_idle : (rules : Profile) (state : State) (slot : ℕ) (new : Slot) → IsSound rules state → slot < length state.slots → ticket_of new ≡ None → last_generation new ≤ max_generation → runs_of new < rules.max_runs → ticket_of (slot_in state.slots slot) ≡ None
     → IsSound rules (record state { slots = set state.slots slot new })
 cleared_idle rules state slot new h within none generation runs idle =
     record {
@@ -216,7 +217,7 @@ cleared_idle rules state slot new h within none generation runs idle =
       grab_times = h.grab_times;
       orders = h.orders;
       assignments = h.assignments;
-      generations = λ s. at_set (λ x. last_generation x ≤ 262143) state.slots slot new (Empty 0) s (h.generations s) generation;
+      generations = λ s. at_set (λ x. last_generation x ≤ max_generation) state.slots slot new (Empty 0) s (h.generations s) generation;
       ranges = h.ranges;
       runs = λ s. at_set (λ x. runs_of x < rules.max_runs) state.slots slot new (Empty 0) s (h.runs s) runs;
       tickets = λ s j o. h.tickets s j (opens_elsewhere state.slots slot new s j within none o).1;

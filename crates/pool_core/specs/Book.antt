@@ -1,11 +1,12 @@
 -- What contracts see of a pool, and what its calls answer.
-use Rattle.std.specs.Prelude.{◌≡◌, ℕ, ◌+◌, ◌-◌, ◌^◌, ◌&&◌, nat_lt, nat_le, List, [], ◌∷◌, ◌++◌, length, Option, None, Some, Result, Ok, Err, is_some, Bool, true, false, not, if◌then◌else◌, slice_index, count_by, IfSome}
+use Rattle.std.specs.Prelude.{◌≡◌, ℕ, ◌+◌, ◌&&◌, nat_lt, nat_le, List, [], ◌∷◌, ◌++◌, length, Option, None, Some, Result, Ok, Err, is_some, Bool, true, false, not, if◌then◌else◌, slice_index, count_by, IfSome}
 use Rattle.pool_settings.specs.Profile.{Profile}
 use Rattle.worker_state.specs.declared.slot.Slot.{Slot}
 use Rattle.worker_state.specs.declared.order.Order.{Order}
 use Rattle.worker_state.specs.declared.slot.WorkerName.{WorkerName}
 use Rattle.worker_state.specs.declared.job.Standing.{Standing}
 use Rattle.worker_state.specs.declared.job.Standing.TheVariants as standing
+use Rattle.worker_state.specs.Limits.{max_generation, max_rounds, max_chapters, max_tickets}
 use Rattle.worker_state.specs.Slots.{is_live, last_generation, runs_of, is_open, is_reported, is_lost}
 use Rattle.pool_core.specs.declared.event.Event.{Event}
 use Rattle.pool_core.specs.declared.error.JoinError.{JoinError}
@@ -65,7 +66,7 @@ has_room book q = nat_le (length book.events + owed book.state + q) book.rules.h
 abbrev pub join_refusal : Book → ℕ → Option JoinError
 join_refusal book slot =
     if is_live (slot_in book.state.slots slot) then Some join.AlreadyLive
-    else if nat_lt (last_generation (slot_in book.state.slots slot)) 262143
+    else if nat_lt (last_generation (slot_in book.state.slots slot)) max_generation
     then (if has_room book 2 then None else Some join.HistoryFull)
     else Some join.GenerationsUsed
 
@@ -73,7 +74,7 @@ abbrev pub grab_refusal : Book → WorkerName → Option GrabError
 grab_refusal book worker =
     if is_live_in book.state worker
     then (if is_some (open_ticket book.state worker) then Some grab.Busy
-    else if has_room book 3 && nat_lt (length book.state.standings) (2 ^ 64 - 1) then None
+    else if has_room book 3 && nat_lt (length book.state.standings) max_tickets then None
     else Some grab.HistoryFull)
     else Some grab.Gone
 
@@ -177,7 +178,7 @@ moved_in (slot ∷ slots) (o ∷ old) (n ∷ new) =
 
 -- a round is admitted
 abbrev pub has_round : Book → Bool
-has_round book = has_room book 1 && nat_lt book.state.rounds (2 ^ 32 - 1)
+has_round book = has_room book 1 && nat_lt book.state.rounds max_rounds
 
 abbrev pub round_refusal : Book → Option RoundError
 round_refusal book =
@@ -227,7 +228,7 @@ Adopts book input (Err adopt.HistoryFull) = IsInput book input × (has_round boo
 Adopts book input (Err adopt.Memory) = IsInput book input × (has_round book ≡ true)
 
 abbrev pub chapter_refusal : Book → Option ChapterError
-chapter_refusal book = if nat_lt book.chapters (2 ^ 32 - 1) then None else Some chapter.ChaptersUsed
+chapter_refusal book = if nat_lt book.chapters max_chapters then None else Some chapter.ChaptersUsed
 
 abbrev pub chapter_due : {A : Type 0} → Result A ChapterError → Option ChapterError
 chapter_due (Ok x) = None

@@ -7,6 +7,7 @@ use Rattle.worker_state.specs.declared.slot.Slot.TheVariants.{Empty}
 use Rattle.worker_state.specs.declared.job.Standing.{Standing}
 use Rattle.worker_state.specs.declared.job.Standing.TheVariants.{Running}
 use Rattle.worker_state.specs.Orders.{no_order, IsOrder}
+use Rattle.worker_state.specs.Limits.{max_generation}
 use Rattle.worker_state.specs.Slots.{last_generation, runs_of, ticket_of, is_open, is_reported, is_lost, closing_events}
 use Rattle.pool_core.specs.declared.event.Event.{Event}
 use Rattle.pool_core.specs.Machine.{State, first, Replays, owed}
@@ -27,7 +28,7 @@ pub record IsSound (rules : Profile) (state : State) : Type 0 where
   pub grab_times : length state.grab_times ≡ slot_count rules
   pub orders : length state.orders ≡ slot_count rules
   pub assignments : length state.assignments ≡ length state.standings
-  pub generations : (s : ℕ) → last_generation (slice_index_or state.slots s (Empty 0)) ≤ 262143
+  pub generations : (s : ℕ) → last_generation (slice_index_or state.slots s (Empty 0)) ≤ max_generation
   pub ranges : (s : ℕ) → IsOrder (slice_index_or state.orders s no_order)
   pub runs : (s : ℕ) → runs_of (slice_index_or state.slots s (Empty 0)) < rules.max_runs
   pub tickets : (s : ℕ) (k : ℕ) → OpensAt state.slots s k → IsOpen state.standings k

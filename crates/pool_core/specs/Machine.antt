@@ -17,6 +17,7 @@ use Rattle.worker_state.specs.declared.order.What.TheVariants.{Idle, Work, Stop}
 use Rattle.worker_state.specs.declared.cause.Cause.{Cause}
 use Rattle.worker_state.specs.declared.job.Standing.{Standing}
 use Rattle.worker_state.specs.declared.job.Standing.TheVariants as standing
+use Rattle.worker_state.specs.Limits.{max_generation}
 use Rattle.worker_state.specs.Slots.{is_live, last_generation, runs_of, ticket_of, closing_events}
 use Rattle.worker_state.specs.Orders.{no_order}
 use Rattle.pool_core.specs.declared.event.Assignment.{Assignment}
@@ -88,7 +89,7 @@ input_of rules state load = instance_of rules (map is_live state.slots) (waiting
 abbrev pub IsPossible : Profile → Event → State → Type 0
 IsPossible rules (event.Join slot) state =
     (slot < length state.slots) × (is_live (slot_in state.slots slot) ≡ false)
-    × (last_generation (slot_in state.slots slot) < 262143)
+    × (last_generation (slot_in state.slots slot) < max_generation)
 IsPossible rules (event.Load load) state = Unit {0}
 IsPossible rules (event.Round answer) state =
     (load : List Line) × (state.load ≡ Some load) × IsInstance (input_of rules state load) × Shown (input_of rules state load) answer

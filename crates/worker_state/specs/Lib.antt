@@ -1,3 +1,4 @@
+pub mod Limits
 pub mod Slots
 pub mod Orders
 pub mod Causes

@@ -1,5 +1,6 @@
 -- The order before any round, and the ranges of orders.
-use Rattle.std.specs.Prelude.{ℕ, ◌<◌, ◌≤◌}
+use Rattle.std.specs.Prelude.{◌<◌, ◌≤◌}
+use Rattle.worker_state.specs.Limits.{max_generation}
 use Rattle.worker_state.specs.declared.order.Order.{Order}
 use Rattle.worker_state.specs.declared.order.What.{What}
 use Rattle.worker_state.specs.declared.order.What.TheVariants.{Idle, Work, Stop}
@@ -15,5 +16,5 @@ IsWithin Stop = Unit {0}
 
 -- The ranges of an order: a generation of at most 262,143, and a function below 1,024
 pub record IsOrder (order : Order) : Type 0 where
-  pub generation : order.generation ≤ 262143
+  pub generation : order.generation ≤ max_generation
   pub function : IsWithin order.what

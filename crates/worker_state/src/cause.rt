@@ -1,4 +1,4 @@
-ghost use Rattle.std.specs.Prelude.{◌≡◌, codes};
+ghost use Rattle.std.specs.Prelude.{◌≡◌};
 ghost use Rattle.worker_state.specs.Causes.{cause_number, cause_name};
 
 /// Why a worker was lost.

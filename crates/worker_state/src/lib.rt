@@ -4,12 +4,14 @@
 
 mod cause;
 mod job;
+mod limits;
 mod order;
 mod registration;
 mod slot;
 
 pub use cause::Cause;
 pub use job::{EndKind, Standing, Ticket};
+pub use limits::{MAX_CHAPTERS, MAX_GENERATION, MAX_ROUNDS, MAX_TICKETS};
 pub use order::{Order, What};
 pub use registration::change;
 pub use slot::{Slot, WorkerName};

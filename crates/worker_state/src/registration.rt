@@ -1,4 +1,4 @@
-ghost use Rattle.std.specs.Prelude.{◌≡◌, ◌≤◌, map, List, length};
+ghost use Rattle.std.specs.Prelude.{◌≡◌, map};
 ghost use Rattle.std.specs.Option.{option_map};
 ghost use Rattle.gear_packets.specs.Requests.{packet_of};
 ghost use Rattle.worker_state.specs.Registration.{change_of, seen_name, LeadsTo};

@@ -6,6 +6,7 @@ ghost use Rattle.pool_core.specs.Book.{Book, chapter_due, chapter_refusal, next_
 use super::Pool;
 use crate::error::ChapterError;
 use crate::event::Chapter;
+use worker_state::MAX_CHAPTERS;
 
 impl Pool {
     /// Hands out all events since the last chapter ended. The state is the base of the next chapter: slots, orders, load, jobs,
@@ -20,7 +21,7 @@ impl Pool {
         ensures err { OnErr result (self.new ≡ self.old) }
         ensures refusal { chapter_due result ≡ chapter_refusal self.old }
     {
-        if self.chapters == u32::MAX {
+        if self.chapters == MAX_CHAPTERS {
             return Err(ChapterError::ChaptersUsed);
         }
         let mut fresh = Vec::new(self.alloc);

@@ -12,7 +12,7 @@ use crate::error::{BeginError, GrabError, ReportError};
 use crate::event::{Assignment, Event, FunctionName};
 use crate::table;
 use gear_packets::Handle;
-use worker_state::{EndKind, Slot, Standing, Ticket, WorkerName};
+use worker_state::{EndKind, MAX_TICKETS, Slot, Standing, Ticket, WorkerName};
 
 impl Pool {
     fn grab_refusal(&self, worker: &WorkerName) -> Option<GrabError>
@@ -25,7 +25,7 @@ impl Pool {
         if table::open_in(&slot).is_some() {
             return Some(GrabError::Busy);
         }
-        if self.has_room(3) && (self.standings.len() as u64) < u64::MAX {
+        if self.has_room(3) && (self.standings.len() as u64) < MAX_TICKETS {
             None
         } else {
             Some(GrabError::HistoryFull)

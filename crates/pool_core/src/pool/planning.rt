@@ -1,5 +1,6 @@
 //! Loads and rounds.
-ghost use Rattle.std.specs.Prelude.{◌≡◌, ◌+◌, ◌<◌, ◌-◌, ◌^◌, IsTrue, ◌↔◌, [], ◌∷◌, ◌++◌, IfSome, IfOk, OnOk, OnErr};
+ghost use Rattle.std.specs.Prelude.{◌≡◌, ◌+◌, ◌<◌, IsTrue, ◌↔◌, [], ◌∷◌, ◌++◌, IfSome, IfOk, OnOk, OnErr};
+ghost use Rattle.worker_state.specs.Limits.{max_rounds};
 ghost use Rattle.pool_core.specs.Machine.{input_of, IsPossible};
 ghost use Rattle.plan_model.specs.Planning.{IsInstance};
 ghost use Rattle.plan_model.specs.Shown.{Shown};
@@ -19,6 +20,7 @@ use gear_status::Load;
 use level_search::solve;
 use plan_model::{Answer, Certified, FuncSet, Input, Plan};
 use std::alloc::AllocError;
+use worker_state::MAX_ROUNDS;
 
 impl Pool {
     /// Takes what the server says of its queues, in the place of what it said before. Refused, in this order, as `HistoryFull` or
@@ -41,7 +43,7 @@ impl Pool {
     fn has_round(&self) -> bool
         ensures { result ≡ has_round self.now }
     {
-        self.has_room(1) && self.rounds < u32::MAX
+        self.has_room(1) && self.rounds < MAX_ROUNDS
     }
 
     /// What a round has to plan for now.
@@ -145,7 +147,7 @@ impl Pool {
     fn record(&mut self, answer: Answer) -> Result<Ran, AllocError>
         requires possible { IsPossible self.old.rules (event.Round answer) self.old.state }
         requires room { IsTrue (has_room self.old 1) }
-        requires number { self.old.state.rounds < 2 ^ 32 - 1 }
+        requires number { self.old.state.rounds < max_rounds }
         ensures step { OnOk result (IsStep (event.Round answer) self.old self.new) }
         ensures ran { IfOk result (λ ran. ran ≡ ran_of answer self.old.state) }
         ensures err { OnErr result (self.new ≡ self.old) }
@@ -169,7 +171,7 @@ impl Pool {
     ) -> Result<Ran, AllocError>
         requires possible { IsPossible self.old.rules (event.Round (Planned plan backlog short)) self.old.state }
         requires room { IsTrue (has_room self.old 1) }
-        requires number { self.old.state.rounds < 2 ^ 32 - 1 }
+        requires number { self.old.state.rounds < max_rounds }
         ensures step { OnOk result (IsStep (event.Round (Planned plan backlog short)) self.old self.new) }
         ensures ran { IfOk result (λ ran. ran ≡ ran_of (Planned plan backlog short) self.old.state) }
         ensures err { OnErr result (self.new ≡ self.old) }
@@ -209,7 +211,7 @@ impl Pool {
     fn record_no_plan(&mut self, short: FuncSet) -> Result<Ran, AllocError>
         requires possible { IsPossible self.old.rules (event.Round (NoPlan short)) self.old.state }
         requires room { IsTrue (has_room self.old 1) }
-        requires number { self.old.state.rounds < 2 ^ 32 - 1 }
+        requires number { self.old.state.rounds < max_rounds }
         ensures step { OnOk result (IsStep (event.Round (NoPlan short)) self.old self.new) }
         ensures ran { IfOk result (λ ran. ran ≡ ran_of (NoPlan short) self.old.state) }
         ensures err { OnErr result (self.new ≡ self.old) }

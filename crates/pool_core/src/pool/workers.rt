@@ -12,7 +12,7 @@ use crate::error::{ExpireError, JoinError, LoseError};
 use crate::event::Event;
 use crate::table;
 use plan_model::SlotId;
-use worker_state::{Cause, Order, Slot, What, WorkerName};
+use worker_state::{Cause, MAX_GENERATION, Order, Slot, What, WorkerName};
 
 impl Pool {
     fn join_refusal(&self, slot: SlotId) -> Option<JoinError>
@@ -22,7 +22,7 @@ impl Pool {
         if table::lives(&held) {
             return Some(JoinError::AlreadyLive);
         }
-        if table::last_of(&held) >= 262143 {
+        if table::last_of(&held) >= MAX_GENERATION {
             return Some(JoinError::GenerationsUsed);
         }
         if !self.has_room(2) {

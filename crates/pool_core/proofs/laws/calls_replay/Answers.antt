@@ -1,4 +1,4 @@
-use Rattle.std.proofs.Common.{◌≡◌, sym, ap, subst, List, [], ◌∷◌, ◌++◌, ◌∙◌, inl, inr, append_assoc, append-nil}
+use Rattle.std.proofs.Common.{sym, ap, subst, List, [], ◌∷◌, ◌++◌, ◌∙◌, inl, inr, append_assoc, append-nil}
 use Rattle.pool_core.specs.declared.event.Event.{Event}
 use Rattle.pool_core.specs.Machine.{State, Replays, after}
 use Rattle.pool_core.specs.Book.{Book, IsStep, next_chapter}

@@ -1,4 +1,4 @@
-use Rattle.std.proofs.Common.{◌≡◌, ◌+◌, ◌≤◌, [], ap, ◌∙◌, arith}
+use Rattle.std.proofs.Common.{◌≡◌, [], ap, arith}
 use Rattle.std.specs.Prelude.{vec_capacity}
 use Rattle.pool_core.specs.View.{state_of}
 use Rattle.pool_core.proofs.Calls.{kept_chapter}
