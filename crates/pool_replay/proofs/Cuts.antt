@@ -1,7 +1,8 @@
 -- A text cut at its line feeds.
-use Rattle.std.proofs.Common.{◌≡◌, ℕ, ◌<◌, List, [], ◌∷◌, Bool, true, false, not, length, get_or, take, drop, refl, sym, ap, ◌∙◌, suc, zero, arith}
+use Rattle.std.proofs.Common.{◌≡◌, ℕ, ◌-◌, ◌<◌, length-drop, List, [], ◌∷◌, Bool, true, false, not, length, get_or, take, drop, refl, sym, ap, ◌∙◌, suc, zero, arith}
 use Rattle.std.specs.List.{list_all, slice_split}
 use Rattle.std.proofs.lemmas.Bool.{and_parts}
+use Rattle.std.proofs.lemmas.List.{take_all}
 use Rattle.pool_replay.specs.Transcript.{is_line_feed, lines_of, lines_of_parts}
 
 -- the text has no line feed
@@ -50,3 +51,7 @@ cut_line text i h o at =
 pub last_one : (text : List ℕ) → 0 < length text → is_one_line text ≡ true → lines_of text ≡ text ∷ []
 last_one [] some o = absurd (omega arith)
 last_one (b ∷ text) some o = ap lines_of_parts (one_part (b ∷ text) o)
+
+-- all that is left behind n bytes
+pub rest_taken : (n : ℕ) (text : List ℕ) → take (length text - n) (drop n text) ≡ drop n text
+rest_taken n text = take_all _ (drop n text) (omega (arith, length-drop n text))

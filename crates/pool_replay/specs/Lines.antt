@@ -17,81 +17,20 @@ use Rattle.worker_state.specs.declared.order.Order.{Order}
 use Rattle.worker_state.specs.declared.order.What.{What}
 use Rattle.worker_state.specs.declared.order.What.TheVariants.{Idle, Work, Stop}
 use Rattle.pool_core.specs.declared.error.JoinError.{JoinError}
-use Rattle.pool_core.specs.declared.error.JoinError.TheVariants as join
-use Rattle.pool_core.specs.declared.error.LoadError.{LoadError}
-use Rattle.pool_core.specs.declared.error.LoadError.TheVariants as load
-use Rattle.pool_core.specs.declared.error.RoundError.{RoundError}
-use Rattle.pool_core.specs.declared.error.RoundError.TheVariants as round
 use Rattle.pool_core.specs.declared.error.ViewError.{ViewError}
-use Rattle.pool_core.specs.declared.error.ViewError.TheVariants as view
-use Rattle.pool_core.specs.declared.error.AdoptError.{AdoptError}
-use Rattle.pool_core.specs.declared.error.AdoptError.TheVariants as adopt
 use Rattle.pool_core.specs.declared.error.GrabError.{GrabError}
-use Rattle.pool_core.specs.declared.error.GrabError.TheVariants as grab
-use Rattle.pool_core.specs.declared.error.BeginError.{BeginError}
-use Rattle.pool_core.specs.declared.error.BeginError.TheVariants as begin
 use Rattle.pool_core.specs.declared.error.ReportError.{ReportError}
-use Rattle.pool_core.specs.declared.error.ReportError.TheVariants as report
-use Rattle.pool_core.specs.declared.error.LoseError.{LoseError}
-use Rattle.pool_core.specs.declared.error.LoseError.TheVariants as lose
-use Rattle.pool_core.specs.declared.error.ExpireError.{ExpireError}
-use Rattle.pool_core.specs.declared.error.ExpireError.TheVariants as expire
+use Rattle.pool_core.specs.Refusal.{join_number, join_name, view_number, view_name, grab_number, grab_name, report_number, report_name}
 use Rattle.pool_core.specs.declared.answer.StayOrRetire.{StayOrRetire}
 use Rattle.pool_core.specs.declared.answer.StayOrRetire.TheVariants.{Stay, Retire}
 use Rattle.pool_core.specs.declared.answer.Totals.{Totals}
 use Rattle.pool_core.specs.declared.answer.Ran.{Ran}
 
--- ---- refusals: the number of the refusal in its call, and its name
+-- ---- refusals
 
-abbrev pub join_refused : JoinError → List ℕ
-join_refused join.AlreadyLive = codes "refused 1 AlreadyLive"
-join_refused join.GenerationsUsed = codes "refused 2 GenerationsUsed"
-join_refused join.HistoryFull = codes "refused 3 HistoryFull"
-join_refused join.Memory = codes "refused 4 Memory"
-
-abbrev pub load_refused : LoadError → List ℕ
-load_refused load.HistoryFull = codes "refused 1 HistoryFull"
-load_refused load.Memory = codes "refused 2 Memory"
-
-abbrev pub round_refused : RoundError → List ℕ
-round_refused round.NoLoad = codes "refused 1 NoLoad"
-round_refused round.HistoryFull = codes "refused 2 HistoryFull"
-round_refused round.Memory = codes "refused 3 Memory"
-
-abbrev pub view_refused : ViewError → List ℕ
-view_refused view.NoLoad = codes "refused 1 NoLoad"
-view_refused view.Memory = codes "refused 2 Memory"
-
-abbrev pub adopt_refused : AdoptError → List ℕ
-adopt_refused adopt.NoLoad = codes "refused 1 NoLoad"
-adopt_refused adopt.Stale = codes "refused 2 Stale"
-adopt_refused adopt.HistoryFull = codes "refused 3 HistoryFull"
-adopt_refused adopt.Memory = codes "refused 4 Memory"
-
-abbrev pub grab_refused : GrabError → List ℕ
-grab_refused grab.Gone = codes "refused 1 Gone"
-grab_refused grab.Busy = codes "refused 2 Busy"
-grab_refused grab.HistoryFull = codes "refused 3 HistoryFull"
-grab_refused grab.Memory = codes "refused 4 Memory"
-
-abbrev pub begin_refused : BeginError → List ℕ
-begin_refused begin.Gone = codes "refused 1 Gone"
-begin_refused begin.WrongTicket = codes "refused 2 WrongTicket"
-begin_refused begin.AlreadyReporting = codes "refused 3 AlreadyReporting"
-
-abbrev pub report_refused : ReportError → List ℕ
-report_refused report.Gone = codes "refused 1 Gone"
-report_refused report.WrongTicket = codes "refused 2 WrongTicket"
-report_refused report.NotReporting = codes "refused 3 NotReporting"
-
-abbrev pub lose_refused : LoseError → List ℕ
-lose_refused lose.Gone = codes "refused 1 Gone"
-
-abbrev pub expire_refused : ExpireError → List ℕ
-expire_refused expire.Gone = codes "refused 1 Gone"
-expire_refused expire.NoJob = codes "refused 2 NoJob"
-expire_refused expire.Reporting = codes "refused 3 Reporting"
-expire_refused expire.NotLate = codes "refused 4 NotLate"
+-- the number of a refusal in its call, and its name
+abbrev pub refused : {E : Type 0} → (E → ℕ) → (E → List ℕ) → E → List ℕ
+refused number name e = codes "refused " ++ decimal (number e) ++ codes " " ++ name e
 
 -- these two are refusals of the desk, not of the pool, and have no number
 abbrev pub no_pass : List ℕ
@@ -108,22 +47,22 @@ worker_text p worker =
     if nat_lt worker.slot (slots p) then worker_name p worker.slot ++ codes "#" ++ decimal worker.generation else []
 
 -- `ok`, or the refusal
-abbrev pub ok_line : {A E : Type 0} → (E → List ℕ) → Result A E → List ℕ
-ok_line refused (Ok x) = codes "ok"
-ok_line refused (Err e) = refused e
+abbrev pub ok_line : {A E : Type 0} → (E → ℕ) → (E → List ℕ) → Result A E → List ℕ
+ok_line number name (Ok x) = codes "ok"
+ok_line number name (Err e) = refused number name e
 
 abbrev pub join_line : Profile → Result WorkerName JoinError → List ℕ
 join_line p (Ok worker) = codes "ok " ++ worker_text p worker
-join_line p (Err e) = join_refused e
+join_line p (Err e) = refused join_number join_name e
 
 abbrev pub grab_line : Result ℕ GrabError → List ℕ
 grab_line (Ok ticket) = codes "ok " ++ decimal ticket
-grab_line (Err e) = grab_refused e
+grab_line (Err e) = refused grab_number grab_name e
 
 abbrev pub report_line : Result StayOrRetire ReportError → List ℕ
 report_line (Ok Stay) = codes "ok stay"
 report_line (Ok Retire) = codes "ok retire"
-report_line (Err e) = report_refused e
+report_line (Err e) = refused report_number report_name e
 
 -- a backlog above all numbers of jobs counts what nobody serves
 abbrev pub backlog_words : Option ℕ → List ℕ
@@ -135,9 +74,9 @@ backlog_words (Some backlog) =
 abbrev pub ran_line : Ran → List ℕ
 ran_line ran = codes "ok " ++ decimal ran.number ++ codes " " ++ backlog_words ran.backlog ++ codes " moved " ++ decimal ran.moved
 
-abbrev pub ran_or : {E : Type 0} → (E → List ℕ) → Result Ran E → List ℕ
-ran_or refused (Ok ran) = ran_line ran
-ran_or refused (Err e) = refused e
+abbrev pub ran_or : {E : Type 0} → (E → ℕ) → (E → List ℕ) → Result Ran E → List ℕ
+ran_or number name (Ok ran) = ran_line ran
+ran_or number name (Err e) = refused number name e
 
 abbrev pub backlog_of : Answer → Option ℕ
 backlog_of (answers.Planned plan backlog short) = Some backlog
@@ -145,7 +84,7 @@ backlog_of (answers.NoPlan short) = None
 
 abbrev pub view_line : Result Certificate ViewError → List ℕ
 view_line (Ok viewed) = codes "ok " ++ backlog_words (backlog_of viewed.answer)
-view_line (Err e) = view_refused e
+view_line (Err e) = refused view_number view_name e
 
 abbrev pub job_line : Profile → Option Standing → List ℕ
 job_line p None = codes "none"

@@ -27,13 +27,14 @@ use Rattle.pool_core.specs.declared.error.LoseError.{LoseError}
 use Rattle.pool_core.specs.declared.error.ExpireError.{ExpireError}
 use Rattle.pool_core.specs.declared.answer.StayOrRetire.{StayOrRetire}
 use Rattle.pool_core.specs.declared.answer.Ran.{Ran}
+use Rattle.pool_core.specs.Refusal.{load_number, load_name, round_number, round_name, adopt_number, adopt_name, begin_number, begin_name, lose_number, lose_name, expire_number, expire_name}
 use Rattle.pool_core.specs.Machine.{slot_in, next_ticket, standing_in}
 use Rattle.pool_core.specs.Book.{Book, IsStep, IsInput, Adopts, join_due, join_refusal, load_due, load_refusal, round_due, round_refusal, ran_of, view_due, view_refusal, grab_due, grab_refusal, begin_refusal, report_refusal, stay_or_retire, lose_refusal, expire_refusal, totals_of}
 use Rattle.pool_commands.specs.declared.command.Command.{Command}
 use Rattle.pool_commands.specs.declared.command.Command.TheVariants as command
 use Rattle.pool_replay.specs.declared.desk.Desk.{Desk}
 use Rattle.pool_replay.specs.Passes.{worker_cmp}
-use Rattle.pool_replay.specs.Lines.{ok_line, join_line, load_refused, round_refused, adopt_refused, ran_or, view_line, grab_line, begin_refused, report_line, lose_refused, expire_refused, job_line, order_line, totals_line, no_pass, no_view}
+use Rattle.pool_replay.specs.Lines.{ok_line, join_line, ran_or, view_line, grab_line, report_line, job_line, order_line, totals_line, no_pass, no_view}
 
 -- ---- the calls of the pool, each a relation of the book before, the answer and the book after
 
@@ -118,12 +119,12 @@ Joins p slot old line new =
 
 abbrev pub Loads : List Line → Desk → List ℕ → Desk → Type 0
 Loads load old line new =
-    (result : Result (Unit {0}) LoadError) × CallsLoad old.pool load result new.pool × (line ≡ ok_line load_refused result)
+    (result : Result (Unit {0}) LoadError) × CallsLoad old.pool load result new.pool × (line ≡ ok_line load_number load_name result)
     × (new.passes ≡ old.passes) × (new.viewed ≡ old.viewed)
 
 abbrev pub Rounds : Desk → List ℕ → Desk → Type 0
 Rounds old line new =
-    (result : Result Ran RoundError) × CallsRound old.pool result new.pool × (line ≡ ran_or round_refused result)
+    (result : Result Ran RoundError) × CallsRound old.pool result new.pool × (line ≡ ran_or round_number round_name result)
     × (new.passes ≡ old.passes) × (new.viewed ≡ old.viewed)
 
 abbrev pub Views : Desk → List ℕ → Desk → Type 0
@@ -135,7 +136,7 @@ Views old line new =
 abbrev pub Adopting : Option Certificate → Desk → List ℕ → Desk → Type 0
 Adopting None old line new = Prints no_view old line new
 Adopting (Some viewed) old line new =
-    (result : Result Ran AdoptError) × CallsAdopt old.pool viewed result new.pool × (line ≡ ran_or adopt_refused result)
+    (result : Result Ran AdoptError) × CallsAdopt old.pool viewed result new.pool × (line ≡ ran_or adopt_number adopt_name result)
     × (new.viewed ≡ None) × (new.passes ≡ old.passes)
 
 abbrev pub Grabs : WorkerName → List ℕ → List ℕ → ℕ → Desk → List ℕ → Desk → Type 0
@@ -145,7 +146,7 @@ Grabs worker handle function now old line new =
 
 abbrev pub Begins : WorkerName → ℕ → Desk → List ℕ → Desk → Type 0
 Begins worker ticket old line new =
-    (result : Result (Unit {0}) BeginError) × CallsBegin old.pool worker ticket result new.pool × (line ≡ ok_line begin_refused result)
+    (result : Result (Unit {0}) BeginError) × CallsBegin old.pool worker ticket result new.pool × (line ≡ ok_line begin_number begin_name result)
     × (new.passes ≡ old.passes) × (new.viewed ≡ old.viewed)
 
 abbrev pub Reports : WorkerName → ℕ → EndKind → Desk → List ℕ → Desk → Type 0
@@ -156,13 +157,13 @@ Reports worker ticket end old line new =
 -- a loss takes the pass, also where it is refused
 abbrev pub Loses : WorkerName → Cause → Desk → List ℕ → Desk → Type 0
 Loses worker cause old line new =
-    (result : Result (Unit {0}) LoseError) × CallsLose old.pool worker cause result new.pool × (line ≡ ok_line lose_refused result)
+    (result : Result (Unit {0}) LoseError) × CallsLose old.pool worker cause result new.pool × (line ≡ ok_line lose_number lose_name result)
     × (new.passes ≡ set.remove old.passes worker) × (new.viewed ≡ old.viewed)
 
 -- this needs no pass
 abbrev pub Expires : WorkerName → ℕ → Desk → List ℕ → Desk → Type 0
 Expires worker now old line new =
-    (result : Result (Unit {0}) ExpireError) × CallsExpire old.pool worker now result new.pool × (line ≡ ok_line expire_refused result)
+    (result : Result (Unit {0}) ExpireError) × CallsExpire old.pool worker now result new.pool × (line ≡ ok_line expire_number expire_name result)
     × (new.passes ≡ old.passes) × (new.viewed ≡ old.viewed)
 
 abbrev pub TellsOrder : Profile → ℕ → Desk → List ℕ → Desk → Type 0

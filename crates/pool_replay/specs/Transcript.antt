@@ -55,3 +55,9 @@ IsTranscript p number desk (line ∷ lines) output how =
     ⊎ ((command : Command) × (answer : List ℕ) × (rest : List ℕ) × (next : Desk)
     × (command_in p line ≡ Some command) × StepOf p command desk answer next
     × (output ≡ ended answer ++ rest) × IsTranscript p (number + 1) next lines rest how)
+
+-- the line is a command, and what it prints was appended
+abbrev pub Answers : Profile → List ℕ → Desk → List ℕ → Desk → List ℕ → Type 0
+Answers p line old before new after =
+    (command : Command) × (answer : List ℕ) × (command_in p line ≡ Some command) × StepOf p command old answer new
+    × (after ≡ before ++ ended answer)

@@ -8,9 +8,8 @@ ghost use Rattle.pool_replay.specs.Lines as spec;
 ghost use Rattle.pool_replay.specs.Step.{Joins, Loads, Rounds, Views, Adopting, Grabs, Begins, Reports, Loses, Expires, TellsOrder, WithPass, StepOf, CallsView, with_joined, with_viewed};
 ghost use Rattle.pool_replay.specs.Transcript.{first_desk};
 
-use crate::lines;
+use crate::lines::{self, NO_PASS, NO_VIEW};
 use crate::passes::Passes;
-use crate::refusals::{NO_PASS, NO_VIEW};
 use bumpalo::Bump;
 use gear_packets::Handle;
 use gear_status::Load;
@@ -37,12 +36,12 @@ pub struct Desk {
 }
 
 impl Desk {
-    /// A pool in which nothing has happened, without passes or a view.
-    pub fn new(alloc: Global, settings: Settings) -> Result<Desk, AllocError>
-        ensures { IfOk result (λ desk. desk ≡ first_desk settings) }
+    /// A pool of these settings in which nothing has happened, without passes or a view.
+    pub fn new(alloc: Global, settings: &Settings) -> Result<Desk, AllocError>
+        ensures { IfOk result (λ desk. desk ≡ first_desk settings.now) }
     {
         Ok(Desk {
-            pool: Pool::new(alloc, settings)?,
+            pool: Pool::new(alloc, settings.copy(alloc)?)?,
             passes: Passes::new(alloc),
             viewed: None,
         })

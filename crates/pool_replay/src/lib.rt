@@ -4,7 +4,9 @@
 mod desk;
 mod lines;
 mod passes;
-mod refusals;
 mod running;
 
 pub use running::{End, Outcome, run};
+
+#[cfg(test)]
+mod tests;

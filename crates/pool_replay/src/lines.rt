@@ -1,12 +1,10 @@
 //! What each command prints, without its line feed.
 
-ghost use Rattle.std.specs.Prelude.{◌≡◌, IfOk, string_bytes};
+ghost use Rattle.std.specs.Prelude.{◌≡◌, ◌++◌, IfOk, codes, string_bytes};
+ghost use Rattle.std.specs.Fmt.{decimal};
+ghost use Rattle.pool_core.specs.Refusal.{load_number, load_name, round_number, round_name, adopt_number, adopt_name, begin_number, begin_name, lose_number, lose_name, expire_number, expire_name};
 ghost use Rattle.pool_replay.specs.Lines as spec;
 
-use crate::refusals::{
-    adopt_refused, begin_refused, expire_refused, grab_refused, join_refused, load_refused,
-    lose_refused, report_refused, round_refused, view_refused,
-};
 use plan_model::{Answer, Certified};
 use pool_core::{
     AdoptError, BeginError, ExpireError, GrabError, JoinError, LoadError, LoseError, Pass, Ran,
@@ -16,6 +14,21 @@ use pool_settings::Settings;
 use std::alloc::{AllocError, Global};
 use std::fmt::Write;
 use worker_state::{EndKind, Order, Standing, Ticket, What, WorkerName};
+
+/// What is printed where a command names a worker that has no pass.
+pub const NO_PASS: &str = "refused NoPass";
+
+/// What is printed where there is no view to adopt.
+pub const NO_VIEW: &str = "refused NoView";
+
+/// A refusal of the pool: its number in its call, and its name.
+fn refused(alloc: Global, number: u32, name: &str) -> Result<String, AllocError>
+    ensures { IfOk result (λ s. string_bytes s ≡ codes "refused " ++ decimal number ++ codes " " ++ name.now) }
+{
+    let mut line = String::new(alloc);
+    write!(line, "refused {number} {name}")?;
+    Ok(line)
+}
 
 /// A worker's name, as `a/0#1`, and the empty text where there is no such slot.
 pub fn worker_text(
@@ -47,43 +60,43 @@ pub fn join_line(
             let worker = worker_text(alloc, settings, &pass.name())?;
             format!(in alloc; "ok {worker}")
         }
-        Err(error) => String::from_str(alloc, join_refused(*error)),
+        Err(error) => refused(alloc, error.number(), error.name()),
     }
 }
 
 pub fn load_line(alloc: Global, answer: Result<(), LoadError>) -> Result<String, AllocError>
-    ensures { IfOk result (λ s. string_bytes s ≡ spec.ok_line spec.load_refused answer) }
+    ensures { IfOk result (λ s. string_bytes s ≡ spec.ok_line load_number load_name answer) }
 {
     match answer {
         Ok(()) => String::from_str(alloc, "ok"),
-        Err(error) => String::from_str(alloc, load_refused(error)),
+        Err(error) => refused(alloc, error.number(), error.name()),
     }
 }
 
 pub fn begin_line(alloc: Global, answer: Result<(), BeginError>) -> Result<String, AllocError>
-    ensures { IfOk result (λ s. string_bytes s ≡ spec.ok_line spec.begin_refused answer) }
+    ensures { IfOk result (λ s. string_bytes s ≡ spec.ok_line begin_number begin_name answer) }
 {
     match answer {
         Ok(()) => String::from_str(alloc, "ok"),
-        Err(error) => String::from_str(alloc, begin_refused(error)),
+        Err(error) => refused(alloc, error.number(), error.name()),
     }
 }
 
 pub fn lose_line(alloc: Global, answer: Result<(), LoseError>) -> Result<String, AllocError>
-    ensures { IfOk result (λ s. string_bytes s ≡ spec.ok_line spec.lose_refused answer) }
+    ensures { IfOk result (λ s. string_bytes s ≡ spec.ok_line lose_number lose_name answer) }
 {
     match answer {
         Ok(()) => String::from_str(alloc, "ok"),
-        Err(error) => String::from_str(alloc, lose_refused(error)),
+        Err(error) => refused(alloc, error.number(), error.name()),
     }
 }
 
 pub fn expire_line(alloc: Global, answer: Result<(), ExpireError>) -> Result<String, AllocError>
-    ensures { IfOk result (λ s. string_bytes s ≡ spec.ok_line spec.expire_refused answer) }
+    ensures { IfOk result (λ s. string_bytes s ≡ spec.ok_line expire_number expire_name answer) }
 {
     match answer {
         Ok(()) => String::from_str(alloc, "ok"),
-        Err(error) => String::from_str(alloc, expire_refused(error)),
+        Err(error) => refused(alloc, error.number(), error.name()),
     }
 }
 
@@ -95,7 +108,7 @@ pub fn grab_line(alloc: Global, answer: Result<Ticket, GrabError>) -> Result<Str
             let number = ticket.number();
             format!(in alloc; "ok {number}")
         }
-        Err(error) => String::from_str(alloc, grab_refused(error)),
+        Err(error) => refused(alloc, error.number(), error.name()),
     }
 }
 
@@ -108,7 +121,7 @@ pub fn report_line(
     match answer {
         Ok(StayOrRetire::Stay) => String::from_str(alloc, "ok stay"),
         Ok(StayOrRetire::Retire) => String::from_str(alloc, "ok retire"),
-        Err(error) => String::from_str(alloc, report_refused(error)),
+        Err(error) => refused(alloc, error.number(), error.name()),
     }
 }
 
@@ -141,20 +154,20 @@ fn ran_line(alloc: Global, ran: &Ran) -> Result<String, AllocError>
 }
 
 pub fn round_line(alloc: Global, answer: Result<Ran, RoundError>) -> Result<String, AllocError>
-    ensures { IfOk result (λ s. string_bytes s ≡ spec.ran_or spec.round_refused answer) }
+    ensures { IfOk result (λ s. string_bytes s ≡ spec.ran_or round_number round_name answer) }
 {
     match answer {
         Ok(ran) => ran_line(alloc, &ran),
-        Err(error) => String::from_str(alloc, round_refused(error)),
+        Err(error) => refused(alloc, error.number(), error.name()),
     }
 }
 
 pub fn adopt_line(alloc: Global, answer: Result<Ran, AdoptError>) -> Result<String, AllocError>
-    ensures { IfOk result (λ s. string_bytes s ≡ spec.ran_or spec.adopt_refused answer) }
+    ensures { IfOk result (λ s. string_bytes s ≡ spec.ran_or adopt_number adopt_name answer) }
 {
     match answer {
         Ok(ran) => ran_line(alloc, &ran),
-        Err(error) => String::from_str(alloc, adopt_refused(error)),
+        Err(error) => refused(alloc, error.number(), error.name()),
     }
 }
 
@@ -175,7 +188,7 @@ pub fn view_line(alloc: Global, answer: &Result<Certified, ViewError>) -> Result
             let backlog = backlog_words(alloc, backlog_of(viewed.answer()))?;
             format!(in alloc; "ok {backlog}")
         }
-        Err(error) => String::from_str(alloc, view_refused(*error)),
+        Err(error) => refused(alloc, error.number(), error.name()),
     }
 }
 

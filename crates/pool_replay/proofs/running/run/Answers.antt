@@ -4,9 +4,10 @@ use Rattle.pool_replay.specs.declared.running.End.TheVariants.{Memory}
 use Rattle.pool_replay.proofs.Ends.{gives_up}
 use Rattle.pool_replay.proofs.running.run.Goals as goal
 
-pub returns : goal.returns
-returns c =
+pub returns-in_default : goal.returns-in_default
+returns-in_default c =
     let p = c.args.settings in
+    let all = lines_of c.args.input.now in
     record {
-      transcript = subst (λ (out : List ℕ). IsTranscript p 1 (first_desk p) (lines_of c.args.input.now) out Memory) (sym c.new.ensures.bytes) (gives_up p 1 (first_desk p) (lines_of c.args.input.now));
+      transcript = subst (λ (out : List ℕ). IsTranscript p 1 (first_desk p) all out Memory) (sym c.new-output.ensures.bytes) (gives_up p 1 (first_desk p) all);
     }

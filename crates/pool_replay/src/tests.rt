@@ -1,0 +1,133 @@
+//! Short scripts, each with its whole output.
+use super::*;
+use pool_settings::Settings;
+use std::alloc::Global;
+use std::process::Abort;
+use std::test::Fail;
+
+/// Machine a with one worker for x, whose jobs may take 5 seconds.
+const ONE: &str =
+    "version = 1\njob_timeout_ms = 5000\n[functions.x]\n[machines.a]\nworkers = 1\nfunctions = [\"x\"]\n";
+
+/// Machine a with one worker for x and y.
+const BOTH: &str =
+    "version = 1\n[functions.x]\n[functions.y]\n[machines.a]\nworkers = 1\nfunctions = [\"x\", \"y\"]\n";
+
+/// Machine a with one worker for x, which needs one.
+const NEEDED: &str =
+    "version = 1\n[functions.x]\nleast = 1\n[machines.a]\nworkers = 1\nfunctions = [\"x\"]\n";
+
+/// Whether these command lines print this, and the run ends so.
+fn prints(
+    alloc: Global,
+    settings: &str,
+    input: &str,
+    output: &str,
+    end: End,
+) -> Result<bool, Fail> {
+    let settings = Settings::read(alloc, settings.as_bytes())
+        .ok()
+        .ok_or("settings")?;
+    let outcome = run(alloc, settings, input.as_bytes());
+    Ok(outcome.output.as_str() == output && outcome.end == end)
+}
+
+#[test]
+fn a_refused_loss_takes_the_pass(rt: HostRuntime) -> Result<(), Fail> {
+    let input =
+        "join a/0\ngrab a/0#1 H:a:1 x 0\nexpire a/0#1 5000\nlose a/0#1 Closed\nlose a/0#1 Closed\nbegin a/0#1 1\n";
+    let output = "ok a/0#1\nok 1\nok\nrefused 1 Gone\nrefused NoPass\nrefused NoPass\n";
+    assert!(rt; prints(rt.alloc(), ONE, input, output, End::Done)?);
+    Ok(())
+}
+
+#[test]
+fn a_pass_outlives_its_worker(rt: HostRuntime) -> Result<(), Fail> {
+    let input =
+        "join a/0\ngrab a/0#1 H:a:1 x 0\nexpire a/0#1 5000\njoin a/0\nbegin a/0#1 1\nbegin a/0#2 1\ngrab a/0#2 H:a:2 x 7\njob 1\njob 2\njob 3\nlose a/0#1 Late\n";
+    let output =
+        "ok a/0#1\nok 1\nok\nok a/0#2\nrefused 1 Gone\nrefused 2 WrongTicket\nok 2\nlost a/0#1 Late\nrunning\nnone\nrefused 1 Gone\n";
+    assert!(rt; prints(rt.alloc(), ONE, input, output, End::Done)?);
+    Ok(())
+}
+
+#[test]
+fn a_view_takes_the_place_of_an_older_one(rt: HostRuntime) -> Result<(), Fail> {
+    let input =
+        "adopt\nview\njoin a/0\nload x 3 0\nview\nload x 5 0\nview\nadopt\nadopt\norder a/0\n";
+    let output =
+        "refused NoView\nrefused 1 NoLoad\nok a/0#1\nok\nok backlog 3\nok\nok backlog 5\nok 1 backlog 5 moved 1\nrefused NoView\nwork x round 1\n";
+    assert!(rt; prints(rt.alloc(), ONE, input, output, End::Done)?);
+    Ok(())
+}
+
+#[test]
+fn a_refused_adoption_spends_the_view(rt: HostRuntime) -> Result<(), Fail> {
+    let input = "join a/0\nload x 3 0\nview\nload x 4 0\nadopt\nadopt\norder a/0\n";
+    let output = "ok a/0#1\nok\nok backlog 3\nok\nrefused 2 Stale\nrefused NoView\nidle\n";
+    assert!(rt; prints(rt.alloc(), ONE, input, output, End::Done)?);
+    Ok(())
+}
+
+#[test]
+fn expiring_needs_no_pass(rt: HostRuntime) -> Result<(), Fail> {
+    let input =
+        "expire a/0#1 9\njoin a/0\nexpire a/0#1 9\nlose a/0#1 Stopped\nexpire a/0#1 9\ntotals\n";
+    let output =
+        "refused 1 Gone\nok a/0#1\nrefused 2 NoJob\nok\nrefused 1 Gone\ntotals grabbed 0 running 0 reported 0 lost 0 rounds 0 events 2\n";
+    assert!(rt; prints(rt.alloc(), ONE, input, output, End::Done)?);
+    Ok(())
+}
+
+#[test]
+fn jobs_are_reported(rt: HostRuntime) -> Result<(), Fail> {
+    let input =
+        "join a/0\ngrab a/0#1 H:a:1 x 0\nbegin a/0#1 1\njob 1\nreport a/0#1 1 fail\njob 1\ntotals\n";
+    let output =
+        "ok a/0#1\nok 1\nok\nreporting\nok stay\nreported fail\ntotals grabbed 1 running 0 reported 1 lost 0 rounds 0 events 4\n";
+    assert!(rt; prints(rt.alloc(), ONE, input, output, End::Done)?);
+    Ok(())
+}
+
+#[test]
+fn backlogs_that_are_no_numbers(rt: HostRuntime) -> Result<(), Fail> {
+    let input = "join a/0\nload x 3 0 y 7 0\nround\nview\n";
+    let output = "ok a/0#1\nok\nok 1 unserved 3 moved 1\nok unserved 3\n";
+    assert!(rt; prints(rt.alloc(), BOTH, input, output, End::Done)?);
+    assert!(rt;
+        prints(
+            rt.alloc(),
+            NEEDED,
+            "load\nround\n",
+            "ok\nok 1 noplan moved 0\n",
+            End::Done
+        )?
+    );
+    Ok(())
+}
+
+#[test]
+fn a_bad_line_ends_the_run(rt: HostRuntime) -> Result<(), Fail> {
+    let alloc = rt.alloc();
+    assert!(rt;
+        prints(
+            alloc,
+            ONE,
+            "join a/0\njoin a/1\njoin a/0\n",
+            "ok a/0#1\n",
+            End::BadLine(2)
+        )?
+    );
+    assert!(rt; prints(alloc, ONE, "job 1\n\njob 1\n", "none\n", End::BadLine(2))?);
+    assert!(rt; prints(alloc, ONE, "\n", "", End::BadLine(1))?);
+    Ok(())
+}
+
+#[test]
+fn the_last_line_may_lack_its_line_feed(rt: HostRuntime) -> Result<(), Fail> {
+    let alloc = rt.alloc();
+    assert!(rt; prints(alloc, ONE, "", "", End::Done)?);
+    assert!(rt; prints(alloc, ONE, "job 1\njoin a/0", "none\nok a/0#1\n", End::Done)?);
+    assert!(rt; prints(alloc, ONE, "job 1\njoin", "none\n", End::BadLine(2))?);
+    Ok(())
+}
