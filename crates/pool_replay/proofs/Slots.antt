@@ -1,14 +1,13 @@
 -- A pool has as many slots as its settings say.
-use Rattle.std.proofs.Common.{◌≡◌, ℕ, List, [], ◌∷◌, ◌++◌, length, Bool, true, false, Option, Some, None, refl, ap, sym, ◌∙◌}
+use Rattle.std.proofs.Common.{◌≡◌, ℕ, List, [], ◌∷◌, ◌++◌, length, ap, refl, ◌∙◌}
 use Rattle.std.proofs.lemmas.List.{length-set, length-replicate}
 use Rattle.plan_model.specs.declared.answer.Answer.TheVariants as answers
 use Rattle.pool_settings.specs.Profile.{Profile}
 use Rattle.pool_settings.specs.Slots.{slots as slot_count}
 use Rattle.pool_core.specs.declared.event.Event.{Event}
 use Rattle.pool_core.specs.declared.event.Event.TheVariants as event
-use Rattle.worker_state.specs.declared.slot.Slot.TheVariants.{Empty}
 use Rattle.pool_core.specs.Kept.{IsChapter}
-use Rattle.pool_core.specs.Machine.{State, first, after, replay}
+use Rattle.pool_core.specs.Machine.{State, after, first, replay}
 
 -- no event makes a slot or takes one away
 slots_after : (p : Profile) (e : Event) (state : State) → length (after p e state).slots ≡ length state.slots
@@ -27,4 +26,4 @@ slots_replayed p state (e ∷ events) = slots_replayed p (after p e state) event
 
 pub slots_of_chapter : (p : Profile) (chapters : ℕ) (events : List Event) (state : State) → IsChapter p chapters events state → length state.slots ≡ slot_count p
 slots_of_chapter p chapters events state chapter =
-    ap (λ s. length s.slots) chapter.replays.replayed ∙ slots_replayed p (first p) (chapter.before ++ events) ∙ length-replicate (slot_count p) (Empty 0)
+    ap (λ s. length s.slots) chapter.replays.replayed ∙ slots_replayed p (first p) (chapter.before ++ events) ∙ length-replicate _ _

@@ -6,7 +6,8 @@ use Rattle.plan_model.specs.declared.answer.Answer.{Answer}
 use Rattle.plan_model.specs.declared.answer.Answer.TheVariants as answers
 use Rattle.pool_settings.specs.Names.{name_at}
 use Rattle.pool_settings.specs.Profile.{Profile}
-use Rattle.pool_settings.specs.Slots.{slots, worker_name}
+use Rattle.pool_settings.specs.Slots.{slots}
+use Rattle.pool_commands.specs.Law.{worker_text}
 use Rattle.worker_state.specs.Causes.{cause_name}
 use Rattle.worker_state.specs.declared.slot.WorkerName.{WorkerName}
 use Rattle.worker_state.specs.declared.job.EndKind.{EndKind}
@@ -41,10 +42,10 @@ no_view = codes "refused NoView"
 
 -- ---- answers
 
--- the worker's name, a hash sign and its generation; the empty text where there is no such slot
-abbrev pub worker_text : Profile → WorkerName → List ℕ
-worker_text p worker =
-    if nat_lt worker.slot (slots p) then worker_name p worker.slot ++ codes "#" ++ decimal worker.generation else []
+-- a worker as command lines name it, and the empty text where there is no such slot
+abbrev pub worker_words : Profile → WorkerName → List ℕ
+worker_words p worker =
+    if nat_lt worker.slot (slots p) then worker_text p worker.slot worker.generation else []
 
 -- `ok`, or the refusal
 abbrev pub ok_line : {A E : Type 0} → (E → ℕ) → (E → List ℕ) → Result A E → List ℕ
@@ -52,7 +53,7 @@ ok_line number name (Ok x) = codes "ok"
 ok_line number name (Err e) = refused number name e
 
 abbrev pub join_line : Profile → Result WorkerName JoinError → List ℕ
-join_line p (Ok worker) = codes "ok " ++ worker_text p worker
+join_line p (Ok worker) = codes "ok " ++ worker_words p worker
 join_line p (Err e) = refused join_number join_name e
 
 abbrev pub grab_line : Result ℕ GrabError → List ℕ
@@ -92,7 +93,7 @@ job_line p (Some standing.Running) = codes "running"
 job_line p (Some standing.Reporting) = codes "reporting"
 job_line p (Some (standing.Reported end.Complete)) = codes "reported complete"
 job_line p (Some (standing.Reported end.Fail)) = codes "reported fail"
-job_line p (Some (standing.Lost worker cause)) = codes "lost " ++ worker_text p worker ++ codes " " ++ cause_name cause
+job_line p (Some (standing.Lost worker cause)) = codes "lost " ++ worker_words p worker ++ codes " " ++ cause_name cause
 
 -- the pool gives no order to stop
 abbrev pub what_line : Profile → ℕ → What → List ℕ

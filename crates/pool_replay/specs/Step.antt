@@ -1,5 +1,5 @@
 -- One command: a call of the pool, or the word that there is no pass or no view, and what is printed.
-use Rattle.std.specs.Prelude.{ℕ, ◌≡◌, ◌+◌, List, Option, Some, None, Result, Ok, Err, Bool, true, false, IfOk, OnOk, OnErr, IfSome, slice_get}
+use Rattle.std.specs.Prelude.{ℕ, ◌≡◌, ◌+◌, List, [], ◌∷◌, ◌++◌, Option, Some, None, Result, Ok, Err, Bool, true, false, IfOk, OnOk, OnErr, IfSome, slice_get}
 use Rattle.std.specs.Result.{result_err}
 use Rattle.std.specs.FinSet as set
 use Rattle.plan_model.specs.Certificate.{Certificate}
@@ -29,7 +29,7 @@ use Rattle.pool_core.specs.declared.answer.StayOrRetire.{StayOrRetire}
 use Rattle.pool_core.specs.declared.answer.Ran.{Ran}
 use Rattle.pool_core.specs.Refusal.{load_number, load_name, round_number, round_name, adopt_number, adopt_name, begin_number, begin_name, lose_number, lose_name, expire_number, expire_name}
 use Rattle.pool_core.specs.Machine.{slot_in, next_ticket, standing_in}
-use Rattle.pool_core.specs.Book.{Book, IsStep, IsInput, Adopts, join_due, join_refusal, load_due, load_refusal, round_due, round_refusal, ran_of, view_due, view_refusal, grab_due, grab_refusal, begin_refusal, report_refusal, stay_or_retire, lose_refusal, expire_refusal, totals_of}
+use Rattle.pool_core.specs.Book.{Book, IsStep, IsInput, Adopts, KeepsPlan, join_due, join_refusal, load_due, load_refusal, round_due, round_refusal, ran_of, view_due, view_refusal, grab_due, grab_refusal, begin_refusal, report_refusal, stay_or_retire, lose_refusal, expire_refusal, totals_of}
 use Rattle.pool_commands.specs.declared.command.Command.{Command}
 use Rattle.pool_commands.specs.declared.command.Command.TheVariants as command
 use Rattle.pool_replay.specs.declared.desk.Desk.{Desk}
@@ -51,6 +51,7 @@ pub record CallsLoad (old : Book) (load : List Line) (result : Result (Unit {0})
 
 pub record CallsRound (old : Book) (result : Result Ran RoundError) (new : Book) : Type 0 where
   pub step : IfOk result (λ ran. (answer : Answer) × IsStep (event.Round answer) old new × (ran ≡ ran_of answer old.state))
+  pub steady : OnOk result ((answer : Answer) × (new.events ≡ old.events ++ event.Round answer ∷ []) × KeepsPlan old answer)
   pub err : OnErr result (new ≡ old)
   pub refusal : round_due result ≡ round_refusal old
 

@@ -31,12 +31,12 @@ fn refused(alloc: Global, number: u32, name: &str) -> Result<String, AllocError>
 }
 
 /// A worker's name, as `a/0#1`, and the empty text where there is no such slot.
-pub fn worker_text(
+pub fn worker_words(
     alloc: Global,
     settings: &Settings,
     worker: &WorkerName,
 ) -> Result<String, AllocError>
-    ensures { IfOk result (λ s. string_bytes s ≡ spec.worker_text settings.now worker.now) }
+    ensures { IfOk result (λ s. string_bytes s ≡ spec.worker_words settings.now worker.now) }
 {
     let mut text = String::new(alloc);
     if worker.slot.number() < settings.slots() {
@@ -57,7 +57,7 @@ pub fn join_line(
 {
     match answer {
         Ok(pass) => {
-            let worker = worker_text(alloc, settings, &pass.name())?;
+            let worker = worker_words(alloc, settings, &pass.name())?;
             format!(in alloc; "ok {worker}")
         }
         Err(error) => refused(alloc, error.number(), error.name()),
@@ -206,7 +206,7 @@ pub fn job_line(
         Some(Standing::Reported(EndKind::Complete)) => String::from_str(alloc, "reported complete"),
         Some(Standing::Reported(EndKind::Fail)) => String::from_str(alloc, "reported fail"),
         Some(Standing::Lost(worker, cause)) => {
-            let worker = worker_text(alloc, settings, worker)?;
+            let worker = worker_words(alloc, settings, worker)?;
             let cause = cause.name();
             let mut line = String::new(alloc);
             write!(line, "lost {worker} {cause}")?;
