@@ -1,6 +1,6 @@
--- Each job that is lost is lost with the worker that grabbed it.
+-- Each job that goes on or is lost does so with the worker that grabbed it.
 use Rattle.std.proofs.Common.{◌≡◌, ◌≢◌, ℕ, ◌+◌, ◌-◌, ◌<◌, ◌≤◌, zero, suc, Bool, true, false, List, [], ◌∷◌, ◌++◌, length, get_or, set, Option, None, Some, ◌⊎◌, inl, inr, refl, sym, ap, ◌∙◌, subst, arith, append_assoc, append-nil, length-append, length-set}
-use Rattle.std.specs.Prelude.{slice_get, ◌==◌}
+use Rattle.std.specs.Prelude.{slice_get, ◌==◌, count_by}
 use Rattle.std.proofs.lemmas.List.{get_or-set_other, get_or_append_left}
 use Rattle.std.proofs.lemmas.List.Elements.{filter_map-append}
 use Rattle.std.proofs.lemmas.Grind.{get_or-set_at}
@@ -14,15 +14,16 @@ use Rattle.worker_state.specs.declared.cause.Cause.{Cause}
 use Rattle.worker_state.specs.declared.job.EndKind.{EndKind}
 use Rattle.worker_state.specs.declared.job.Standing.{Standing}
 use Rattle.worker_state.specs.declared.job.Standing.TheVariants as standing
-use Rattle.worker_state.specs.Slots.{last_generation, ticket_of, runs_of}
+use Rattle.worker_state.specs.Slots.{last_generation, ticket_of, runs_of, is_open}
 use Rattle.pool_core.specs.declared.event.Event.{Event}
 use Rattle.pool_core.specs.declared.event.Event.TheVariants as event
-use Rattle.pool_core.specs.Machine.{State, first, slot_in, standing_in, replay, IsHistory, IsPossible, after, with_lost, open_ticket, slot_after_run}
-use Rattle.pool_core.specs.Kept.{OpensAt}
-use Rattle.pool_core.specs.Laws.{grabber_of, grabbers, JobsAreLostWithTheirWorkers}
+use Rattle.pool_core.specs.Machine.{State, first, slot_in, has_generation, standing_in, replay, IsHistory, IsPossible, after, with_lost, open_ticket, slot_after_run}
+use Rattle.pool_core.specs.Kept.{OpensAt, IsOpen, IsSound}
+use Rattle.pool_core.specs.Laws.{grabber_of, grabbers, is_report_of, times_reported, IsHeldByGrabber, IsAccountedFor, JobsAreLostWithTheirWorkers, JobsAreAccountedFor}
 use Rattle.pool_core.proofs.Tables.{standing_given, opens_elsewhere, opens_here}
 use Rattle.pool_core.proofs.Sound.{generation_last, worker_within, run_none}
-use Rattle.pool_core.proofs.Lasting.{standing_from, length-with_lost, none_open}
+use Rattle.pool_core.proofs.Lasting.{standing_from, length-with_lost, none_open, histories_are_sound_lem}
+use Rattle.pool_core.proofs.Booked.{jobs_are_booked_once_lem}
 
 -- the worker that a slot with this content had last
 abbrev named : ℕ → Slot → WorkerName
@@ -178,3 +179,33 @@ grabbed_first rules =
 
 pub jobs_are_lost_with_their_workers_lem : JobsAreLostWithTheirWorkers
 jobs_are_lost_with_their_workers_lem rules r events h = (grabbed_all rules events [] (first rules) (grabbed_first rules) h).lost
+
+-- a slot with an open ticket has a live worker, the one of its last generation
+live_holder : (x : Slot) (k : ℕ) → ticket_of x ≡ Some k → has_generation x (last_generation x) ≡ true
+live_holder (Empty last) k h = absurd (cc)
+live_holder (Live generation runs ticket) k h = eq-eqb generation generation refl
+
+held_by_grabber : (rules : Profile) (events : List Event) (state : State) (k : ℕ) → IsSound rules state → AreGrabbed (grabbers events) state → IsOpen state.standings k → IsHeldByGrabber events state k
+held_by_grabber rules events state k sound g o =
+    let t = sound.held k o in
+    (named t.0 (slot_in state.slots t.0), g.own t.0 k t.1, live_holder (slot_in state.slots t.0) k t.1, t.1)
+
+accounted : (rules : Profile) (events : List Event) (state : State) (k : ℕ) (x : Standing) → IsSound rules state → AreGrabbed (grabbers events) state
+    → 0 < k → k ≤ length state.standings → standing_in state.standings k ≡ Some x → count_by (is_report_of k) events ≡ times_reported (Some x) → IsAccountedFor events state k x
+accounted rules events state k standing.Running sound g from_one given is count =
+    (held_by_grabber rules events state k sound g (record { from_one = from_one; given = given; goes_on = ap is_open (standing_given state.standings k standing.Running standing.Running is).2 }), count)
+accounted rules events state k standing.Reporting sound g from_one given is count =
+    (held_by_grabber rules events state k sound g (record { from_one = from_one; given = given; goes_on = ap is_open (standing_given state.standings k standing.Reporting standing.Running is).2 }), count)
+accounted rules events state k (standing.Reported end) sound g from_one given is count = count
+accounted rules events state k (standing.Lost worker cause) sound g from_one given is count = (g.lost k worker cause is, count)
+
+pub jobs_are_accounted_for_lem : JobsAreAccountedFor
+jobs_are_accounted_for_lem rules r events h k from_one given =
+    let state = replay rules (first rules) events in
+    let sound = histories_are_sound_lem rules r events h in
+    let booked = jobs_are_booked_once_lem rules r events h in
+    let g = grabbed_all rules events [] (first rules) (grabbed_first rules) h in
+    let there : k ≤ length state.standings = omega (arith, given, ap length booked.jobs, sound.assignments) in
+    let x = get_or state.standings (k - 1) standing.Running in
+    let is = standing_from state.standings k x standing.Running from_one there refl in
+    (x, is, accounted rules events state k x sound g from_one there is (booked.reports k ∙ ap times_reported is))

@@ -19,7 +19,7 @@ use Rattle.pool_core.specs.declared.event.Assignment.{Assignment}
 use Rattle.pool_core.specs.declared.event.Event.{Event}
 use Rattle.pool_core.specs.declared.event.Event.TheVariants as event
 use Rattle.pool_core.specs.Kept.{IsSound}
-use Rattle.pool_core.specs.Machine.{State, first, slot_in, standing_in, what_of, input_of, after_round, replay, IsHistory, Replays}
+use Rattle.pool_core.specs.Machine.{State, first, slot_in, standing_in, is_live_in, open_ticket, what_of, input_of, after_round, replay, IsHistory, Replays}
 use Rattle.pool_core.specs.Book.{Book, IsStep, next_chapter}
 
 -- the generation of the next worker of a slot
@@ -146,6 +146,29 @@ JobsAreLostWithTheirWorkers =
     → (k : ℕ) (worker : WorkerName) (cause : Cause)
     → standing_in (replay rules (first rules) events).standings k ≡ Some (standing.Lost worker cause)
     → slice_get (grabbers events) (k - 1) ≡ Some worker
+
+-- the live worker that has the job of this ticket is the one that grabbed it
+abbrev pub IsHeldByGrabber : List Event → State → ℕ → Type 0
+IsHeldByGrabber events state k =
+    (worker : WorkerName) × (slice_get (grabbers events) (k - 1) ≡ Some worker)
+    × IsTrue (is_live_in state worker) × (open_ticket state worker ≡ Some k)
+
+-- What a history says of a job, by how it stands: it goes on with the worker that grabbed it, it was reported by one event, or it is
+-- lost with the worker that grabbed it; and but for the second no event reported it
+abbrev pub IsAccountedFor : List Event → State → ℕ → Standing → Type 0
+IsAccountedFor events state k standing.Running = IsHeldByGrabber events state k × (count_by (is_report_of k) events ≡ 0)
+IsAccountedFor events state k standing.Reporting = IsHeldByGrabber events state k × (count_by (is_report_of k) events ≡ 0)
+IsAccountedFor events state k (standing.Reported end) = count_by (is_report_of k) events ≡ 1
+IsAccountedFor events state k (standing.Lost worker cause) =
+    (slice_get (grabbers events) (k - 1) ≡ Some worker) × (count_by (is_report_of k) events ≡ 0)
+
+-- Each grabbed job is running, reported once, or lost with its named worker
+abbrev pub JobsAreAccountedFor : Type 0
+JobsAreAccountedFor =
+    (rules : Profile) → IsProfile rules → (events : List Event) → IsHistory rules (first rules) events
+    → (k : ℕ) → 0 < k → k ≤ length (grabbed_jobs events)
+    → (how : Standing) × (standing_in (replay rules (first rules) events).standings k ≡ Some how)
+    × IsAccountedFor events (replay rules (first rules) events) k how
 
 -- Of two workers that join a slot the later one has the greater generation
 abbrev pub WorkersAreNew : Type 0

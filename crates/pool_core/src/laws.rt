@@ -1,5 +1,5 @@
 //! Laws over every history: contracts of functions that do nothing.
-ghost use Rattle.pool_core.specs.Laws.{HistoriesExtend, HistoriesAreSound, HistoriesCount, ChaptersCount, JobsAreBookedOnce, JobsAreLostWithTheirWorkers, WorkersAreNew, RoundsAreShown, RoundsOrder, HistoriesJoin, CallsReplay};
+ghost use Rattle.pool_core.specs.Laws.{HistoriesExtend, HistoriesAreSound, HistoriesCount, ChaptersCount, JobsAreBookedOnce, JobsAreLostWithTheirWorkers, JobsAreAccountedFor, WorkersAreNew, RoundsAreShown, RoundsOrder, HistoriesJoin, CallsReplay};
 
 /// Jobs are never dropped, a report or a loss is never taken back, and generations never fall.
 pub fn histories_extend()
@@ -29,6 +29,11 @@ pub fn jobs_are_booked_once()
 /// A lost job names the worker that grabbed it.
 pub fn jobs_are_lost_with_their_workers()
     ensures { JobsAreLostWithTheirWorkers }
+{}
+
+/// Each grabbed job is running with the worker that grabbed it, reported once, or lost with the worker that it names.
+pub fn jobs_are_accounted_for()
+    ensures { JobsAreAccountedFor }
 {}
 
 /// A slot gives each generation to one worker alone.

@@ -20,7 +20,7 @@ pub use error::{
 pub use event::{Assignment, Chapter, Event, FunctionName};
 pub use laws::{
     calls_replay, chapters_count, histories_are_sound, histories_count, histories_extend,
-    histories_join, jobs_are_booked_once, jobs_are_lost_with_their_workers, rounds_are_shown,
-    rounds_order, workers_are_new,
+    histories_join, jobs_are_accounted_for, jobs_are_booked_once, jobs_are_lost_with_their_workers,
+    rounds_are_shown, rounds_order, workers_are_new,
 };
 pub use pool::{Pass, Pool};
