@@ -1,5 +1,5 @@
 -- Each command makes at most one event of the pool.
-use Rattle.std.proofs.Common.{◌≡◌, ℕ, List, Bool, true, false, Option, Some, None, Result, Ok, Err, IfOk, OnOk, OnErr, refl, ap, sym, ◌∙◌, inl, inr}
+use Rattle.std.proofs.Common.{◌≡◌, ℕ, List, Bool, true, false, Option, Some, None, Result, Ok, Err, IfOk, OnOk, OnErr, ap, inl, inr}
 use Rattle.std.specs.FinSet as set
 use Rattle.plan_model.specs.Certificate.{Certificate}
 use Rattle.pool_settings.specs.Profile.{Profile}

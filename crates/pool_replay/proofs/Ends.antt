@@ -1,5 +1,5 @@
 -- How the transcript of a run goes on from a line, and where it ends.
-use Rattle.std.proofs.Common.{◌≡◌, ℕ, ◌+◌, List, [], ◌∷◌, ◌++◌, Option, Some, None, refl, ap, sym, subst, ◌∙◌, inl, inr, append_assoc, append-nil}
+use Rattle.std.proofs.Common.{◌≡◌, ℕ, ◌+◌, List, [], ◌∷◌, ◌++◌, Some, None, refl, ap, sym, subst, ◌∙◌, inl, inr, append_assoc, append-nil}
 use Rattle.pool_settings.specs.Profile.{Profile}
 use Rattle.pool_commands.specs.declared.command.Command.{Command}
 use Rattle.pool_commands.specs.Grammar.{command_in}

@@ -1,5 +1,5 @@
 -- A view with the answer that a search found for it.
-use Rattle.std.proofs.Common.{◌≡◌, ℕ, List, Bor, Option, Some, None, Ok, IfSome, refl, sym, subst, ap, ◌∙◌}
+use Rattle.std.proofs.Common.{◌≡◌, ℕ, List, Bor, Option, Some, None, Ok, IfSome, sym, subst}
 use Rattle.std.specs.Option.{option_copied}
 use Rattle.level_search.specs.Steady.{IsSteady}
 use Rattle.plan_model.specs.Certificate.{Certificate}

@@ -2,3 +2,4 @@ pub mod Passes
 pub mod Lines
 pub mod Step
 pub mod Transcript
+pub mod Law

@@ -10,7 +10,6 @@ use Rattle.pool_settings.specs.Slots.{slots}
 use Rattle.pool_commands.specs.Law.{worker_text}
 use Rattle.worker_state.specs.Causes.{cause_name}
 use Rattle.worker_state.specs.declared.slot.WorkerName.{WorkerName}
-use Rattle.worker_state.specs.declared.job.EndKind.{EndKind}
 use Rattle.worker_state.specs.declared.job.EndKind.TheVariants as end
 use Rattle.worker_state.specs.declared.job.Standing.{Standing}
 use Rattle.worker_state.specs.declared.job.Standing.TheVariants as standing

@@ -1,5 +1,5 @@
 -- What a run prints, and how it ends.
-use Rattle.std.specs.Prelude.{ℕ, ◌≡◌, ◌+◌, ◌==◌, List, [], ◌∷◌, ◌++◌, Bool, Option, Some, None, ◌⊎◌}
+use Rattle.std.specs.Prelude.{ℕ, ◌≡◌, ◌+◌, ◌==◌, List, [], ◌∷◌, ◌++◌, Bool, Some, None, ◌⊎◌}
 use Rattle.std.specs.List.{slice_split}
 use Rattle.std.specs.FinSet as set
 use Rattle.pool_settings.specs.Profile.{Profile}

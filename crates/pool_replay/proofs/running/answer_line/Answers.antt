@@ -1,4 +1,4 @@
-use Rattle.std.proofs.Common.{◌≡◌, IfSome, subst, sym, ap, ◌∙◌}
+use Rattle.std.proofs.Common.{IfSome, subst, sym, ap, ◌∙◌}
 use Rattle.pool_commands.specs.Grammar as grammar
 use Rattle.pool_settings.specs.Slots.{slots}
 use Rattle.pool_replay.proofs.Slots.{slots_of_chapter}

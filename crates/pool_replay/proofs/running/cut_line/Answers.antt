@@ -1,4 +1,4 @@
-use Rattle.std.proofs.Common.{◌≡◌, ◌+◌, ◌<◌, ◌∷◌, [], length, length-drop, take, drop, suc, arith, sym, subst, true, ◌∙◌}
+use Rattle.std.proofs.Common.{◌≡◌, ◌+◌, ◌<◌, ◌∷◌, length, length-drop, take, drop, suc, arith, sym, subst, true}
 use Rattle.std.proofs.lemmas.Bool.Decides.{nat_tests}
 use Rattle.std.proofs.lemmas.List.{take_all}
 use Rattle.pool_replay.specs.Transcript.{lines_of}

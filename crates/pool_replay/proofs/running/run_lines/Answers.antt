@@ -1,4 +1,4 @@
-use Rattle.std.proofs.Common.{◌≡◌, ℕ, List, string_bytes, ap, arith, subst, sym}
+use Rattle.std.proofs.Common.{ℕ, List, string_bytes, ap, arith, subst, sym}
 use Rattle.pool_replay.specs.Transcript.{IsTranscript, first_desk, lines_of}
 use Rattle.pool_replay.specs.declared.running.End.TheVariants.{BadLine, Done, Memory}
 use Rattle.pool_replay.proofs.Ends.{starts, goes_on, ends, bad_line, gives_up, all_done}

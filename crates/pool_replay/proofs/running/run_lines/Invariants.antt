@@ -1,4 +1,4 @@
-use Rattle.std.proofs.Common.{◌≡◌, ℕ, ◌+◌, ◌≤◌, length, string_bytes}
+use Rattle.std.proofs.Common.{◌≡◌, ◌+◌, ◌≤◌, length, string_bytes}
 use Rattle.pool_replay.specs.Transcript.{lines_of}
 use Rattle.pool_replay.proofs.Ends.{LeadsOn}
 use Rattle.pool_replay.proofs.running.run_lines.Given as goal
