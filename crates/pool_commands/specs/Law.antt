@@ -3,6 +3,7 @@ use Rattle.std.specs.Prelude.{◌≡◌, ℕ, ◌<◌, ◌≤◌, List, ◌∷�
 use Rattle.std.specs.Fmt.{decimal}
 use Rattle.pool_settings.specs.Profile.{IsProfile, Profile}
 use Rattle.pool_settings.specs.Slots.{slots, worker_name}
+use Rattle.worker_state.specs.Limits.{max_generation}
 use Rattle.pool_commands.specs.Words.{worker_in}
 
 -- the name of the slot, a hash sign and the generation in decimal
@@ -10,5 +11,5 @@ abbrev pub worker_text : Profile → ℕ → ℕ → List ℕ
 worker_text p slot generation = worker_name p slot ++ 35 ∷ decimal generation
 
 abbrev pub AreWorkersReadBack : Type 0
-AreWorkersReadBack = (p : Profile) → IsProfile p → (slot generation : ℕ) → slot < slots p → 1 ≤ generation → generation ≤ 262143
+AreWorkersReadBack = (p : Profile) → IsProfile p → (slot generation : ℕ) → slot < slots p → 1 ≤ generation → generation ≤ max_generation
     → worker_in p (worker_text p slot generation) ≡ Some (record { slot = slot; generation = generation })

@@ -8,6 +8,7 @@ use Rattle.gear_packets.specs.Refusal.{handle_refusal}
 use Rattle.pool_settings.specs.Profile.{Profile}
 use Rattle.pool_settings.specs.Slots.{slot_named}
 use Rattle.worker_state.specs.Causes.{cause_name}
+use Rattle.worker_state.specs.Limits.{max_generation}
 use Rattle.worker_state.specs.declared.cause.Cause.{Cause}
 use Rattle.worker_state.specs.declared.cause.Cause.TheVariants.{BadPacket, ServerError, ReadFault, WriteFault, TurnsUsed, Memory, HistoryFull, Closed, Stopped, Late}
 use Rattle.worker_state.specs.declared.job.EndKind.{EndKind}
@@ -47,7 +48,7 @@ abbrev pub count_in : List ℕ → Option ℕ
 count_in digits = number_between 0 4294967295 digits
 
 abbrev pub generation_in : List ℕ → Option ℕ
-generation_in digits = number_between 1 262143 digits
+generation_in digits = number_between 1 max_generation digits
 
 -- ---- workers: the slot's name, a hash sign and the generation
 

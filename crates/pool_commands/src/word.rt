@@ -6,10 +6,7 @@ ghost use Rattle.pool_settings.specs.Slots.{slots};
 
 use gear_packets::Handle;
 use pool_settings::Settings;
-use worker_state::{Cause, EndKind, Ticket, WorkerName};
-
-/// The most that a generation can be.
-const MOST_GENERATION: u64 = 262_143;
+use worker_state::{Cause, EndKind, MAX_GENERATION, Ticket, WorkerName};
 
 const CAUSES: [Cause; 10] = [
     Cause::BadPacket,
@@ -67,7 +64,7 @@ pub fn ticket_in(digits: &[u8]) -> Option<Ticket>
 fn generation_in(digits: &[u8]) -> Option<u32>
     ensures { result ≡ spec.generation_in digits.now }
 {
-    let number = number_between(1, MOST_GENERATION, digits)?;
+    let number = number_between(1, u64::from(MAX_GENERATION), digits)?;
     Some(number as u32)
 }
 
