@@ -24,3 +24,6 @@ pub use laws::{
     rounds_are_shown, rounds_order, workers_are_new,
 };
 pub use pool::{Pass, Pool};
+
+#[cfg(test)]
+mod tests;
