@@ -75,7 +75,25 @@ pub three_in_turn : (old one two new : Command) (a b c : Arg) → AddsArg old a 
     → AddsInTurn AddsArg old (a ∷ b ∷ c ∷ []) new
 three_in_turn old one two new a b c first second third = (one, first, (two, second, (new, third, refl)))
 
--- the command that two arguments make
+-- one argument
+pub one_distinct : (a : Arg) → HasDistinctIds (a ∷ [])
+one_distinct a zero zero d e h k s = refl
+one_distinct a (suc j) k d e h l s = absurd (omega arith)
+one_distinct a j (suc k) d e h l s = absurd (omega arith)
+
+pub one_fits : (a : Arg) → FitsChain a → All FitsChain (a ∷ [])
+one_fits a fa = All-from_recursion FitsChain (a ∷ []) (fa, tt)
+
+pub one_in_turn : (old new : Command) (a : Arg) → AddsArg old a new → AddsInTurn AddsArg old (a ∷ []) new
+one_in_turn old new a one = (new, one, refl)
+
+-- the command that one argument makes
+pub app_of_one : (start cmd : Command) (a : Arg) → AddsArg start a cmd → FitsChain a
+    → {app : App} → app_of start ≡ app → {r : Rule} → rule_of a ≡ r → app_of cmd ≡ with_rules app (r ∷ [])
+app_of_one start cmd a one a_fits whole a_rule =
+    rw (← whole, ← a_rule) (app_of_chain start cmd (a ∷ []) (one_in_turn start cmd a one) (one_fits a a_fits))
+
+-- two
 pub app_of_two : (start mid cmd : Command) (a b : Arg) → AddsArg start a mid → AddsArg mid b cmd → FitsChain a → FitsChain b
     → {app : App} → app_of start ≡ app → {r t : Rule} → rule_of a ≡ r → rule_of b ≡ t → app_of cmd ≡ with_rules app (r ∷ t ∷ [])
 app_of_two start mid cmd a b one two a_fits b_fits whole a_rule b_rule =

@@ -31,6 +31,7 @@ no_problem settings lost bytes lulls failures ended old fault.Memory posed = (po
 no_problem settings lost bytes lulls failures ended old fault.ReadFault posed = (posed.0, posed.1, refl, refl)
 no_problem settings lost bytes lulls failures ended old fault.WriteFault posed = absurd posed
 no_problem settings lost bytes lulls failures ended old fault.UnknownWorker posed = (posed.0, posed.1, refl, refl)
+no_problem settings lost bytes lulls failures ended old (fault.BadCommand n) posed = (posed.0, posed.1, refl, refl)
 no_problem settings lost bytes lulls failures ended old fault.TooLong posed = (posed.0, posed.1, refl, refl)
 no_problem settings lost bytes lulls failures ended old fault.NoFile posed = (posed.0, posed.1, refl, refl)
 no_problem settings lost bytes lulls failures ended old (fault.Settings e) posed = (posed.0, posed.1, refl, refl)
@@ -58,6 +59,7 @@ unreported settings lost bytes lulls failures ended old new p i posed decided fa
 unreported settings lost bytes lulls failures ended old new p i posed decided fault.Memory ends = (calm decided, ends, refl)
 unreported settings lost bytes lulls failures ended old new p i posed decided fault.ReadFault ends = absurd ends
 unreported settings lost bytes lulls failures ended old new p i posed decided fault.UnknownWorker ends = absurd ends
+unreported settings lost bytes lulls failures ended old new p i posed decided (fault.BadCommand n) ends = absurd ends
 unreported settings lost bytes lulls failures ended old new p i posed decided fault.TooLong ends = absurd ends
 unreported settings lost bytes lulls failures ended old new p i posed decided fault.NoFile ends = absurd ends
 unreported settings lost bytes lulls failures ended old new p i posed decided (fault.Settings e) ends = absurd ends

@@ -19,6 +19,7 @@ module _ (settings : List ℕ) (lost : List (List ℕ)) (text : List ℕ) (bytes
   unposed none calm (fault.Settings e) posed = (posed, none, calm)
   unposed none calm (fault.Status e) posed = (posed, none, calm)
   unposed none calm (fault.Report e) posed = absurd posed
+  unposed none calm (fault.BadCommand n) posed = absurd posed
   unposed none calm fault.TooLong posed = absurd posed
   unposed none calm fault.ReadFault posed = absurd posed
   unposed none calm fault.WriteFault posed = absurd posed
@@ -30,6 +31,7 @@ module _ (settings : List ℕ) (lost : List (List ℕ)) (text : List ℕ) (bytes
     untaken fault.Memory taken = taken
     untaken fault.TooLong taken = (record { profile = p; input = i }, posed, taken)
     untaken fault.ReadFault taken = (record { profile = p; input = i }, posed, taken)
+    untaken (fault.BadCommand n) taken = absurd taken
     untaken fault.UnknownWorker taken = absurd taken
     untaken (fault.Settings e) taken = absurd taken
     untaken (fault.Status e) taken = absurd taken
@@ -42,6 +44,7 @@ module _ (settings : List ℕ) (lost : List (List ℕ)) (text : List ℕ) (bytes
     judged all (Ok found) judges = (record { profile = p; input = i }, posed, all, judges)
     judged all (Err (fault.Report e)) judges = (record { profile = p; input = i }, posed, all, judges)
     judged all (Err fault.Memory) judges = all.3
+    judged all (Err (fault.BadCommand n)) judges = absurd judges
     judged all (Err fault.UnknownWorker) judges = absurd judges
     judged all (Err (fault.Settings e)) judges = absurd judges
     judged all (Err (fault.Status e)) judges = absurd judges
@@ -55,6 +58,7 @@ module _ (settings : List ℕ) (lost : List (List ℕ)) (text : List ℕ) (bytes
       → (f : Fault) → Writes (verdict_line found) old new (Err f) → Checks settings lost text bytes lulls failures ended old new (status_of f) (Some f)
   unpronounced old new found examined fault.WriteFault writes = (found, writes.0, examined, writes.1, writes.2, refl)
   unpronounced old new found examined fault.Memory writes = (examined.2.3, writes, refl)
+  unpronounced old new found examined (fault.BadCommand n) writes = absurd writes
   unpronounced old new found examined fault.UnknownWorker writes = absurd writes
   unpronounced old new found examined (fault.Settings e) writes = absurd writes
   unpronounced old new found examined (fault.Status e) writes = absurd writes

@@ -4,3 +4,4 @@ pub mod Marks
 pub mod Posing
 pub mod Ending
 pub mod Examining
+pub mod Replaying

@@ -30,6 +30,7 @@ pub lost_refused : (bytes : List ℕ) (lost : List (List ℕ)) (ended : Bool) (p
 lost_refused bytes lost ended p fault.Memory good due = (refl, omega arith)
 lost_refused bytes lost ended p fault.UnknownWorker good due = (rw (good, (due (λ q. cc)).1) refl, (refl, (refl, omega arith)))
 lost_refused bytes lost ended p fault.ReadFault good due = (let other = (due (λ q. cc)).0 in cc)
+lost_refused bytes lost ended p (fault.BadCommand n) good due = (let other = (due (λ q. cc)).0 in cc)
 lost_refused bytes lost ended p fault.TooLong good due = (let other = (due (λ q. cc)).0 in cc)
 lost_refused bytes lost ended p fault.WriteFault good due = (let other = (due (λ q. cc)).0 in cc)
 lost_refused bytes lost ended p fault.NoFile good due = (let other = (due (λ q. cc)).0 in cc)

@@ -6,3 +6,4 @@ pub mod Problem
 pub mod Posing
 pub mod Plan
 pub mod Check
+pub mod Replay

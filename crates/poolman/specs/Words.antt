@@ -41,10 +41,15 @@ plan_app = with_rules (new_app (codes "plan")) (operand settings ∷ operands lo
 abbrev pub check_app : App
 check_app = with_rules (new_app (codes "check")) (operand settings ∷ operand status ∷ operands lost ∷ [])
 
+-- `replay SETTINGS`
+abbrev pub replay_app : App
+replay_app = with_rules (new_app (codes "replay")) (operand settings ∷ [])
+
 -- a command with its texts
 pub data Named : Type 0 where
   plan : Text → List Text → Named
   check : Text → Text → List Text → Named
+  replay : Text → Named
 
 abbrev pub lost_in : List Row → List Text
 lost_in rows = unwrap_or (all_of lost rows) []
@@ -58,12 +63,16 @@ check_of rows s = option_map (λ t. check s t (lost_in rows)) (first_of status r
 abbrev pub check_in : List Row → Option Named
 check_in rows = option_and_then (check_of rows) (first_of settings rows)
 
+abbrev pub replay_in : List Row → Option Named
+replay_in rows = option_map replay (first_of settings rows)
+
 -- the command of a name, from its own words, of which the name is the first: each command is a command line of its own
 abbrev pub command_named : Text → List Text → Option Named
 command_named name words =
     if bytes_eq name (codes "plan") then plan_in (matches_of plan_app words)
     else (if bytes_eq name (codes "check") then check_in (matches_of check_app words)
-    else None)
+    else (if bytes_eq name (codes "replay") then replay_in (matches_of replay_app words)
+    else None))
 
 -- the command that the words ask for, the first of them being the program's name and the second the command's
 abbrev pub command_in : List Text → Option Named
@@ -73,7 +82,8 @@ abbrev pub are_taken_by : List Text → Text → Bool
 are_taken_by words name =
     if bytes_eq name (codes "plan") then takes plan_app words
     else (if bytes_eq name (codes "check") then takes check_app words
-    else false)
+    else (if bytes_eq name (codes "replay") then takes replay_app words
+    else false))
 
 -- the words are those of a command
 abbrev pub are_taken : List Text → Bool

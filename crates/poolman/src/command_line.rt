@@ -6,7 +6,7 @@ ghost use Rattle.clap.specs.Words.{kind_of, takes};
 ghost use Rattle.poolman.specs.Named.{IsUsage, named};
 ghost use Rattle.poolman.specs.Words as spec;
 
-use crate::operands::{check_words, overview, plan_words};
+use crate::operands::{check_words, overview, plan_words, replay_words};
 use clap::Error;
 use clap::error::ErrorKind;
 use std::alloc::{AllocError, Global};
@@ -25,6 +25,10 @@ pub enum Command<'a> {
         settings: &'a str,
         status: &'a str,
         lost: Vec<&'a str>,
+    },
+    /// `replay SETTINGS`: what the command lines on standard input answer.
+    Replay {
+        settings: &'a str,
     },
 }
 
@@ -83,6 +87,16 @@ fn check_of<'a, W: AsStr>(alloc: Global, words: &'a [W]) -> Result<Command<'a>, 
     }
 }
 
+fn replay_of<'a, W: AsStr>(alloc: Global, words: &'a [W]) -> Result<Command<'a>, CommandError>
+    ensures ok { IfOk result (λ c. spec.replay_in (matches_of spec.replay_app (map W.text words.now)) ≡ Some (named c)) }
+    ensures usage { IfErr result (λ e. IsUsage e → takes spec.replay_app (map W.text words.now) ≡ false) }
+{
+    match replay_words(alloc, words) {
+        Ok(settings) => Ok(Command::Replay { settings }),
+        Err(error) => Err(refused(error)),
+    }
+}
+
 /// The command that the words ask for. The first word is the program's name and the second the
 /// command's. `Usage` comes only where the words are no command's, and holds the text to print.
 pub fn command_of<'a, W: AsStr>(alloc: Global, words: &'a [W]) -> Result<Command<'a>, CommandError>
@@ -95,6 +109,9 @@ pub fn command_of<'a, W: AsStr>(alloc: Global, words: &'a [W]) -> Result<Command
         }
         if name.as_str() == "check" {
             return check_of(alloc, &words[1..]);
+        }
+        if name.as_str() == "replay" {
+            return replay_of(alloc, &words[1..]);
         }
     }
     Err(refused(overview(alloc, words)?))

@@ -23,6 +23,8 @@ pub enum Fault {
     Status(StatusError),
     /// The report breaks a rule.
     Report(ReadError),
+    /// A line of `replay` is no command. It is the line of this number, counted from 1.
+    BadCommand(u64),
     /// A file or standard input is longer than 16,777,216 bytes.
     TooLong,
     /// A device that is read failed, or had nothing to give for the 65th time.
@@ -46,6 +48,7 @@ impl Fault {
             | Fault::UnknownWorker
             | Fault::Status(_)
             | Fault::Report(_)
+            | Fault::BadCommand(_)
             | Fault::TooLong => 3,
             Fault::ReadFault | Fault::WriteFault | Fault::NoFile | Fault::Memory => 4,
         }
@@ -65,6 +68,7 @@ impl fmt::Display for Fault {
                 write!(f, "report {} {}", error.number(), error.name())?;
                 on_line(f, error.line())
             }
+            Fault::BadCommand(line) => write!(f, "events 1 BadLine line {line}"),
             Fault::TooLong => f.write_str("input 1 TooLong"),
             Fault::ReadFault => f.write_str("device 1 ReadFault"),
             Fault::WriteFault => f.write_str("device 2 WriteFault"),

@@ -83,6 +83,12 @@ fn lines_of_reports(rt: HostRuntime) {
 }
 
 #[test]
+fn lines_of_commands(rt: HostRuntime) {
+    let alloc = rt.alloc();
+    assert!(rt; prints(alloc, Fault::BadCommand(7), "events 1 BadLine line 7", 3));
+}
+
+#[test]
 fn lines_of_devices_and_memory(rt: HostRuntime) {
     let alloc = rt.alloc();
     assert!(rt; prints(alloc, Fault::ReadFault, "device 1 ReadFault", 4));
@@ -100,6 +106,7 @@ fn texts_of<'a>(alloc: Global, words: &'a [&'a str]) -> Option<(&'a str, Option<
             status,
             lost,
         } => Some((settings, Some(status), lost.len())),
+        Command::Replay { settings } => Some((settings, None, 0)),
     }
 }
 
@@ -115,6 +122,8 @@ fn commands_of_words(rt: HostRuntime) {
     assert!(rt; texts_of(alloc, &plan) == Some(("s.toml", None, 2)));
     let check = ["poolman", "check", "s.toml", "status.txt"];
     assert!(rt; texts_of(alloc, &check) == Some(("s.toml", Some("status.txt"), 0)));
+    let replay = ["poolman", "replay", "s.toml"];
+    assert!(rt; texts_of(alloc, &replay) == Some(("s.toml", None, 0)));
 }
 
 #[test]
@@ -125,4 +134,12 @@ fn words_of_no_command(rt: HostRuntime) {
     assert!(rt; is_usage(alloc, &["poolman", "check", "s.toml"]));
     assert!(rt; is_usage(alloc, &["poolman", "plant", "s.toml"]));
     assert!(rt; is_usage(alloc, &["poolman", "plan", "--help"]));
+}
+
+#[test]
+fn words_that_are_not_of_replay(rt: HostRuntime) {
+    let alloc = rt.alloc();
+    assert!(rt; is_usage(alloc, &["poolman", "replay"]));
+    assert!(rt; is_usage(alloc, &["poolman", "replay", "s.toml", "b/0"]));
+    assert!(rt; is_usage(alloc, &["poolman", "replay", "-h"]));
 }

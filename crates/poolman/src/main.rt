@@ -10,6 +10,7 @@ mod input;
 mod operands;
 mod plan;
 mod problem;
+mod replay;
 
 use check::check_text;
 use command_line::{Command, CommandError, command_of};
@@ -17,6 +18,7 @@ use devices::{InputSource, OutputSink};
 use fault::{Exit, Fault};
 use files::read_file;
 use plan::plan_text;
+use replay::run_commands;
 use std::process::ExitCode;
 use std::{env, io};
 
@@ -40,6 +42,10 @@ fn carry_out(rt: &HostRuntime, command: &Command<'_>) -> Result<Exit, Fault> {
             let settings = read_file(rt, settings)?;
             let status = read_file(rt, status)?;
             Ok(check_text(rt.alloc(), &settings, &status, lost, &mut source, &mut sink))
+        }
+        Command::Replay { settings } => {
+            let settings = read_file(rt, settings)?;
+            Ok(run_commands(rt.alloc(), &settings, &mut source, &mut sink))
         }
     }
 }
@@ -100,5 +106,7 @@ fn main(rt: HostRuntime) -> ExitCode {
 mod device_tests;
 #[cfg(test)]
 mod line_tests;
+#[cfg(test)]
+mod replay_tests;
 #[cfg(test)]
 mod tests;

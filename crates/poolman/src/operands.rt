@@ -18,6 +18,9 @@ const PLAN: &str = "Reads a status text and prints the best plan, with what show
 const CHECK: &str =
     "Reads a report and says whether it is shown, by the settings and the status text alone";
 
+const REPLAY: &str =
+    "Reads command lines and prints what each answers, on a pool in which nothing has happened yet";
+
 /// A word that has to be there.
 fn operand<'a>(alloc: Global, id: &'a str, help: &'a str) -> Arg<'a>
     ensures rule { rule_of result ≡ spec.operand id.entry.now }
@@ -172,6 +175,27 @@ pub fn check_words<'a, W: AsStr>(
     Ok((settings, status, lost))
 }
 
+/// The text of the word of `replay`: its settings.
+pub fn replay_words<'a, W: AsStr>(alloc: Global, words: &'a [W]) -> Result<&'a str, Error>
+    ensures settings { IfOk result (λ m. first_of spec.settings (matches_of spec.replay_app (map W.text words.now)) ≡ Some m.now) }
+    ensures usage { IfErr result (λ e. takes spec.replay_app (map W.text words.now) ≡ true → kind_of e ≡ ErrorKind.OutOfMemory) }
+{
+    let settings = settings(alloc);
+    let command = command(
+        alloc,
+        "replay",
+        REPLAY,
+        "poolman replay SETTINGS < COMMANDS",
+        "Example: printf 'join a/0\nload x 6 0\nround\norder a/0\n' | poolman replay settings.toml",
+    );
+    let command = command.arg(settings)?;
+    let matches = command.try_get_matches_from(words)?;
+    let Some(settings) = matches.get_str("SETTINGS") else {
+        unreachable!()
+    };
+    Ok(settings)
+}
+
 /// A command of the overview, which takes any words.
 fn entry<'a>(alloc: Global, name: &'a str, about: &'a str) -> Command<'a> {
     Command::new(alloc, name).about(about)
@@ -187,7 +211,8 @@ pub fn overview<W: AsStr>(alloc: Global, words: &[W]) -> Result<Error, AllocErro
         .after_help("`poolman COMMAND --help` explains a command.")
         .subcommand_required(true);
     let program = program.subcommand(entry(alloc, "plan", PLAN))?;
-    let mut program = program.subcommand(entry(alloc, "check", CHECK))?;
+    let program = program.subcommand(entry(alloc, "check", CHECK))?;
+    let mut program = program.subcommand(entry(alloc, "replay", REPLAY))?;
     match program.try_get_matches_from_mut(words) {
         Ok(_) => program.error(ErrorKind::MissingSubcommand, "a command is wanted"),
         Err(error) => Ok(error),
