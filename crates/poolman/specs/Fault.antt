@@ -1,11 +1,15 @@
 -- Faults, with the exit status of each.
-use Rattle.std.specs.Prelude.{ℕ, Option, None, Some, Result, Ok, Err}
+use Rattle.std.specs.Prelude.{ℕ, List, [], ◌++◌, codes, Option, None, Some, Result, Ok, Err}
+use Rattle.std.specs.Fmt.{decimal}
+use Rattle.gear_status.specs.Refusal as status_refusal
 use Rattle.gear_status.specs.declared.error.StatusError.{StatusError}
 use Rattle.gear_status.specs.declared.error.StatusError.TheVariants as status
+use Rattle.pool_report.specs.Refusal as report_refusal
 use Rattle.pool_report.specs.declared.error.WriteError.{WriteError}
 use Rattle.pool_report.specs.declared.error.WriteError.TheVariants as write
 use Rattle.pool_report.specs.declared.error.ReadError.{ReadError}
 use Rattle.pool_report.specs.declared.error.ReadError.TheVariants as read
+use Rattle.pool_settings.specs.Refusal as settings_refusal
 use Rattle.pool_settings.specs.declared.error.SettingsError.{SettingsError}
 use Rattle.pool_settings.specs.declared.error.SettingsError.TheVariants as settings
 use Rattle.poolman.specs.declared.fault.Exit.{Exit}
@@ -19,6 +23,26 @@ status_of fault.WriteFault = 4
 status_of fault.NoFile = 4
 status_of fault.Memory = 4
 status_of _ = 3
+
+-- ` line L`, where a fault has one line
+abbrev pub on_line : Option ℕ → List ℕ
+on_line (Some line) = codes " line " ++ decimal line
+on_line None = []
+
+-- The fault as one line for a person and a script: a word for what is at fault, a number, a name, and the line
+abbrev pub fault_line : Fault → List ℕ
+fault_line (fault.Settings e) = codes "settings " ++ decimal (settings_refusal.number_of e) ++ codes " " ++ settings_refusal.name_of e
+fault_line fault.UnknownWorker = codes "lost 1 UnknownWorker"
+fault_line (fault.Status e) =
+    codes "status " ++ decimal (status_refusal.number_of e) ++ codes " " ++ status_refusal.name_of e ++ on_line (status_refusal.line_of e)
+fault_line (fault.Report e) =
+    codes "report " ++ decimal (report_refusal.number_of e) ++ codes " " ++ report_refusal.name_of e ++ on_line (report_refusal.line_of e)
+fault_line (fault.BadCommand line) = codes "events 1 BadLine line " ++ decimal line
+fault_line fault.TooLong = codes "input 1 TooLong"
+fault_line fault.ReadFault = codes "device 1 ReadFault"
+fault_line fault.WriteFault = codes "device 2 WriteFault"
+fault_line fault.NoFile = codes "device 3 NoFile"
+fault_line fault.Memory = codes "memory"
 
 -- a fault that a file may have
 abbrev pub IsOfFile : Fault → Type 0

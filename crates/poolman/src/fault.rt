@@ -1,6 +1,7 @@
 //! Why a command ends without an answer, and with which status.
 
-ghost use Rattle.std.specs.Prelude.{◌≡◌};
+ghost use Rattle.std.specs.Prelude.{◌≡◌, Some};
+ghost use Rattle.std.specs.Fmt.{WritesOnOk};
 ghost use Rattle.poolman.specs.Fault as spec;
 
 use gear_status::StatusError;
@@ -56,6 +57,8 @@ impl Fault {
 }
 
 impl fmt::Display for Fault {
+    ghost output = { λ fault. Some (spec.fault_line fault) };
+
     fn fmt<W: fmt::Write>(&self, f: &mut fmt::Formatter<W>) -> fmt::Result {
         match self {
             Fault::Settings(error) => write!(f, "settings {} {}", error.number(), error.name()),
@@ -79,7 +82,9 @@ impl fmt::Display for Fault {
 }
 
 /// The line that is at fault, where it is one line.
-fn on_line<W: fmt::Write>(f: &mut fmt::Formatter<W>, line: Option<u64>) -> fmt::Result {
+fn on_line<W: fmt::Write>(f: &mut fmt::Formatter<W>, line: Option<u64>) -> fmt::Result
+    ensures { WritesOnOk W.write_str_gives f.old result (spec.on_line line) f.new }
+{
     match line {
         Some(line) => write!(f, " line {line}"),
         None => Ok(()),
