@@ -123,6 +123,48 @@ fn a_loss(rt: HostRuntime) -> Result<(), Fail> {
     Ok(())
 }
 
+/// The names of all causes, with their numbers.
+const CAUSES: [(&str, u8); 10] = [
+    ("BadPacket", 3),
+    ("ServerError", 4),
+    ("ReadFault", 5),
+    ("WriteFault", 6),
+    ("TurnsUsed", 7),
+    ("Memory", 8),
+    ("HistoryFull", 9),
+    ("Closed", 10),
+    ("Stopped", 11),
+    ("Late", 12),
+];
+
+#[test]
+fn a_loss_by_each_cause(rt: HostRuntime) -> Result<(), Fail> {
+    let alloc = rt.alloc();
+    for (name, number) in CAUSES.iter() {
+        let mut line = String::from_str(alloc, "lose a/0#1 ")?;
+        line.push_str(name)?;
+        let Some(Command::Lose { cause, .. }) = read(alloc, line.as_bytes())? else {
+            return Err(Fail::from("no loss"));
+        };
+        assert_eq!(rt; cause.number(), *number);
+    }
+    Ok(())
+}
+
+/// A handle has 63 bytes at most, and a generation may have zeros before it.
+#[test]
+fn edges_of_words(rt: HostRuntime) -> Result<(), Fail> {
+    let alloc = rt.alloc();
+    let taken = b"grab a/0#1 123456789012345678901234567890123456789012345678901234567890123 x 1";
+    let long = b"grab a/0#1 1234567890123456789012345678901234567890123456789012345678901234 x 1";
+    assert!(rt; is_command(alloc, taken.as_slice())?);
+    assert!(rt; !is_command(alloc, long.as_slice())?);
+    assert!(rt;
+        matches!(&read(alloc, b"begin a/0#01 1")?, Some(Command::Begin { worker, .. }) if is(worker, 0, 1))
+    );
+    Ok(())
+}
+
 #[test]
 fn a_load(rt: HostRuntime) -> Result<(), Fail> {
     let Some(Command::Load(load)) = read(rt.alloc(), b"load x 6 1 y 4294967295 0 x 3 02")? else {

@@ -17,6 +17,10 @@ const BOTH: &str =
 const NEEDED: &str =
     "version = 1\n[functions.x]\nleast = 1\n[machines.a]\nworkers = 1\nfunctions = [\"x\"]\n";
 
+/// Machine a with one worker for x, and a history of one event.
+const SHORT: &str =
+    "version = 1\nhistory = 1\n[functions.x]\n[machines.a]\nworkers = 1\nfunctions = [\"x\"]\n";
+
 /// Whether these command lines print this, and the run ends so.
 fn prints(
     alloc: Global,
@@ -129,5 +133,67 @@ fn the_last_line_may_lack_its_line_feed(rt: HostRuntime) -> Result<(), Fail> {
     assert!(rt; prints(alloc, ONE, "", "", End::Done)?);
     assert!(rt; prints(alloc, ONE, "job 1\njoin a/0", "none\nok a/0#1\n", End::Done)?);
     assert!(rt; prints(alloc, ONE, "job 1\njoin", "none\n", End::BadLine(2))?);
+    Ok(())
+}
+
+#[test]
+fn open_jobs_are_running(rt: HostRuntime) -> Result<(), Fail> {
+    let input = "join a/0\ngrab a/0#1 H:a:1 x 0\ntotals\nbegin a/0#1 1\ntotals\n";
+    let output =
+        "ok a/0#1\nok 1\ntotals grabbed 1 running 1 reported 0 lost 0 rounds 0 events 2\nok\ntotals grabbed 1 running 1 reported 0 lost 0 rounds 0 events 3\n";
+    assert!(rt; prints(rt.alloc(), ONE, input, output, End::Done)?);
+    Ok(())
+}
+
+#[test]
+fn the_greatest_queues(rt: HostRuntime) -> Result<(), Fail> {
+    let alloc = rt.alloc();
+    let served = "join a/0\nload x 4294967295 0\nround\n";
+    assert!(rt;
+        prints(
+            alloc,
+            ONE,
+            served,
+            "ok a/0#1\nok\nok 1 backlog 4294967295 moved 1\n",
+            End::Done
+        )?
+    );
+    let unserved = "join a/0\nload x 4294967295 0 y 4294967295 0\nview\n";
+    assert!(rt;
+        prints(
+            alloc,
+            BOTH,
+            unserved,
+            "ok a/0#1\nok\nok unserved 4294967295\n",
+            End::Done
+        )?
+    );
+    Ok(())
+}
+
+#[test]
+fn a_full_history_refuses_rounds(rt: HostRuntime) -> Result<(), Fail> {
+    let input = "join a/0\nload\nload\nview\nadopt\nadopt\nround\n";
+    let output =
+        "refused 3 HistoryFull\nok\nrefused 1 HistoryFull\nok backlog 0\nrefused 3 HistoryFull\nrefused NoView\nrefused 2 HistoryFull\n";
+    assert!(rt; prints(rt.alloc(), SHORT, input, output, End::Done)?);
+    Ok(())
+}
+
+#[test]
+fn a_view_without_a_plan_is_spent(rt: HostRuntime) -> Result<(), Fail> {
+    let input = "load\nview\nadopt\nadopt\n";
+    let output = "ok\nok noplan\nok 1 noplan moved 0\nrefused NoView\n";
+    assert!(rt; prints(rt.alloc(), NEEDED, input, output, End::Done)?);
+    Ok(())
+}
+
+#[test]
+fn an_order_stays_until_the_next_join(rt: HostRuntime) -> Result<(), Fail> {
+    let input =
+        "join a/0\nload x 3 0\nround\nlose a/0#1 Closed\nround\norder a/0\njoin a/0\norder a/0\nround\norder a/0\n";
+    let output =
+        "ok a/0#1\nok\nok 1 backlog 3 moved 1\nok\nok 2 noplan moved 0\nwork x round 1\nok a/0#2\nidle\nok 3 backlog 3 moved 1\nwork x round 3\n";
+    assert!(rt; prints(rt.alloc(), NEEDED, input, output, End::Done)?);
     Ok(())
 }
