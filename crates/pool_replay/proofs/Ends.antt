@@ -9,14 +9,15 @@ use Rattle.pool_replay.specs.declared.running.End.TheVariants as end
 use Rattle.pool_replay.specs.Step.{StepOf}
 use Rattle.pool_replay.specs.Transcript.{IsTranscript, Answers, ended, first_desk}
 
--- a run may end before any line for want of memory
-pub gives_up : (p : Profile) (number : ℕ) (desk : Desk) (lines : List (List ℕ)) → IsTranscript p number desk lines [] end.Memory
-gives_up p number desk [] = (refl, inr refl)
-gives_up p number desk (line ∷ lines) = inl (refl, inr refl)
+-- a run may end at any line for want of memory
+pub gives_up : (p : Profile) (number : ℕ) (desk : Desk) (lines : List (List ℕ)) (line : List ℕ) (rest : List (List ℕ))
+    → lines ≡ line ∷ rest → IsTranscript p number desk lines [] end.Memory
+gives_up p number desk lines line rest cut =
+    subst (λ ls. IsTranscript p number desk ls [] end.Memory) (sym cut) (inl (refl, inr refl))
 
 pub all_done : (p : Profile) (number : ℕ) (desk : Desk) (lines : List (List ℕ)) → lines ≡ [] → IsTranscript p number desk lines [] end.Done
 all_done p number desk lines none =
-    subst (λ ls. IsTranscript p number desk ls [] end.Done) (sym none) (refl, inl refl)
+    subst (λ ls. IsTranscript p number desk ls [] end.Done) (sym none) (refl, refl)
 
 pub bad_line : (p : Profile) (number : ℕ) (desk : Desk) (lines : List (List ℕ)) (line : List ℕ) (rest : List (List ℕ))
     → lines ≡ line ∷ rest → command_in p line ≡ None → IsTranscript p number desk lines [] (end.BadLine number)

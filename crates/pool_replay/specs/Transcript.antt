@@ -47,14 +47,21 @@ StopsAt p number line output how =
     (output ≡ []) × (((how ≡ end.BadLine number) × (command_in p line ≡ None)) ⊎ (how ≡ end.Memory))
 
 -- The output of the lines from this number on, and how their run ends: each line is a command, and what it prints is one step
--- of the desk. The run ends after the last line, at the first line that is no command, or where there was no memory.
+-- of the desk. The run ends after the last line, at the first line that is no command, or at a line for which there was no
+-- memory.
 abbrev pub IsTranscript : Profile → ℕ → Desk → List (List ℕ) → List ℕ → End → Type 0
-IsTranscript p number desk [] output how = (output ≡ []) × ((how ≡ end.Done) ⊎ (how ≡ end.Memory))
+IsTranscript p number desk [] output how = (output ≡ []) × (how ≡ end.Done)
 IsTranscript p number desk (line ∷ lines) output how =
     StopsAt p number line output how
     ⊎ ((command : Command) × (answer : List ℕ) × (rest : List ℕ) × (next : Desk)
     × (command_in p line ≡ Some command) × StepOf p command desk answer next
     × (output ≡ ended answer ++ rest) × IsTranscript p (number + 1) next lines rest how)
+
+-- A run of an input: the transcript of its lines on a pool in which nothing has happened, or nothing where there was no memory
+-- for that pool.
+abbrev pub IsRun : Profile → List ℕ → List ℕ → End → Type 0
+IsRun p input output how =
+    ((output ≡ []) × (how ≡ end.Memory)) ⊎ IsTranscript p 1 (first_desk p) (lines_of input) output how
 
 -- the line is a command, and what it prints was appended
 abbrev pub Answers : Profile → List ℕ → Desk → List ℕ → Desk → List ℕ → Type 0

@@ -3,7 +3,7 @@
 ghost use Rattle.std.specs.Prelude.{◌≡◌, ◌∷◌, ◌<◌, [], None, IfErr, OnErr, OnOk, MatchOption, length, string_bytes};
 ghost use Rattle.pool_commands.specs.Grammar as grammar;
 ghost use Rattle.pool_replay.specs.declared.running.Stop.TheVariants.{NoCommand};
-ghost use Rattle.pool_replay.specs.Transcript.{IsTranscript, Answers, first_desk, lines_of};
+ghost use Rattle.pool_replay.specs.Transcript.{IsRun, IsTranscript, Answers, first_desk, lines_of};
 
 use crate::desk::Desk;
 use pool_commands::command_in;
@@ -128,7 +128,7 @@ fn run_lines(
 /// NoPass`, but `expire` needs none. `view` keeps what it saw and the best plan for it, in the place of an older view, and
 /// `adopt` spends it, also where it is refused; where there is none it prints `refused NoView`.
 pub fn run(alloc: Global, settings: Settings, input: &[u8]) -> Outcome
-    ensures transcript { IsTranscript settings 1 (first_desk settings) (lines_of input.now) (string_bytes result.output) result.end }
+    ensures run { IsRun settings input.now (string_bytes result.output) result.end }
 {
     let mut output = String::new(alloc);
     let Ok(mut desk) = Desk::new(alloc, &settings) else {

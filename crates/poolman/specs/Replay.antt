@@ -1,7 +1,7 @@
 -- What `replay` reads and writes, and how it ends.
 use Rattle.std.specs.Prelude.{◌≡◌, ℕ, ◌<◌, ◌⊎◌, List, [], length, take, string_bytes, Bool, Option, None, Some, Result, Ok, Err}
 use Rattle.gear_status.specs.Device.{Undisturbed, and_then}
-use Rattle.pool_replay.specs.Transcript.{IsTranscript, first_desk, lines_of}
+use Rattle.pool_replay.specs.Transcript.{IsRun}
 use Rattle.pool_replay.specs.declared.running.End.{End}
 use Rattle.pool_replay.specs.declared.running.End.TheVariants as end
 use Rattle.pool_replay.specs.declared.running.Outcome.{Outcome}
@@ -13,13 +13,13 @@ use Rattle.poolman.specs.declared.fault.Exit.{Exit}
 use Rattle.poolman.specs.declared.fault.Fault.{Fault}
 use Rattle.poolman.specs.declared.fault.Fault.TheVariants as fault
 
--- The input was taken whole, and the output is a transcript of the pool's machine on its lines, or on those before the one at
--- which the run ended.
+-- The input was taken whole, and the output is that of a run of it: a transcript of the pool's machine on its lines, or on those
+-- before the one at which the run ended.
 pub record Transcribes (settings input : List ℕ) (lulls failures : ℕ) (ended : Bool) (output : List ℕ) (how : End) : Type 0 where
   pub profile : Profile
   pub means : reading settings ≡ Ok profile
   pub whole : TakesWhole input lulls failures ended (Ok input)
-  pub transcript : IsTranscript profile 1 (first_desk profile) (lines_of input) output how
+  pub run : IsRun profile input output how
 
 -- The run of the input that was taken, or the first fault of settings and input. Nothing is taken where the settings are refused.
 abbrev pub Runs : List ℕ → List ℕ → ℕ → ℕ → Bool → Result Outcome Fault → Type 0

@@ -491,18 +491,76 @@ fn inputs_that_pause(rt: HostRuntime) {
     assert!(rt; ends_after(alloc, 65, Exit::refused(Fault::ReadFault), b""));
 }
 
-/// Whether an input of so many bytes is too long.
-fn is_too_long(alloc: Global, length: usize) -> Result<bool, AllocError> {
+/// Whether so many line feeds meet this fault, and nothing is written.
+fn feeds_meet(alloc: Global, length: usize, fault: Fault) -> Result<bool, AllocError> {
     let mut sink = Script::new(alloc);
     let input = vec![in alloc; b'\n'; length]?;
     let exit = run_commands(alloc, TWO, &mut SliceSource::new(&input), &mut sink);
-    Ok(exit == Exit::refused(Fault::TooLong) && sink.output().is_empty())
+    Ok(exit == Exit::refused(fault) && sink.output().is_empty())
 }
 
 #[test]
 fn inputs_that_are_too_long(rt: HostRuntime) {
-    assert!(rt; matches!(is_too_long(rt.alloc(), 16_777_217), Ok(true)));
-    assert!(rt; matches!(is_too_long(rt.alloc(), 16_777_216), Ok(false)));
+    let alloc = rt.alloc();
+    assert!(rt; matches!(feeds_meet(alloc, 16_777_217, Fault::TooLong), Ok(true)));
+    assert!(rt;
+        matches!(
+            feeds_meet(alloc, 16_777_216, Fault::BadCommand(1)),
+            Ok(true)
+        )
+    );
+}
+
+/// How `replay` of so many rounds without a load ends, and what it writes.
+fn refused_rounds(alloc: Global, count: u32) -> Result<(Exit, Script), AllocError> {
+    let mut lines = Vec::new(alloc);
+    for _ in 0..count {
+        lines.extend_from_slice(b"round\n")?;
+    }
+    let mut sink = Script::new(alloc);
+    let exit = run_commands(alloc, TWO, &mut SliceSource::new(&lines), &mut sink);
+    Ok((exit, sink))
+}
+
+/// Whether each of so many rounds without a load is refused, in a line of 17 bytes.
+fn refuses_all(alloc: Global, count: u32) -> bool {
+    match refused_rounds(alloc, count) {
+        Ok((exit, sink)) => {
+            let written = sink.output();
+            exit == Exit::answered(0)
+                && written.len() as u64 == 17 * u64::from(count)
+                && written.ends_with(b"\nrefused 1 NoLoad\n")
+        }
+        Err(_) => false,
+    }
+}
+
+#[test]
+fn inputs_of_many_pieces(rt: HostRuntime) {
+    assert!(rt; refuses_all(rt.alloc(), 50_000));
+}
+
+/// Whether `replay` writes all answers. Where it ends for want of memory, also the sink's, it has to have written those of the
+/// lines before, and it is run once more.
+fn prints_again(alloc: Global) -> bool {
+    let mut sink = Script::new(alloc);
+    let exit = run_commands(alloc, THREE, &mut SliceSource::new(KEPT), &mut sink);
+    match exit.fault {
+        None => sink.output() == KEPT_ANSWERS,
+        Some(Fault::Memory) => {
+            KEPT_ANSWERS.starts_with(sink.output()) && prints(alloc, THREE, KEPT, KEPT_ANSWERS)
+        }
+        Some(Fault::WriteFault) => {
+            KEPT_ANSWERS.starts_with(sink.output()) && prints(alloc, THREE, KEPT, KEPT_ANSWERS)
+        }
+        Some(_) => false,
+    }
+}
+
+/// Memory may be refused once, at any request.
+#[test]
+fn memory_refused_once(rt: HostRuntime) {
+    assert!(rt; prints_again(rt.alloc()));
 }
 
 /// Whether a sink that takes so many bytes one by one, and then fails, has got them.
@@ -514,6 +572,22 @@ fn fails_after(alloc: Global, sent: u32) -> bool {
     let exit = run_commands(alloc, THREE, &mut source, &mut sink);
     exit == Exit::refused(Fault::WriteFault)
         && ROUNDS_ANSWERS.get(..sent as usize) == Some(sink.output())
+}
+
+/// Whether `replay` of these lines meets this fault where the first write fails.
+fn meets_unwritten(alloc: Global, lines: &[u8], fault: Fault) -> bool {
+    let mut sink = Script::new(alloc);
+    sink.fail_give(1);
+    let exit = run_commands(alloc, TWO, &mut SliceSource::new(lines), &mut sink);
+    exit == Exit::refused(fault)
+}
+
+/// A write that fails is told and not the line behind it; without an answer nothing is written.
+#[test]
+fn writes_before_lines(rt: HostRuntime) {
+    let alloc = rt.alloc();
+    assert!(rt; meets_unwritten(alloc, b"join a/0\n\n", Fault::WriteFault));
+    assert!(rt; meets_unwritten(alloc, b"\njoin a/0\n", Fault::BadCommand(1)));
 }
 
 #[test]

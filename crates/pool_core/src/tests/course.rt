@@ -32,6 +32,10 @@ pub enum Call {
     Totals,
     /// The order to the first slot.
     Order,
+    /// Whether the ticket's job is `H:a:1` of x.
+    Job(u64),
+    /// A new pool of the same settings takes the place of this one; the answer that was found is kept.
+    Renew,
 }
 
 /// What a call answered.
@@ -69,6 +73,7 @@ pub enum Told {
 #[derive(Drop)]
 struct Course {
     alloc: Global,
+    settings: Settings,
     pool: Pool,
     passes: Vec<Option<Pass>>,
     found: Option<Certified>,
@@ -192,6 +197,20 @@ fn round(pool: &mut Pool) -> Told {
     }
 }
 
+fn job(pool: &Pool, ticket: u64) -> Told {
+    match pool.job(Ticket::new(ticket)) {
+        Some((handle, function))
+            if handle.bytes() == b"H:a:1".as_slice() && function == b"x".as_slice() => Told::Done,
+        _ => Told::Nothing,
+    }
+}
+
+/// A pool of these settings in which nothing has happened.
+fn fresh(alloc: Global, settings: &Settings) -> Option<Pool> {
+    let settings = settings.copy(alloc).ok()?;
+    Pool::new(alloc, settings).ok()
+}
+
 fn end_chapter(pool: &mut Pool) -> Told {
     match pool.end_chapter() {
         Ok(chapter) => Told::Chapter(chapter.number, chapter.events.len()),
@@ -203,13 +222,14 @@ fn end_chapter(pool: &mut Pool) -> Told {
 impl Course {
     fn new(alloc: Global, text: &str) -> Option<Course> {
         let settings = Settings::read(alloc, text.as_bytes()).ok()?;
-        let pool = Pool::new(alloc, settings).ok()?;
+        let pool = fresh(alloc, &settings)?;
         let mut passes = Vec::new(alloc);
         for _ in 0..pool.slots() {
             passes.push(None).ok()?;
         }
         Some(Course {
             alloc,
+            settings,
             pool,
             passes,
             found: None,
@@ -283,6 +303,14 @@ impl Course {
         }
     }
 
+    fn renew(&mut self) -> Told {
+        let Some(pool) = fresh(self.alloc, &self.settings) else {
+            return Told::NoMemory;
+        };
+        self.pool = pool;
+        Told::Done
+    }
+
     /// A call of the worker in the slot.
     fn work(&mut self, slot: u32, call: Call) -> Told {
         let Some(Some(pass)) = self.passes.get(slot as usize) else {
@@ -312,6 +340,8 @@ impl Course {
             Call::Look(ticket) => standing(self.pool.standing(Ticket::new(ticket))),
             Call::Totals => totals(&self.pool.totals()),
             Call::Order => order(&self.pool),
+            Call::Job(ticket) => job(&self.pool, ticket),
+            Call::Renew => self.renew(),
         }
     }
 

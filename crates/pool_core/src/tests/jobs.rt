@@ -24,6 +24,7 @@ fn a_job_that_is_reported_is_not_late(rt: HostRuntime) {
         (Call::Join(0), Told::Joined(1)),
         (Call::Grab(0), Told::Job(1)),
         (Call::Look(1), Told::Running),
+        (Call::Job(1), Told::Done),
         (Call::Begin(0, 1), Told::Done),
         (Call::Look(1), Told::Reporting),
         (Call::Expire(1, 5000), Told::Refused(3)),
@@ -31,6 +32,8 @@ fn a_job_that_is_reported_is_not_late(rt: HostRuntime) {
         (Call::Look(1), Told::Reported),
         (Call::Look(0), Told::Nothing),
         (Call::Look(2), Told::Nothing),
+        (Call::Job(1), Told::Done),
+        (Call::Job(2), Told::Nothing),
     ];
     assert_eq!(rt; first_wrong(rt.alloc(), ONE, &calls), None);
 }

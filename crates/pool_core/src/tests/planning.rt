@@ -53,6 +53,20 @@ fn an_answer_to_another_load(rt: HostRuntime) {
     assert_eq!(rt; first_wrong(rt.alloc(), BOTH, &calls), None);
 }
 
+/// A pool without a load takes no answer, also none that is right.
+#[test]
+fn an_answer_before_any_load(rt: HostRuntime) {
+    let calls = [
+        (Call::Join(0), Told::Joined(1)),
+        (Call::Load(6, 2), Told::Done),
+        (Call::View, Told::Done),
+        (Call::Renew, Told::Done),
+        (Call::Adopt, Told::Refused(1)),
+        (Call::Totals, Told::Totals(0, 0, 0, 0, 0)),
+    ];
+    assert_eq!(rt; first_wrong(rt.alloc(), BOTH, &calls), None);
+}
+
 /// An order whose function stays keeps its round.
 #[test]
 fn orders_keep_their_round(rt: HostRuntime) {

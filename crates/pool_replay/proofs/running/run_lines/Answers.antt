@@ -28,7 +28,7 @@ returns-in-Err-Memory c =
     let all = lines_of c.args.input.now in
     subst (λ (o : List ℕ). IsTranscript p 1 (first_desk p) all o Memory) (sym c.in-Err-Memory.ensures.unchanged)
     (ends p all (string_bytes l.output) l.number l.desk (lines_of l.rest.now) Memory l.invariant.transcript
-    (gives_up p l.number l.desk (lines_of l.rest.now)))
+    (gives_up p l.number l.desk (lines_of l.rest.now) c.in-Some.line.now (lines_of c.in-Some.tail.now) c.in-Some.ensures.0))
 
 pub loop-line-preserved : goal.loop-line-preserved
 loop-line-preserved c =
