@@ -1,10 +1,12 @@
--- A worker's name with its generation, as it is printed, is read as that worker.
+-- What is printed of a worker and of a cause is read as that worker and that cause.
 use Rattle.std.specs.Prelude.{◌≡◌, ℕ, ◌<◌, ◌≤◌, List, ◌∷◌, ◌++◌, Some}
 use Rattle.std.specs.Fmt.{decimal}
 use Rattle.pool_settings.specs.Profile.{IsProfile, Profile}
 use Rattle.pool_settings.specs.Slots.{slots, worker_name}
+use Rattle.worker_state.specs.Causes.{cause_name}
 use Rattle.worker_state.specs.Limits.{max_generation}
-use Rattle.pool_commands.specs.Words.{worker_in}
+use Rattle.worker_state.specs.declared.cause.Cause.{Cause}
+use Rattle.pool_commands.specs.Words.{cause_in, worker_in}
 
 -- the name of the slot, a hash sign and the generation in decimal
 abbrev pub worker_text : Profile → ℕ → ℕ → List ℕ
@@ -13,3 +15,6 @@ worker_text p slot generation = worker_name p slot ++ 35 ∷ decimal generation
 abbrev pub AreWorkersReadBack : Type 0
 AreWorkersReadBack = (p : Profile) → IsProfile p → (slot generation : ℕ) → slot < slots p → 1 ≤ generation → generation ≤ max_generation
     → worker_in p (worker_text p slot generation) ≡ Some (record { slot = slot; generation = generation })
+
+abbrev pub AreCausesReadBack : Type 0
+AreCausesReadBack = (cause : Cause) → cause_in (cause_name cause) ≡ Some cause

@@ -46,7 +46,7 @@ mod line;
 mod word;
 
 pub use command::{Command, Word};
-pub use law::workers_read_back;
+pub use law::{causes_read_back, workers_read_back};
 pub use line::command_in;
 
 #[cfg(test)]
