@@ -127,16 +127,16 @@ fn run_lines(
 /// under their names until `lose` takes them, also where it is refused; a command for a worker without a pass prints `refused
 /// NoPass`, but `expire` needs none. `view` keeps what it saw and the best plan for it, in the place of an older view, and
 /// `adopt` spends it, also where it is refused; where there is none it prints `refused NoView`.
-pub fn run(alloc: Global, settings: Settings, input: &[u8]) -> Outcome
-    ensures run { IsRun settings input.now (string_bytes result.output) result.end }
+pub fn run(alloc: Global, settings: &Settings, input: &[u8]) -> Outcome
+    ensures run { IsRun settings.now input.now (string_bytes result.output) result.end }
 {
     let mut output = String::new(alloc);
-    let Ok(mut desk) = Desk::new(alloc, &settings) else {
+    let Ok(mut desk) = Desk::new(alloc, settings) else {
         return Outcome {
             output,
             end: End::Memory,
         };
     };
-    let end = run_lines(alloc, &settings, &mut desk, input, &mut output);
+    let end = run_lines(alloc, settings, &mut desk, input, &mut output);
     Outcome { output, end }
 }

@@ -32,7 +32,7 @@ fn prints(
     let settings = Settings::read(alloc, settings.as_bytes())
         .ok()
         .ok_or("settings")?;
-    let outcome = run(alloc, settings, input.as_bytes());
+    let outcome = run(alloc, &settings, input.as_bytes());
     Ok(outcome.output.as_str() == output && outcome.end == end)
 }
 

@@ -24,7 +24,7 @@ fn run_input<R: Source>(alloc: Global, settings: &[u8], source: &mut R) -> Resul
 {
     let settings = Settings::read(alloc, settings)?;
     let input = read_whole(alloc, source)?;
-    Ok(run(alloc, settings, &input))
+    Ok(run(alloc, &settings, &input))
 }
 
 /// How the command ends that ran its lines so, and wrote what they print.
