@@ -36,6 +36,10 @@ pub enum Call {
     Job(u64),
     /// A new pool of the same settings takes the place of this one; the answer that was found is kept.
     Renew,
+    /// All memory that there is, is taken and held until the course ends.
+    TakeMemory,
+    /// Whether a request for one byte is refused, or more was given than can be kept.
+    IsMemoryTaken,
 }
 
 /// What a call answered.
@@ -77,6 +81,7 @@ struct Course {
     pool: Pool,
     passes: Vec<Option<Pass>>,
     found: Option<Certified>,
+    taken: Vec<Vec<u8>>,
 }
 
 /// What the readers of a pool answer.
@@ -219,6 +224,43 @@ fn end_chapter(pool: &mut Pool) -> Told {
     }
 }
 
+/// Takes blocks of this size until one is refused, or there is no place to keep more.
+fn take_blocks(alloc: Global, taken: &mut Vec<Vec<u8>>, size: usize) {
+    for _ in taken.len()..taken.capacity() {
+        let Ok(block) = Vec::with_capacity(alloc, size) else {
+            return;
+        };
+        if taken.push(block).is_err() {
+            return;
+        }
+    }
+}
+
+/// Takes all memory that there is, in blocks of 16 GiB at first and of one byte at last. Nothing is written to them, so they
+/// use up addresses and not the machine. An allocator that checks accesses gives small blocks without end: no more are taken
+/// then than there is place for.
+fn take_memory(alloc: Global) -> Vec<Vec<u8>> {
+    let Ok(mut taken) = Vec::with_capacity(alloc, 65_536) else {
+        return Vec::new(alloc);
+    };
+    let mut size = 1 << 34;
+    for _ in 0..35 {
+        take_blocks(alloc, &mut taken, size);
+        size /= 2;
+    }
+    taken
+}
+
+fn is_memory_taken(alloc: Global, taken: &Vec<Vec<u8>>) -> Told {
+    if !taken.is_empty() && taken.len() == taken.capacity() {
+        return Told::Done;
+    }
+    match Vec::<u8>::with_capacity(alloc, 1) {
+        Ok(_) => Told::Nothing,
+        Err(_) => Told::Done,
+    }
+}
+
 impl Course {
     fn new(alloc: Global, text: &str) -> Option<Course> {
         let settings = Settings::read(alloc, text.as_bytes()).ok()?;
@@ -233,6 +275,7 @@ impl Course {
             pool,
             passes,
             found: None,
+            taken: Vec::new(alloc),
         })
     }
 
@@ -342,6 +385,11 @@ impl Course {
             Call::Order => order(&self.pool),
             Call::Job(ticket) => job(&self.pool, ticket),
             Call::Renew => self.renew(),
+            Call::TakeMemory => {
+                self.taken = take_memory(self.alloc);
+                Told::Done
+            }
+            Call::IsMemoryTaken => is_memory_taken(self.alloc, &self.taken),
         }
     }
 
