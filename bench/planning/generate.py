@@ -1,7 +1,7 @@
 #!/usr/bin/env python3
 """Writes settings and a status text of 256 machines, 1,024 functions and 4,096 workers: generate.py KIND FOLDER
 
-The kinds are those of main.rt beside this file: all, half, sparse, chains, triangle.
+The kinds are those of main.rt beside this file: all, half, sparse, chains, triangle, detour.
 """
 import os
 import sys
@@ -19,11 +19,16 @@ MAY = {
     "sparse": lambda machine, function: mixed(machine, function) % 128 == 0,
     "chains": lambda machine, function: function // 4 in (machine, machine + 1),
     "triangle": lambda machine, function: function < FUNCTIONS - 4 * machine,
+    "detour": lambda machine, function: function < 500 if machine < 96 else function <= 500 if machine < 176 else function >= 500,
 }
 
 
 def waiting(kind, function):
-    return 1000 if kind == "triangle" else function * 7919 % 1000 + 1
+    if kind == "triangle":
+        return 1000
+    if kind == "detour":
+        return 1000 if function < 184 else 1200 if function < 500 else 256000 if function == 500 else 0
+    return function * 7919 % 1000 + 1
 
 
 def main():
