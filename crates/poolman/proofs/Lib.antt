@@ -5,3 +5,5 @@ pub mod Posing
 pub mod Ending
 pub mod Examining
 pub mod Replaying
+pub mod Telling
+pub mod Carried

@@ -1,19 +1,32 @@
 -- What is known of a standard stream or a file.
-use Rattle.std.specs.Prelude.{ℕ, Bool, false}
+use Rattle.std.specs.Prelude.{ℕ, ◌-◌, Bool, false, List, [], length, take, Option, None, Some, option_map}
 
--- how many reads of it failed, and whether the last one found the end
+-- what a reader has given that told from the start what it has left: what is in front of what it has left now
+abbrev pub given_of : Option (List ℕ) → Option (List ℕ) → Option (List ℕ)
+given_of None left = None
+given_of (Some all) None = None
+given_of (Some all) (Some left) = Some (take (length all - length left) all)
+
+-- the bytes that it gave, where they are known, how many reads of it failed, and whether the last one found the end
 pub record Input : Type 0 where
+  pub given : Option (List ℕ)
   pub failures : ℕ
   pub has_ended : Bool
 
--- before the first read
-abbrev pub first_input : Input
-first_input = record { failures = 0; has_ended = false }
+-- before the first read of a reader that has so much left
+abbrev pub first_input : Option (List ℕ) → Input
+first_input left = record { given = option_map (λ all. []) left; failures = 0; has_ended = false }
 
--- how many writes to it failed
+-- what a writer holds that told it from the start
+abbrev pub held_of : Option (List ℕ) → Option (List ℕ) → Option (List ℕ)
+held_of None now = None
+held_of (Some first) now = now
+
+-- the bytes that it holds, where they are known, and how many writes to it failed
 pub record Output : Type 0 where
+  pub held : Option (List ℕ)
   pub failures : ℕ
 
--- before the first write
-abbrev pub first_output : Output
-first_output = record { failures = 0 }
+-- before the first write to a writer that holds so much
+abbrev pub first_output : Option (List ℕ) → Output
+first_output held = record { held = held; failures = 0 }

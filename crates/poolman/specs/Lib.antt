@@ -7,3 +7,4 @@ pub mod Posing
 pub mod Plan
 pub mod Check
 pub mod Replay
+pub mod Carrying

@@ -3,12 +3,14 @@
 ghost use Rattle.std.specs.Prelude.{◌≡◌, IfOk};
 
 use crate::check::check_text;
+use crate::devices::{InputSource, OutputSink};
 use crate::fault::{Exit, Fault};
 use crate::plan::plan_text;
 use gear_status::{Script, SliceSource, StatusError, read_status_within};
 use pool_report::ReadError;
 use pool_settings::SettingsError;
 use std::alloc::{AllocError, Global};
+use std::io::{Read, Write};
 
 /// One worker, for one function.
 const SETTINGS: &[u8] = b"version = 1
@@ -158,4 +160,30 @@ fn status_texts_up_to_a_limit(rt: HostRuntime) {
     assert!(rt; is_read_within(alloc, len) == Some(true));
     assert!(rt; is_read_within(alloc, len - 1) == Some(false));
     assert!(rt; is_read_within(alloc, 0) == Some(false));
+}
+
+/// The exit of `plan` from a reader into a writer.
+fn plan_between<R: Read + Drop, W: Write + Drop>(alloc: Global, reader: R, writer: W) -> Exit {
+    let mut source = InputSource::new(reader);
+    let mut sink = OutputSink::new(writer);
+    plan_text(alloc, SETTINGS, &[], &mut source, &mut sink)
+}
+
+/// Whether a writer with room for so many bytes gets so many of the report, and is full then.
+fn plan_fills(alloc: Global, room: usize) -> bool {
+    let mut bytes = [0; 64];
+    let Some(front) = bytes.get_mut(..room) else {
+        return false;
+    };
+    let exit = plan_between(alloc, STATUS, front);
+    exit == Exit::refused(Fault::WriteFault) && bytes.get(..room) == REPORT.get(..room)
+}
+
+#[test]
+fn plan_from_a_reader_into_a_writer(rt: HostRuntime) {
+    let alloc = rt.alloc();
+    let mut report = Vec::new(alloc);
+    assert!(rt; plan_between(alloc, STATUS, &mut report) == Exit::answered(0));
+    assert!(rt; report.as_slice() == REPORT);
+    assert!(rt; (0..REPORT.len()).all(|room| plan_fills(alloc, room)));
 }

@@ -6,30 +6,42 @@ ghost use Rattle.poolman.specs.Devices.{first_input, first_output};
 use gear_status::{DeviceFault, Sink, Source, Took};
 use std::io::{ErrorKind, Read, Write};
 use std::marker::Model;
+use std::snapshot::Snapshot;
 
-/// A reader, of whose bytes nothing is known. It has no time limit, so that it lulls only where a
-/// signal interrupts it.
+/// A reader as a source. It tells what it gave where the reader tells what it has left. It has no time limit, so that it
+/// lulls only where a signal interrupts it.
 #[derive(Drop)]
-pub struct InputSource<R> {
+pub struct InputSource<R: Read> {
     reader: R,
+    first: Snapshot<R>,
     failures: u64,
     has_ended: bool,
 }
 
-impl<R> Model for InputSource<R> {
-    ghost use Rattle.poolman.specs.Devices.{Input};
+impl<R: Read> Model for InputSource<R> {
+    ghost use Rattle.std.specs.Prelude.{◌≡◌, List, ℕ, true};
+    ghost use Rattle.std.specs.Io.KnownBytes.{Consumes, IsAtEnd};
+    ghost use Rattle.poolman.specs.Devices.{Input, given_of};
 
     ghost Value = { Input };
 
-    ghost view = { λ s. record { failures = s.failures; has_ended = s.has_ended } };
+    ghost view = { λ s. record {
+      given = given_of (R.remaining s.first.value) (R.remaining s.reader);
+      failures = s.failures;
+      has_ended = s.has_ended;
+    } };
+
+    ghost invariant = { λ s. ((front : List ℕ) × Consumes (R.remaining s.first.value) (R.remaining s.reader) front)
+        × (s.has_ended ≡ true → IsAtEnd (R.remaining s.reader)) };
 }
 
 impl<R: Read + Drop> InputSource<R> {
     /// A source that has not failed, and has not found its end.
     pub fn new(reader: R) -> InputSource<R>
-        ensures { result ≡ first_input }
+        ensures { result ≡ first_input (R.remaining reader) }
     {
         InputSource {
+            first: Snapshot::of(&reader),
             reader,
             failures: 0,
             has_ended: false,
@@ -40,7 +52,7 @@ impl<R: Read + Drop> InputSource<R> {
 impl<R: Read + Drop> Source for InputSource<R> {
     ghost use Rattle.std.specs.Prelude.{None};
 
-    ghost given = { λ _. None };
+    ghost given = { λ s. s.given };
 
     ghost lulls = { λ _. None };
 
@@ -67,27 +79,33 @@ impl<R: Read + Drop> Source for InputSource<R> {
     }
 }
 
-/// A writer, of whose bytes nothing is known. A write that takes nothing is a failure.
+/// A writer as a sink. It tells what the writer holds where the writer tells it. A write that takes nothing is a failure.
 #[derive(Drop)]
-pub struct OutputSink<W> {
+pub struct OutputSink<W: Write> {
     writer: W,
+    first: Snapshot<W>,
     failures: u64,
 }
 
-impl<W> Model for OutputSink<W> {
-    ghost use Rattle.poolman.specs.Devices.{Output};
+impl<W: Write> Model for OutputSink<W> {
+    ghost use Rattle.std.specs.Prelude.{List, ℕ};
+    ghost use Rattle.std.specs.Io.KnownBytes.{Appends};
+    ghost use Rattle.poolman.specs.Devices.{Output, held_of};
 
     ghost Value = { Output };
 
-    ghost view = { λ s. record { failures = s.failures } };
+    ghost view = { λ s. record { held = held_of (W.contents s.first.value) (W.contents s.writer); failures = s.failures } };
+
+    ghost invariant = { λ s. (more : List ℕ) × Appends (W.contents s.first.value) (W.contents s.writer) more };
 }
 
 impl<W: Write + Drop> OutputSink<W> {
     /// A sink that has not failed.
     pub fn new(writer: W) -> OutputSink<W>
-        ensures { result ≡ first_output }
+        ensures { result ≡ first_output (W.contents writer) }
     {
         OutputSink {
+            first: Snapshot::of(&writer),
             writer,
             failures: 0,
         }
@@ -95,9 +113,7 @@ impl<W: Write + Drop> OutputSink<W> {
 }
 
 impl<W: Write + Drop> Sink for OutputSink<W> {
-    ghost use Rattle.std.specs.Prelude.{None};
-
-    ghost got = { λ _. None };
+    ghost got = { λ s. s.held };
 
     ghost failures = { λ s. s.failures };
 

@@ -1,6 +1,9 @@
 //! `poolman`: plans of a pool of Gearman workers, each shown to be best.
 #![tactic(auto)]
 
+ghost use Rattle.std.specs.Prelude.{◌≡◌, ◌⊎◌};
+
+mod carry_out;
 mod check;
 mod command_line;
 mod devices;
@@ -12,46 +15,20 @@ mod plan;
 mod problem;
 mod replay;
 
-use check::check_text;
-use command_line::{Command, CommandError, command_of};
+use carry_out::carry_out;
+use command_line::{CommandError, command_of};
 use devices::{InputSource, OutputSink};
 use fault::{Exit, Fault};
-use files::read_file;
-use plan::plan_text;
-use replay::run_commands;
 use std::process::ExitCode;
 use std::{env, io};
 
 /// The status of a command line that is not taken, help included.
 const USAGE: u8 = 2;
 
-/// Carries out a command. A file that cannot be read is told before any fault of a text.
-fn carry_out(rt: &HostRuntime, command: &Command<'_>) -> Result<Exit, Fault> {
-    let mut source = InputSource::new(rt.reader());
-    let mut sink = OutputSink::new(std::io::writer(rt));
-    match command {
-        Command::Plan { settings, lost } => {
-            let settings = read_file(rt, settings)?;
-            Ok(plan_text(rt.alloc(), &settings, lost, &mut source, &mut sink))
-        }
-        Command::Check {
-            settings,
-            status,
-            lost,
-        } => {
-            let settings = read_file(rt, settings)?;
-            let status = read_file(rt, status)?;
-            Ok(check_text(rt.alloc(), &settings, &status, lost, &mut source, &mut sink))
-        }
-        Command::Replay { settings } => {
-            let settings = read_file(rt, settings)?;
-            Ok(run_commands(rt.alloc(), &settings, &mut source, &mut sink))
-        }
-    }
-}
-
 /// Prints the fault line, if there is a fault, and gives the status.
-fn end(rt: &HostRuntime, exit: Exit) -> u8 {
+fn end(rt: &HostRuntime, exit: Exit) -> u8
+    ensures status { result ≡ exit.status }
+{
     if let Some(fault) = exit.fault {
         let _ = eprintln!(rt; "poolman: {fault}");
     }
@@ -60,10 +37,12 @@ fn end(rt: &HostRuntime, exit: Exit) -> u8 {
 
 fn run(rt: &HostRuntime, words: &[String]) -> u8 {
     match command_of(rt.alloc(), words) {
-        Ok(command) => match carry_out(rt, &command) {
-            Ok(exit) => end(rt, exit),
-            Err(fault) => end(rt, Exit::refused(fault)),
-        },
+        Ok(command) => {
+            let mut source = InputSource::new(rt.reader());
+            let mut sink = OutputSink::new(io::writer(rt));
+            let exit = carry_out(rt, rt.alloc(), &command, &mut source, &mut sink);
+            end(rt, exit)
+        }
         Err(CommandError::Usage(error)) => {
             let _ = rt.eprint(error);
             USAGE
@@ -72,7 +51,9 @@ fn run(rt: &HostRuntime, words: &[String]) -> u8 {
     }
 }
 
-fn out_of_memory(rt: &HostRuntime) -> u8 {
+fn out_of_memory(rt: &HostRuntime) -> u8
+    ensures status { result ≡ 4 }
+{
     end(rt, Exit::refused(Fault::Memory))
 }
 
@@ -86,7 +67,9 @@ fn words(rt: &HostRuntime) -> io::Result<Vec<String>> {
 }
 
 /// Words that are no UTF-8 are no command's.
-fn no_words(rt: &HostRuntime, error: &io::Error) -> u8 {
+fn no_words(rt: &HostRuntime, error: &io::Error) -> u8
+    ensures status { (result ≡ 2) ⊎ (result ≡ 4) }
+{
     if error.kind() == io::ErrorKind::OutOfMemory {
         return out_of_memory(rt);
     }
@@ -104,6 +87,8 @@ fn main(rt: HostRuntime) -> ExitCode {
 
 #[cfg(test)]
 mod device_tests;
+#[cfg(test)]
+mod file_tests;
 #[cfg(test)]
 mod line_tests;
 #[cfg(test)]

@@ -1,6 +1,6 @@
 //! The command line of each command, as a command of `clap` of its own.
 
-ghost use Rattle.std.specs.Prelude.{◌≡◌, IfErr, IfOk, Some, [], false, map, true};
+ghost use Rattle.std.specs.Prelude.{◌≡◌, ◌<◌, IfErr, IfOk, IsSomeAnd, Some, [], false, length, map, true};
 ghost use Rattle.clap.specs.Built.{FitsChain, TakesValue};
 ghost use Rattle.clap.specs.Words.{IsPlainArg, app_of, args_of, found_of, groups_of, kind_of, rows_of, rule_of, takes};
 ghost use Rattle.clap.specs.Simple.{matches_of, new_app};
@@ -25,6 +25,7 @@ const REPLAY: &str =
 fn operand<'a>(alloc: Global, id: &'a str, help: &'a str) -> Arg<'a>
     ensures rule { rule_of result ≡ spec.operand id.entry.now }
     ensures id { result.id ≡ id.entry }
+    ensures help { result.help ≡ Some help.entry }
     ensures plain { IsPlainArg result }
     ensures value { TakesValue result }
     ensures local { result.global ≡ false }
@@ -39,6 +40,7 @@ fn operand<'a>(alloc: Global, id: &'a str, help: &'a str) -> Arg<'a>
 fn operands<'a>(alloc: Global, id: &'a str, help: &'a str) -> Arg<'a>
     ensures rule { rule_of result ≡ spec.operands id.entry.now }
     ensures id { result.id ≡ id.entry }
+    ensures help { result.help ≡ Some help.entry }
     ensures plain { IsPlainArg result }
     ensures local { result.global ≡ false }
 {
@@ -51,6 +53,7 @@ fn operands<'a>(alloc: Global, id: &'a str, help: &'a str) -> Arg<'a>
 fn settings<'a>(alloc: Global) -> Arg<'a>
     ensures rule { rule_of result ≡ spec.operand spec.settings }
     ensures id { result.id.now ≡ spec.settings }
+    ensures explained { IsSomeAnd result.help (λ help. 0 < length help.now) }
     ensures fits { FitsChain result }
     ensures value { TakesValue result }
 {
@@ -64,6 +67,7 @@ fn settings<'a>(alloc: Global) -> Arg<'a>
 fn status<'a>(alloc: Global) -> Arg<'a>
     ensures rule { rule_of result ≡ spec.operand spec.status }
     ensures id { result.id.now ≡ spec.status }
+    ensures explained { IsSomeAnd result.help (λ help. 0 < length help.now) }
     ensures fits { FitsChain result }
     ensures value { TakesValue result }
 {
@@ -77,6 +81,7 @@ fn status<'a>(alloc: Global) -> Arg<'a>
 fn lost<'a>(alloc: Global) -> Arg<'a>
     ensures rule { rule_of result ≡ spec.operands spec.lost }
     ensures id { result.id.now ≡ spec.lost }
+    ensures explained { IsSomeAnd result.help (λ help. 0 < length help.now) }
     ensures fits { FitsChain result }
 {
     operands(
@@ -95,6 +100,9 @@ fn command<'a>(
     example: &'a str,
 ) -> Command<'a>
     ensures app { app_of result ≡ new_app name.entry.now }
+    ensures about { (fields_of result).about ≡ Some about.entry }
+    ensures usage { (fields_of result).usage_str ≡ Some usage.entry }
+    ensures example { (fields_of result).after_help ≡ Some example.entry }
     ensures arguments { args_of result ≡ [] }
     ensures groups { groups_of result ≡ [] }
     ensures local { (fields_of result).has_globals ≡ false }
@@ -197,7 +205,10 @@ pub fn replay_words<'a, W: AsStr>(alloc: Global, words: &'a [W]) -> Result<&'a s
 }
 
 /// A command of the overview, which takes any words.
-fn entry<'a>(alloc: Global, name: &'a str, about: &'a str) -> Command<'a> {
+fn entry<'a>(alloc: Global, name: &'a str, about: &'a str) -> Command<'a>
+    ensures name { (fields_of result).name ≡ name.entry }
+    ensures about { (fields_of result).about ≡ Some about.entry }
+{
     Command::new(alloc, name).about(about)
 }
 

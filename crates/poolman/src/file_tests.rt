@@ -1,0 +1,141 @@
+//! Commands on files, of which two are there.
+
+use crate::carry_out::carry_out;
+use crate::command_line::Command;
+use crate::fault::{Exit, Fault};
+use crate::files::{Folder, read_file};
+use gear_status::{SliceSource, VecSink};
+use pool_settings::SettingsError;
+use std::alloc::{AllocError, Global};
+use std::io;
+use std::io::ErrorKind;
+
+/// The most bytes that a file may have.
+const LIMIT: usize = 16_777_216;
+
+/// A folder of a settings file and a status text.
+#[derive(Drop)]
+struct TwoFiles<'a> {
+    settings: &'a [u8],
+    status: &'a [u8],
+}
+
+impl<'a> Folder for TwoFiles<'a> {
+    ghost use Rattle.std.specs.Prelude.{Some, codes, if◌then◌else◌};
+    ghost use Rattle.std.specs.Str.{bytes_eq};
+
+    type File = &'a [u8];
+
+    ghost text = { λ o name. Some (if bytes_eq name (codes "settings.toml") then o.settings.now else o.status.now) };
+
+    fn open(&self, name: &str) -> io::Result<&'a [u8]> {
+        if name == "settings.toml" {
+            return Ok(self.settings);
+        }
+        if name == "status.txt" {
+            return Ok(self.status);
+        }
+        Err(io::Error::from(ErrorKind::NotFound))
+    }
+}
+
+const SETTINGS: &[u8] = b"version = 1
+[functions.x]
+[machines.a]
+workers = 1
+functions = [\"x\"]
+";
+
+const STATUS: &[u8] = b"x\t0\t0\t0\n.\n";
+
+const REPORT: &[u8] = b"report 1
+backlog 0
+work a/0 x
+end
+";
+
+/// Whether a command on standard input ends so and writes so much.
+fn carries_out(
+    alloc: Global,
+    command: &Command<'_>,
+    input: &[u8],
+    exit: Exit,
+    output: &[u8],
+) -> bool {
+    let files = TwoFiles {
+        settings: SETTINGS,
+        status: STATUS,
+    };
+    let mut source = SliceSource::new(input);
+    let mut sink = VecSink::new(alloc);
+    carry_out(&files, alloc, command, &mut source, &mut sink) == exit && sink.bytes() == output
+}
+
+fn plan<'a>(alloc: Global, settings: &'a str) -> Command<'a> {
+    Command::Plan {
+        settings,
+        lost: Vec::new(alloc),
+    }
+}
+
+fn check<'a>(alloc: Global, settings: &'a str, status: &'a str) -> Command<'a> {
+    Command::Check {
+        settings,
+        status,
+        lost: Vec::new(alloc),
+    }
+}
+
+#[test]
+fn commands_read_their_files(rt: HostRuntime) {
+    let alloc = rt.alloc();
+    let done = Exit::answered(0);
+    assert!(rt; carries_out(alloc, &plan(alloc, "settings.toml"), STATUS, done, REPORT));
+    let check = check(alloc, "settings.toml", "status.txt");
+    assert!(rt; carries_out(alloc, &check, REPORT, done, b"shown\n"));
+    let replay = Command::Replay {
+        settings: "settings.toml",
+    };
+    assert!(rt; carries_out(alloc, &replay, b"", done, b""));
+}
+
+#[test]
+fn files_that_are_not_there_are_told_first(rt: HostRuntime) {
+    let alloc = rt.alloc();
+    let missing = Exit::refused(Fault::NoFile);
+    assert!(rt; carries_out(alloc, &plan(alloc, "none"), b"", missing, b""));
+    assert!(rt;
+        carries_out(
+            alloc,
+            &check(alloc, "status.txt", "none"),
+            b"",
+            missing,
+            b""
+        )
+    );
+    let swapped = check(alloc, "status.txt", "settings.toml");
+    let text = Exit::refused(Fault::Settings(SettingsError::Text));
+    assert!(rt; carries_out(alloc, &swapped, REPORT, text, b""));
+    assert!(rt; read_file(&rt, alloc, "").is_err_and(|fault| fault == Fault::NoFile));
+}
+
+/// Why a file of so many bytes is not read, and None where it is read whole.
+fn refusal(alloc: Global, len: usize) -> Result<Option<Fault>, AllocError> {
+    let text = vec![in alloc; b'x'; len]?;
+    let files = TwoFiles {
+        settings: b"",
+        status: &text,
+    };
+    match read_file(&files, alloc, "status.txt") {
+        Ok(bytes) => Ok((bytes != text).then_some(Fault::Memory)),
+        Err(fault) => Ok(Some(fault)),
+    }
+}
+
+#[test]
+fn files_are_read_up_to_the_limit(rt: HostRuntime) {
+    let alloc = rt.alloc();
+    assert!(rt; refusal(alloc, 0) == Ok(None));
+    assert!(rt; refusal(alloc, LIMIT) == Ok(None));
+    assert!(rt; refusal(alloc, LIMIT + 1) == Ok(Some(Fault::TooLong)));
+}
