@@ -1,21 +1,24 @@
 -- What a command does, by the files that it names.
-use Rattle.std.specs.Prelude.{◌≡◌, ◌⊎◌, ℕ, List, [], Bool, Option, None, Some, IfSome}
+use Rattle.std.specs.Prelude.{◌≡◌, ◌⊎◌, ℕ, List, [], Bool, Option, None, Some}
 use Rattle.poolman.specs.Check.{Checks}
-use Rattle.poolman.specs.Fault.{IsOfFile, status_of}
+use Rattle.poolman.specs.Fault.{status_of}
+use Rattle.poolman.specs.Folder.{IsTextOf, IsUnread}
 use Rattle.poolman.specs.Plan.{Plans}
 use Rattle.poolman.specs.Replay.{Replays}
 use Rattle.poolman.specs.Words.{Named, plan, check, replay}
 use Rattle.poolman.specs.declared.fault.Fault.{Fault}
 
--- a file's bytes, where they are known
-abbrev pub IsTextOf : Option (List ℕ) → List ℕ → Type 0
-IsTextOf known text = IfSome known (λ all. text ≡ all)
+-- A file of the command is not read whole by this fault.
+abbrev pub IsUnreadIn : (List ℕ → Option (List ℕ)) → Named → Fault → Type 0
+IsUnreadIn file (plan s lost) f = IsUnread (file s) f
+IsUnreadIn file (check s t lost) f = IsUnread (file s) f ⊎ IsUnread (file t) f
+IsUnreadIn file (replay s) f = IsUnread (file s) f
 
--- A file was not read whole, and nothing was taken and nothing written.
-abbrev pub IsUnread : List ℕ → ℕ → ℕ → Option (List ℕ) → Option (List ℕ) → ℕ → Option Fault → Type 0
-IsUnread bytes lulls failures old new status None = ⊥
-IsUnread bytes lulls failures old new status (Some f) =
-    IsOfFile f × (bytes ≡ []) × (lulls ≡ 0) × (failures ≡ 0) × (new ≡ old) × (status ≡ status_of f)
+-- A file of the command was not read whole, and nothing was taken and nothing written.
+abbrev pub Stops : (List ℕ → Option (List ℕ)) → Named → List ℕ → ℕ → ℕ → Option (List ℕ) → Option (List ℕ) → ℕ → Option Fault → Type 0
+Stops file command bytes lulls failures old new status None = ⊥
+Stops file command bytes lulls failures old new status (Some f) =
+    IsUnreadIn file command f × (bytes ≡ []) × (lulls ≡ 0) × (failures ≡ 0) × (new ≡ old) × (status ≡ status_of f)
 
 -- What a sink has got that had `old` before, and how the command ends, where its files have these bytes
 abbrev pub Runs : (List ℕ → Option (List ℕ)) → Named → List ℕ → ℕ → ℕ → Bool → Option (List ℕ) → Option (List ℕ) → ℕ → Option Fault → Type 0
@@ -30,4 +33,4 @@ Runs file (replay s) bytes lulls failures ended old new status fault =
 -- The command ran, or one of its files was not read.
 abbrev pub CarriesOut : (List ℕ → Option (List ℕ)) → Named → List ℕ → ℕ → ℕ → Bool → Option (List ℕ) → Option (List ℕ) → ℕ → Option Fault → Type 0
 CarriesOut file command bytes lulls failures ended old new status fault =
-    IsUnread bytes lulls failures old new status fault ⊎ Runs file command bytes lulls failures ended old new status fault
+    Stops file command bytes lulls failures old new status fault ⊎ Runs file command bytes lulls failures ended old new status fault

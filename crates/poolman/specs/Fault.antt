@@ -44,14 +44,6 @@ fault_line fault.WriteFault = codes "device 2 WriteFault"
 fault_line fault.NoFile = codes "device 3 NoFile"
 fault_line fault.Memory = codes "memory"
 
--- a fault that a file may have
-abbrev pub IsOfFile : Fault → Type 0
-IsOfFile fault.NoFile = Unit {0}
-IsOfFile fault.ReadFault = Unit {0}
-IsOfFile fault.TooLong = Unit {0}
-IsOfFile fault.Memory = Unit {0}
-IsOfFile _ = ⊥
-
 -- Want of memory is one fault, whoever meets it.
 abbrev pub settings_fault : SettingsError → Fault
 settings_fault settings.Memory = fault.Memory

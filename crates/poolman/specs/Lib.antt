@@ -1,6 +1,7 @@
 pub mod Words
 pub mod Named
 pub mod Fault
+pub mod Folder
 pub mod Devices
 pub mod Problem
 pub mod Posing

@@ -1,9 +1,10 @@
 //! A command, carried out on files and devices.
 
-ghost use Rattle.std.specs.Prelude.{◌≡◌, ◌+◌, ◌-◌, ◌^◌, ◌<◌, IfErr, IfOk, IfSome, List, ℕ};
+ghost use Rattle.std.specs.Prelude.{◌≡◌, ◌+◌, ◌-◌, ◌^◌, ◌<◌, ◌⊎◌, IfErr, IfOk, IfSome, List, ℕ};
 ghost use Rattle.gear_status.specs.Device.{and_then, counted};
-ghost use Rattle.poolman.specs.Carrying.{CarriesOut, IsTextOf};
-ghost use Rattle.poolman.specs.Fault.{IsOfFile, sink_failures};
+ghost use Rattle.poolman.specs.Carrying.{CarriesOut};
+ghost use Rattle.poolman.specs.Fault.{sink_failures};
+ghost use Rattle.poolman.specs.Folder.{IsTextOf, IsUnread};
 ghost use Rattle.poolman.specs.Named.{named};
 
 use crate::check::check_text;
@@ -62,7 +63,7 @@ fn read_both<F: Folder>(
 ) -> Result<(Vec<u8>, Vec<u8>), Fault>
     ensures first { IfOk result (λ texts. IsTextOf (F.text files.now first.now) texts.0.items) }
     ensures second { IfOk result (λ texts. IsTextOf (F.text files.now second.now) texts.1.items) }
-    ensures err { IfErr result IsOfFile }
+    ensures err { IfErr result (λ f. IsUnread (F.text files.now first.now) f ⊎ IsUnread (F.text files.now second.now) f) }
 {
     let first = read_file(files, alloc, first)?;
     let second = read_file(files, alloc, second)?;

@@ -7,8 +7,6 @@ use crate::files::{Folder, read_file};
 use gear_status::{SliceSource, VecSink};
 use pool_settings::SettingsError;
 use std::alloc::{AllocError, Global};
-use std::io;
-use std::io::ErrorKind;
 
 /// The most bytes that a file may have.
 const LIMIT: usize = 16_777_216;
@@ -21,21 +19,22 @@ struct TwoFiles<'a> {
 }
 
 impl<'a> Folder for TwoFiles<'a> {
-    ghost use Rattle.std.specs.Prelude.{Some, codes, if◌then◌else◌};
+    ghost use Rattle.std.specs.Prelude.{None, Some, codes, if◌then◌else◌};
     ghost use Rattle.std.specs.Str.{bytes_eq};
 
     type File = &'a [u8];
 
-    ghost text = { λ o name. Some (if bytes_eq name (codes "settings.toml") then o.settings.now else o.status.now) };
+    ghost text = { λ o name. if bytes_eq name (codes "settings.toml") then Some o.settings.now
+        else (if bytes_eq name (codes "status.txt") then Some o.status.now else None) };
 
-    fn open(&self, name: &str) -> io::Result<&'a [u8]> {
+    fn open(&self, name: &str) -> Result<&'a [u8], Fault> {
         if name == "settings.toml" {
             return Ok(self.settings);
         }
         if name == "status.txt" {
             return Ok(self.status);
         }
-        Err(io::Error::from(ErrorKind::NotFound))
+        Err(Fault::NoFile)
     }
 }
 

@@ -1,5 +1,5 @@
 use Rattle.std.proofs.Common.{inr, subst, sym}
-use Rattle.poolman.specs.Carrying.{IsTextOf}
+use Rattle.poolman.specs.Folder.{IsTextOf}
 use Rattle.poolman.specs.Named.{named}
 use Rattle.poolman.proofs.Carried.{unread}
 use Rattle.poolman.proofs.carry_out.carry_out.Goals as goal
@@ -8,19 +8,19 @@ pub returns-in-Err-clause-outcome : goal.returns-in-Err-clause-outcome
 returns-in-Err-clause-outcome g c =
     unread (g.F.Folder.text c.args.files.now) (named c.args.command.now) (g.R.Source.given c.args.source.now) (g.R.Source.lulls c.args.source.now)
     (g.R.Source.failures c.args.source.now) (g.R.Source.has_ended c.args.source.now) (g.S.Sink.got c.args.sink.now) c.in-Err.fault c.refused.result
-    c.refused.ensures c.in-Err.ensures.err
+    c.refused.ensures (rw c.in-Plan.is c.in-Err.ensures.err)
 
 pub returns-in-Err-read_both-clause-outcome : goal.returns-in-Err-read_both-clause-outcome
 returns-in-Err-read_both-clause-outcome g c =
     unread (g.F.Folder.text c.args.files.now) (named c.args.command.now) (g.R.Source.given c.args.source.now) (g.R.Source.lulls c.args.source.now)
     (g.R.Source.failures c.args.source.now) (g.R.Source.has_ended c.args.source.now) (g.S.Sink.got c.args.sink.now) c.in-Err-read_both.fault
-    c.refused-in-Err-read_both.result c.refused-in-Err-read_both.ensures c.in-Err-read_both.ensures.err
+    c.refused-in-Err-read_both.result c.refused-in-Err-read_both.ensures (rw c.in-Check.is c.in-Err-read_both.ensures.err)
 
 pub returns-in-Err-read_file-clause-outcome : goal.returns-in-Err-read_file-clause-outcome
 returns-in-Err-read_file-clause-outcome g c =
     unread (g.F.Folder.text c.args.files.now) (named c.args.command.now) (g.R.Source.given c.args.source.now) (g.R.Source.lulls c.args.source.now)
     (g.R.Source.failures c.args.source.now) (g.R.Source.has_ended c.args.source.now) (g.S.Sink.got c.args.sink.now) c.in-Err-read_file.fault
-    c.refused-in-Err-read_file.result c.refused-in-Err-read_file.ensures c.in-Err-read_file.ensures.err
+    c.refused-in-Err-read_file.result c.refused-in-Err-read_file.ensures (rw c.in-Replay.is c.in-Err-read_file.ensures.err)
 
 pub returns-in-Ok-read_both-clause-outcome : goal.returns-in-Ok-read_both-clause-outcome
 returns-in-Ok-read_both-clause-outcome g c =
