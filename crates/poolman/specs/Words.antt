@@ -3,8 +3,8 @@ use Rattle.std.specs.Prelude.{List, [], ◌∷◌, drop, slice_get, Bool, true, 
 use Rattle.std.specs.Option.{option_map_or}
 use Rattle.std.specs.Str.{bytes_eq}
 use Rattle.clap.specs.Lexer.{usize_max}
-use Rattle.clap.specs.Walk.{Text, Row, Rule, first_of, all_of}
-use Rattle.clap.specs.Words.{takes}
+use Rattle.clap.specs.Walk.{Text, Row, Rule, first_of, all_of, is_empty}
+use Rattle.clap.specs.Words.{fault_of}
 use Rattle.clap.specs.Simple.{App, matches_of, new_app, new_rule, with_rule}
 use Rattle.clap.specs.declared.builder.action.ArgAction.TheVariants.{Set, Append}
 
@@ -78,13 +78,18 @@ command_named name words =
 abbrev pub command_in : List Text → Option Named
 command_in words = option_and_then (λ name. command_named name (drop 1 words)) (slice_get words 1)
 
-abbrev pub are_taken_by : List Text → Text → Bool
-are_taken_by words name =
-    if bytes_eq name (codes "plan") then takes plan_app words
-    else (if bytes_eq name (codes "check") then takes check_app words
-    else (if bytes_eq name (codes "replay") then takes replay_app words
+-- `clap` finds no fault in the words.
+abbrev pub is_taken_by : App → List Text → Bool
+is_taken_by app words = is_empty (fault_of app words)
+
+-- the words of the command of a name, of which the name is the first, are without fault
+abbrev pub are_taken_as : List Text → Text → Bool
+are_taken_as words name =
+    if bytes_eq name (codes "plan") then is_taken_by plan_app words
+    else (if bytes_eq name (codes "check") then is_taken_by check_app words
+    else (if bytes_eq name (codes "replay") then is_taken_by replay_app words
     else false))
 
 -- the words are those of a command
 abbrev pub are_taken : List Text → Bool
-are_taken words = option_map_or (are_taken_by (drop 1 words)) (slice_get words 1) false
+are_taken words = option_map_or (are_taken_as (drop 1 words)) (slice_get words 1) false

@@ -2,7 +2,7 @@
 
 ghost use Rattle.std.specs.Prelude.{◌≡◌, IfErr, IfOk, Some, false, map, true};
 ghost use Rattle.clap.specs.Simple.{matches_of};
-ghost use Rattle.clap.specs.Words.{kind_of, takes};
+ghost use Rattle.clap.specs.Words.{kind_of};
 ghost use Rattle.poolman.specs.Named.{IsUsage, named};
 ghost use Rattle.poolman.specs.Words as spec;
 
@@ -65,7 +65,8 @@ fn refused(error: Error) -> CommandError
 
 fn plan_of<'a, W: AsStr>(alloc: Global, words: &'a [W]) -> Result<Command<'a>, CommandError>
     ensures ok { IfOk result (λ c. spec.plan_in (matches_of spec.plan_app (map W.text words.now)) ≡ Some (named c)) }
-    ensures usage { IfErr result (λ e. IsUsage e → takes spec.plan_app (map W.text words.now) ≡ false) }
+    ensures taken { IfOk result (λ _. spec.is_taken_by spec.plan_app (map W.text words.now) ≡ true) }
+    ensures usage { IfErr result (λ e. IsUsage e → spec.is_taken_by spec.plan_app (map W.text words.now) ≡ false) }
 {
     match plan_words(alloc, words) {
         Ok((settings, lost)) => Ok(Command::Plan { settings, lost }),
@@ -75,7 +76,8 @@ fn plan_of<'a, W: AsStr>(alloc: Global, words: &'a [W]) -> Result<Command<'a>, C
 
 fn check_of<'a, W: AsStr>(alloc: Global, words: &'a [W]) -> Result<Command<'a>, CommandError>
     ensures ok { IfOk result (λ c. spec.check_in (matches_of spec.check_app (map W.text words.now)) ≡ Some (named c)) }
-    ensures usage { IfErr result (λ e. IsUsage e → takes spec.check_app (map W.text words.now) ≡ false) }
+    ensures taken { IfOk result (λ _. spec.is_taken_by spec.check_app (map W.text words.now) ≡ true) }
+    ensures usage { IfErr result (λ e. IsUsage e → spec.is_taken_by spec.check_app (map W.text words.now) ≡ false) }
 {
     match check_words(alloc, words) {
         Ok((settings, status, lost)) => Ok(Command::Check {
@@ -89,7 +91,8 @@ fn check_of<'a, W: AsStr>(alloc: Global, words: &'a [W]) -> Result<Command<'a>, 
 
 fn replay_of<'a, W: AsStr>(alloc: Global, words: &'a [W]) -> Result<Command<'a>, CommandError>
     ensures ok { IfOk result (λ c. spec.replay_in (matches_of spec.replay_app (map W.text words.now)) ≡ Some (named c)) }
-    ensures usage { IfErr result (λ e. IsUsage e → takes spec.replay_app (map W.text words.now) ≡ false) }
+    ensures taken { IfOk result (λ _. spec.is_taken_by spec.replay_app (map W.text words.now) ≡ true) }
+    ensures usage { IfErr result (λ e. IsUsage e → spec.is_taken_by spec.replay_app (map W.text words.now) ≡ false) }
 {
     match replay_words(alloc, words) {
         Ok(settings) => Ok(Command::Replay { settings }),
@@ -101,6 +104,7 @@ fn replay_of<'a, W: AsStr>(alloc: Global, words: &'a [W]) -> Result<Command<'a>,
 /// command's. `Usage` comes only where the words are no command's, and holds the text to print.
 pub fn command_of<'a, W: AsStr>(alloc: Global, words: &'a [W]) -> Result<Command<'a>, CommandError>
     ensures ok { IfOk result (λ c. spec.command_in (map W.text words.now) ≡ Some (named c)) }
+    ensures taken { IfOk result (λ _. spec.are_taken (map W.text words.now) ≡ true) }
     ensures usage { IfErr result (λ e. IsUsage e → spec.are_taken (map W.text words.now) ≡ false) }
 {
     if let Some(name) = words.get(1) {

@@ -19,9 +19,7 @@ pub struct InputSource<R: Read> {
 }
 
 impl<R: Read> Model for InputSource<R> {
-    ghost use Rattle.std.specs.Prelude.{◌≡◌, List, ℕ, true};
-    ghost use Rattle.std.specs.Io.KnownBytes.{Consumes, IsAtEnd};
-    ghost use Rattle.poolman.specs.Devices.{Input, given_of};
+    ghost use Rattle.poolman.specs.Devices.{Input, IsLeft, given_of};
 
     ghost Value = { Input };
 
@@ -31,8 +29,7 @@ impl<R: Read> Model for InputSource<R> {
       has_ended = s.has_ended;
     } };
 
-    ghost invariant = { λ s. ((front : List ℕ) × Consumes (R.remaining s.first.value) (R.remaining s.reader) front)
-        × (s.has_ended ≡ true → IsAtEnd (R.remaining s.reader)) };
+    ghost invariant = { λ s. IsLeft (R.remaining s.first.value) (R.remaining s.reader) s.has_ended };
 }
 
 impl<R: Read + Drop> InputSource<R> {
@@ -88,15 +85,13 @@ pub struct OutputSink<W: Write> {
 }
 
 impl<W: Write> Model for OutputSink<W> {
-    ghost use Rattle.std.specs.Prelude.{List, ℕ};
-    ghost use Rattle.std.specs.Io.KnownBytes.{Appends};
-    ghost use Rattle.poolman.specs.Devices.{Output, held_of};
+    ghost use Rattle.poolman.specs.Devices.{HasGrown, Output, held_of};
 
     ghost Value = { Output };
 
     ghost view = { λ s. record { held = held_of (W.contents s.first.value) (W.contents s.writer); failures = s.failures } };
 
-    ghost invariant = { λ s. (more : List ℕ) × Appends (W.contents s.first.value) (W.contents s.writer) more };
+    ghost invariant = { λ s. HasGrown (W.contents s.first.value) (W.contents s.writer) };
 }
 
 impl<W: Write + Drop> OutputSink<W> {

@@ -1,6 +1,7 @@
 //! Files, read whole and no further than their limit.
 
-ghost use Rattle.std.specs.Prelude.{◌≡◌, ◌≤◌, ◌⊎◌, IfErr, IfOk, length};
+ghost use Rattle.std.specs.Prelude.{◌≡◌, ◌≢◌, ◌≤◌, ◌⊎◌, IfErr, IfOk, length};
+ghost use Rattle.std.specs.IoError.{error_kind};
 ghost use Rattle.poolman.specs.Folder.{IsTextOf, IsUnread};
 ghost use Rattle.poolman.specs.Problem.{limit};
 
@@ -70,6 +71,8 @@ fn read_within<R: Read + Drop>(alloc: Global, reader: R) -> Result<Vec<u8>, Faul
 /// Why a call on a file failed: for want of memory, which says nothing of the file, or by `other`.
 fn failure(error: &Error, other: Fault) -> Fault
     ensures fault { (result ≡ Fault.Memory) ⊎ (result ≡ other) }
+    ensures memory { error_kind error.now ≡ ErrorKind.OutOfMemory → result ≡ Fault.Memory }
+    ensures other { error_kind error.now ≢ ErrorKind.OutOfMemory → result ≡ other }
 {
     if error.kind() == ErrorKind::OutOfMemory {
         Fault::Memory

@@ -1,7 +1,8 @@
 //! `poolman`: plans of a pool of Gearman workers, each shown to be best.
 #![tactic(auto)]
 
-ghost use Rattle.std.specs.Prelude.{◌≡◌, ◌⊎◌};
+ghost use Rattle.std.specs.Prelude.{◌≡◌, ◌≢◌};
+ghost use Rattle.std.specs.IoError.{error_kind};
 
 mod carry_out;
 mod check;
@@ -19,6 +20,7 @@ use carry_out::carry_out;
 use command_line::{CommandError, command_of};
 use devices::{InputSource, OutputSink};
 use fault::{Exit, Fault};
+use std::io::ErrorKind;
 use std::process::ExitCode;
 use std::{env, io};
 
@@ -68,9 +70,10 @@ fn words(rt: &HostRuntime) -> io::Result<Vec<String>> {
 
 /// Words that are no UTF-8 are no command's.
 fn no_words(rt: &HostRuntime, error: &io::Error) -> u8
-    ensures status { (result ≡ 2) ⊎ (result ≡ 4) }
+    ensures memory { error_kind error.now ≡ ErrorKind.OutOfMemory → result ≡ 4 }
+    ensures usage { error_kind error.now ≢ ErrorKind.OutOfMemory → result ≡ 2 }
 {
-    if error.kind() == io::ErrorKind::OutOfMemory {
+    if error.kind() == ErrorKind::OutOfMemory {
         return out_of_memory(rt);
     }
     let _ = eprintln!(rt; "poolman: the command line is not UTF-8");

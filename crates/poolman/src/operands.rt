@@ -1,8 +1,8 @@
 //! The command line of each command, as a command of `clap` of its own.
 
-ghost use Rattle.std.specs.Prelude.{◌≡◌, ◌<◌, IfErr, IfOk, IsSomeAnd, Some, [], false, length, map, true};
+ghost use Rattle.std.specs.Prelude.{◌≡◌, ◌<◌, IfOk, IsSomeAnd, Some, [], false, length, map, true};
 ghost use Rattle.clap.specs.Built.{FitsChain, TakesValue};
-ghost use Rattle.clap.specs.Words.{IsPlainArg, app_of, args_of, found_of, groups_of, kind_of, rows_of, rule_of, takes};
+ghost use Rattle.clap.specs.Words.{FailsBy, IsPlainArg, app_of, args_of, fault_of, found_of, groups_of, rows_of, rule_of};
 ghost use Rattle.clap.specs.Simple.{matches_of, new_app};
 ghost use Rattle.clap.specs.Walk.{first_of};
 ghost use Rattle.clap.specs.declared.builder.command.Command.TheViews.{out-Command as fields_of};
@@ -131,7 +131,7 @@ pub fn plan_words<'a, W: AsStr>(
 ) -> Result<(&'a str, Vec<&'a str>), Error>
     ensures settings { IfOk result (λ m. first_of spec.settings (matches_of spec.plan_app (map W.text words.now)) ≡ Some m.0.now) }
     ensures lost { IfOk result (λ m. map (λ w. w.now) m.1.items ≡ spec.lost_in (matches_of spec.plan_app (map W.text words.now))) }
-    ensures usage { IfErr result (λ e. takes spec.plan_app (map W.text words.now) ≡ true → kind_of e ≡ ErrorKind.OutOfMemory) }
+    ensures kinds { FailsBy (fault_of spec.plan_app (map W.text words.now)) result }
 {
     let settings = settings(alloc);
     let lost = lost(alloc);
@@ -159,7 +159,7 @@ pub fn check_words<'a, W: AsStr>(
     ensures settings { IfOk result (λ m. first_of spec.settings (matches_of spec.check_app (map W.text words.now)) ≡ Some m.0.now) }
     ensures status { IfOk result (λ m. first_of spec.status (matches_of spec.check_app (map W.text words.now)) ≡ Some m.1.now) }
     ensures lost { IfOk result (λ m. map (λ w. w.now) m.2.items ≡ spec.lost_in (matches_of spec.check_app (map W.text words.now))) }
-    ensures usage { IfErr result (λ e. takes spec.check_app (map W.text words.now) ≡ true → kind_of e ≡ ErrorKind.OutOfMemory) }
+    ensures kinds { FailsBy (fault_of spec.check_app (map W.text words.now)) result }
 {
     let settings = settings(alloc);
     let status = status(alloc);
@@ -186,7 +186,7 @@ pub fn check_words<'a, W: AsStr>(
 /// The text of the word of `replay`: its settings.
 pub fn replay_words<'a, W: AsStr>(alloc: Global, words: &'a [W]) -> Result<&'a str, Error>
     ensures settings { IfOk result (λ m. first_of spec.settings (matches_of spec.replay_app (map W.text words.now)) ≡ Some m.now) }
-    ensures usage { IfErr result (λ e. takes spec.replay_app (map W.text words.now) ≡ true → kind_of e ≡ ErrorKind.OutOfMemory) }
+    ensures kinds { FailsBy (fault_of spec.replay_app (map W.text words.now)) result }
 {
     let settings = settings(alloc);
     let command = command(

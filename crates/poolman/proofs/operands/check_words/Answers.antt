@@ -2,17 +2,16 @@ use Rattle.std.proofs.Common.{◌≡◌, [], ◌∷◌, map, is_some, arith, ref
 use Rattle.std.proofs.lemmas.Bool.{false≢true}
 use Rattle.std.proofs.lemmas.Result.{err_from_is_err_and}
 use Rattle.clap.specs.Simple.{HasMatchesOf}
-use Rattle.clap.specs.Words.{found_of, kind_of, takes}
+use Rattle.clap.specs.Words.{HasKind, fault_of, found_of, is_simple_and_free}
 use Rattle.clap.specs.Walk.{first_of}
-use Rattle.clap.specs.declared.error.kind.ErrorKind.TheVariants.{OutOfMemory}
 use Rattle.clap.proofs.CallerLemmas.{required_in_chain, some_of_text}
 use Rattle.poolman.specs.Words as spec
 use Rattle.poolman.proofs.Rows.{first_of_rows}
 use Rattle.poolman.proofs.Chain.{app_of_three, all_fit, three_in_turn, three_distinct, differ}
 use Rattle.poolman.proofs.operands.check_words.Goals as goal
 
-pub returns-in_err-matches-clause-usage : goal.returns-in_err-matches-clause-usage
-returns-in_err-matches-clause-usage g c =
+pub returns-in_err-matches-clause-kinds : goal.returns-in_err-matches-clause-kinds
+returns-in_err-matches-clause-kinds g c =
     let s = c.settings-settings in
     let t = c.status-status in
     let l = c.lost-lost in
@@ -20,8 +19,8 @@ returns-in_err-matches-clause-usage g c =
     s.ensures.fits t.ensures.fits l.ensures.fits c.command-command.ensures.app s.ensures.rule t.ensures.rule l.ensures.rule in
     let p = err_from_is_err_and c.from_residual-in_err-matches.result c.from_residual-in_err-matches.ensures.1 in
     rw (p.1, p.2)
-    (subst (λ a. takes a (map g.W.AsStr.text c.args.words.now) ≡ true → kind_of c.in_err-matches.field-0.0 ≡ OutOfMemory)
-    shape c.in_err-matches.ensures.passes)
+    (subst (λ a. is_simple_and_free a ≡ true → HasKind (fault_of a (map g.W.AsStr.text c.args.words.now)) c.in_err-matches.field-0.0)
+    shape c.in_err-matches.ensures.kinds refl)
 
 pub unreachable-requires : goal.unreachable-requires
 unreachable-requires g c =
@@ -56,6 +55,15 @@ unreachable-requires-in_default-get_str g c =
     (omega arith) t.ensures.value c.in_ok-matches.ensures.parsed in
     let some = some_of_text _ c.get_str-2.result _ c.get_str-2.ensures (rw t.ensures.id at given) in
     absurd (false≢true (subst (λ o. is_some o ≡ true) c.in_default-get_str.is some))
+
+pub returns-clause-kinds : goal.returns-clause-kinds
+returns-clause-kinds g c =
+    let s = c.settings-settings in
+    let t = c.status-status in
+    let l = c.lost-lost in
+    let shape = app_of_three c.command-command.result c.in_ok-arg.field-0 c.in_ok-arg-2.field-0 c.in_ok-command.command s.result t.result l.result c.in_ok-arg.ensures c.in_ok-arg-2.ensures c.in_ok-command.ensures
+    s.ensures.fits t.ensures.fits l.ensures.fits c.command-command.ensures.app s.ensures.rule t.ensures.rule l.ensures.rule in
+    subst (λ a. is_simple_and_free a ≡ true → fault_of a (map g.W.AsStr.text c.args.words.now) ≡ []) shape c.in_ok-matches.ensures.kinds refl
 
 pub returns-clause-settings : goal.returns-clause-settings
 returns-clause-settings g c =
