@@ -5,31 +5,13 @@ ghost use Rattle.std.specs.Prelude.{◌≡◌, IfOk};
 use crate::check::check_text;
 use crate::devices::{InputSource, OutputSink};
 use crate::fault::{Exit, Fault};
+use crate::one_worker::{LIMIT, REPORT, SETTINGS, STATUS};
 use crate::plan::plan_text;
 use gear_status::{Script, SliceSource, StatusError, read_status_within};
 use pool_report::ReadError;
 use pool_settings::SettingsError;
 use std::alloc::{AllocError, Global};
 use std::io::{Read, Write};
-
-/// One worker, for one function.
-const SETTINGS: &[u8] = b"version = 1
-[functions.x]
-[machines.a]
-workers = 1
-functions = [\"x\"]
-";
-
-const STATUS: &[u8] = b"x\t0\t0\t0\n.\n";
-
-const REPORT: &[u8] = b"report 1
-backlog 0
-work a/0 x
-end
-";
-
-/// The most bytes that an input may have.
-const LIMIT: usize = 16_777_216;
 
 /// A source that fails at its first read.
 fn broken(alloc: Global) -> Script

@@ -4,12 +4,10 @@ use crate::carry_out::carry_out;
 use crate::command_line::Command;
 use crate::fault::{Exit, Fault};
 use crate::files::{Folder, read_file};
+use crate::one_worker::{LIMIT, REPORT, SETTINGS, STATUS};
 use gear_status::{SliceSource, VecSink};
 use pool_settings::SettingsError;
 use std::alloc::{AllocError, Global};
-
-/// The most bytes that a file may have.
-const LIMIT: usize = 16_777_216;
 
 /// A folder of a settings file and a status text.
 #[derive(Drop)]
@@ -37,21 +35,6 @@ impl<'a> Folder for TwoFiles<'a> {
         Err(Fault::NoFile)
     }
 }
-
-const SETTINGS: &[u8] = b"version = 1
-[functions.x]
-[machines.a]
-workers = 1
-functions = [\"x\"]
-";
-
-const STATUS: &[u8] = b"x\t0\t0\t0\n.\n";
-
-const REPORT: &[u8] = b"report 1
-backlog 0
-work a/0 x
-end
-";
 
 /// Whether a command on standard input ends so and writes so much.
 fn carries_out(

@@ -95,6 +95,8 @@ mod file_tests;
 #[cfg(test)]
 mod line_tests;
 #[cfg(test)]
+mod one_worker;
+#[cfg(test)]
 mod replay_tests;
 #[cfg(test)]
 mod tests;
