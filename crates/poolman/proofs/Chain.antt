@@ -1,17 +1,17 @@
 -- A command of several arguments, added one by one.
-use Rattle.std.proofs.Common.{◌≡◌, ◌<◌, Bool, slice_index, codes, inl, inr, ℕ, zero, suc, List, [], ◌∷◌, map, false, true, refl, ap, sym, ◌∙◌, arith}
+use Rattle.std.proofs.Common.{◌≡◌, ◌<◌, slice_index, codes, inl, inr, ℕ, zero, suc, List, [], ◌∷◌, map, false, refl, ap, sym, ◌∙◌, arith}
 use Rattle.std.specs.List.{All}
 use Rattle.std.specs.Str.{bytes_eq}
 use Rattle.std.proofs.lemmas.Bool.{false≢true}
 use Rattle.std.proofs.lemmas.List.Elements.{All-from_recursion}
 use Rattle.clap.specs.Built.{AddsArg, AddsInTurn, FitsChain, HasDistinctIds, IsPlainArg}
+use Rattle.clap.specs.Kinds.{or_else}
 use Rattle.clap.specs.Simple.{App, app_of}
-use Rattle.clap.specs.Walk.{Rule, is_empty, rule_of}
-use Rattle.clap.specs.Words.{HasKind, Kinds, kind_of}
-use Rattle.clap.specs.declared.error.Error.{Error}
-use Rattle.clap.specs.declared.error.kind.ErrorKind.TheVariants.{OutOfMemory}
+use Rattle.clap.specs.Walk.{Rule, rule_of}
 use Rattle.clap.specs.declared.builder.arg.Arg.{Arg}
+use Rattle.clap.specs.Words.{HasKind, Kinds}
 use Rattle.clap.specs.declared.builder.command.Command.{Command}
+use Rattle.clap.specs.declared.error.Error.{Error}
 use Rattle.poolman.specs.Words.{with_rules}
 
 -- two ids that differ, either way round
@@ -110,8 +110,8 @@ app_of_three start one two cmd a b c first second third a_fits b_fits c_fits who
     rw (← whole, ← a_rule, ← b_rule, ← c_rule)
     (app_of_chain start cmd (a ∷ b ∷ c ∷ []) (three_in_turn start one two cmd a b c first second third) (all_fit a b c a_fits b_fits c_fits))
 
--- An error of another cause than memory comes only of words that have a fault.
-pub not_taken : (kinds : Kinds) (e : Error) → (kind_of e ≡ OutOfMemory → ⊥) → HasKind kinds e → is_empty kinds ≡ false
-not_taken kinds e other (inl memory) = absurd (other memory)
-not_taken [] e other (inr among) = absurd among
-not_taken (k ∷ ks) e other (inr among) = grind arith
+-- an error of the first list is one of either
+pub in_first : (first second : Kinds) (error : Error) → HasKind first error → HasKind (or_else first second) error
+in_first first second error (inl memory) = inl memory
+in_first [] second error (inr among) = absurd among
+in_first (k ∷ ks) second error (inr among) = inr among

@@ -1,5 +1,8 @@
 -- A command of the code, as its texts.
-use Rattle.std.specs.Prelude.{map}
+use Rattle.std.specs.Prelude.{◌≡◌, ◌≢◌, map}
+use Rattle.clap.specs.Words.{IsAmong, Kinds, kind_of}
+use Rattle.clap.specs.declared.error.Error.{Error}
+use Rattle.clap.specs.declared.error.kind.ErrorKind.TheVariants.{OutOfMemory}
 use Rattle.poolman.specs.Words.{Named, plan, check, replay}
 use Rattle.poolman.specs.declared.command_line.Command.{Command}
 use Rattle.poolman.specs.declared.command_line.Command.TheVariants.{Plan, Check, Replay}
@@ -11,6 +14,12 @@ named (Plan settings lost) = plan settings.now (map (λ w. w.now) lost.items)
 named (Check settings status lost) = check settings.now status.now (map (λ w. w.now) lost.items)
 named (Replay settings) = replay settings.now
 
-abbrev pub IsUsage : CommandError → Type 0
-IsUsage (Usage error) = Unit {0}
-IsUsage Memory = ⊥
+-- this error of `clap`, unless it is want of memory
+abbrev pub Tells : Error → CommandError → Type 0
+Tells error (Usage told) = (told ≡ error) × (kind_of error ≢ OutOfMemory)
+Tells error Memory = Unit {0}
+
+-- an error of `clap` of one of these kinds, or want of memory
+abbrev pub IsOfKinds : Kinds → CommandError → Type 0
+IsOfKinds kinds (Usage error) = IsAmong (kind_of error) kinds
+IsOfKinds kinds Memory = Unit {0}

@@ -1,12 +1,14 @@
 -- The program's command line: the words that each command takes, and the command that they ask for.
-use Rattle.std.specs.Prelude.{List, [], ◌∷◌, drop, slice_get, Bool, true, false, Option, Some, None, option_map, option_and_then, unwrap_or, codes, if◌then◌else◌}
+use Rattle.std.specs.Prelude.{List, [], ◌∷◌, drop, slice_get, true, Option, Some, None, option_map, option_and_then, unwrap_or, codes, if◌then◌else◌}
 use Rattle.std.specs.Option.{option_map_or}
 use Rattle.std.specs.Str.{bytes_eq}
 use Rattle.clap.specs.Lexer.{usize_max}
-use Rattle.clap.specs.Walk.{Text, Row, Rule, first_of, all_of, is_empty}
-use Rattle.clap.specs.Words.{fault_of}
-use Rattle.clap.specs.Simple.{App, matches_of, new_app, new_rule, with_rule}
+use Rattle.clap.specs.Walk.{Text, Row, Rule, first_of, all_of}
+use Rattle.clap.specs.Kinds.{or_else}
+use Rattle.clap.specs.Words.{Kinds, fault_of}
+use Rattle.clap.specs.Simple.{App, matches_of, new_app, new_rule, new_shape, on_top, with_rule, with_subcommand}
 use Rattle.clap.specs.declared.builder.action.ArgAction.TheVariants.{Set, Append}
+use Rattle.clap.specs.declared.error.kind.ErrorKind.TheVariants.{MissingSubcommand}
 
 -- a word that has to be there
 abbrev pub operand : Text → Rule
@@ -78,18 +80,24 @@ command_named name words =
 abbrev pub command_in : List Text → Option Named
 command_in words = option_and_then (λ name. command_named name (drop 1 words)) (slice_get words 1)
 
--- `clap` finds no fault in the words.
-abbrev pub is_taken_by : App → List Text → Bool
-is_taken_by app words = is_empty (fault_of app words)
+-- the command line of words that name no command: a first word that is one of three names
+abbrev pub overview_app : App
+overview_app =
+    with_subcommand (with_subcommand (with_subcommand (on_top (λ top. record top { subcommand_required = true }) (new_app (codes "poolman")))
+    (new_shape (codes "plan"))) (new_shape (codes "check"))) (new_shape (codes "replay"))
 
--- the words of the command of a name, of which the name is the first, are without fault
-abbrev pub are_taken_as : List Text → Text → Bool
-are_taken_as words name =
-    if bytes_eq name (codes "plan") then is_taken_by plan_app words
-    else (if bytes_eq name (codes "check") then is_taken_by check_app words
-    else (if bytes_eq name (codes "replay") then is_taken_by replay_app words
-    else false))
+-- what is wrong with words that name no command: the kinds of `clap`'s first fault, and else that a command is missing
+abbrev pub overview_faults : List Text → Kinds
+overview_faults words = or_else (fault_of overview_app words) (MissingSubcommand ∷ [])
 
--- the words are those of a command
-abbrev pub are_taken : List Text → Bool
-are_taken words = option_map_or (are_taken_as (drop 1 words)) (slice_get words 1) false
+-- What is wrong with the words, by the name of their command: the kinds of the first fault that `clap` finds in the words from the
+-- name on, and nothing where the words are taken.
+abbrev pub faults_as : List Text → Text → Kinds
+faults_as words name =
+    if bytes_eq name (codes "plan") then fault_of plan_app (drop 1 words)
+    else (if bytes_eq name (codes "check") then fault_of check_app (drop 1 words)
+    else (if bytes_eq name (codes "replay") then fault_of replay_app (drop 1 words)
+    else overview_faults words))
+
+abbrev pub faults_in : List Text → Kinds
+faults_in words = option_map_or (faults_as words) (slice_get words 1) (overview_faults words)

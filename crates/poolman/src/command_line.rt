@@ -1,9 +1,9 @@
 //! What the words of the command line ask for.
 
-ghost use Rattle.std.specs.Prelude.{◌≡◌, IfErr, IfOk, Some, false, map, true};
+ghost use Rattle.std.specs.Prelude.{◌≡◌, IfErr, IfOk, Some, [], map};
 ghost use Rattle.clap.specs.Simple.{matches_of};
-ghost use Rattle.clap.specs.Words.{kind_of};
-ghost use Rattle.poolman.specs.Named.{IsUsage, named};
+ghost use Rattle.clap.specs.Words.{fault_of};
+ghost use Rattle.poolman.specs.Named.{IsOfKinds, Tells, named};
 ghost use Rattle.poolman.specs.Words as spec;
 
 use crate::operands::{check_words, overview, plan_words, replay_words};
@@ -54,7 +54,7 @@ impl From<AllocError> for CommandError {
 
 /// Tells want of memory from words that are not taken.
 fn refused(error: Error) -> CommandError
-    ensures { IsUsage result → kind_of error ≡ ErrorKind.OutOfMemory → ⊥ }
+    ensures { Tells error result }
 {
     if error.kind() == ErrorKind::OutOfMemory {
         CommandError::Memory
@@ -65,8 +65,8 @@ fn refused(error: Error) -> CommandError
 
 fn plan_of<'a, W: AsStr>(alloc: Global, words: &'a [W]) -> Result<Command<'a>, CommandError>
     ensures ok { IfOk result (λ c. spec.plan_in (matches_of spec.plan_app (map W.text words.now)) ≡ Some (named c)) }
-    ensures taken { IfOk result (λ _. spec.is_taken_by spec.plan_app (map W.text words.now) ≡ true) }
-    ensures usage { IfErr result (λ e. IsUsage e → spec.is_taken_by spec.plan_app (map W.text words.now) ≡ false) }
+    ensures taken { IfOk result (λ _. fault_of spec.plan_app (map W.text words.now) ≡ []) }
+    ensures usage { IfErr result (IsOfKinds (fault_of spec.plan_app (map W.text words.now))) }
 {
     match plan_words(alloc, words) {
         Ok((settings, lost)) => Ok(Command::Plan { settings, lost }),
@@ -76,8 +76,8 @@ fn plan_of<'a, W: AsStr>(alloc: Global, words: &'a [W]) -> Result<Command<'a>, C
 
 fn check_of<'a, W: AsStr>(alloc: Global, words: &'a [W]) -> Result<Command<'a>, CommandError>
     ensures ok { IfOk result (λ c. spec.check_in (matches_of spec.check_app (map W.text words.now)) ≡ Some (named c)) }
-    ensures taken { IfOk result (λ _. spec.is_taken_by spec.check_app (map W.text words.now) ≡ true) }
-    ensures usage { IfErr result (λ e. IsUsage e → spec.is_taken_by spec.check_app (map W.text words.now) ≡ false) }
+    ensures taken { IfOk result (λ _. fault_of spec.check_app (map W.text words.now) ≡ []) }
+    ensures usage { IfErr result (IsOfKinds (fault_of spec.check_app (map W.text words.now))) }
 {
     match check_words(alloc, words) {
         Ok((settings, status, lost)) => Ok(Command::Check {
@@ -91,8 +91,8 @@ fn check_of<'a, W: AsStr>(alloc: Global, words: &'a [W]) -> Result<Command<'a>, 
 
 fn replay_of<'a, W: AsStr>(alloc: Global, words: &'a [W]) -> Result<Command<'a>, CommandError>
     ensures ok { IfOk result (λ c. spec.replay_in (matches_of spec.replay_app (map W.text words.now)) ≡ Some (named c)) }
-    ensures taken { IfOk result (λ _. spec.is_taken_by spec.replay_app (map W.text words.now) ≡ true) }
-    ensures usage { IfErr result (λ e. IsUsage e → spec.is_taken_by spec.replay_app (map W.text words.now) ≡ false) }
+    ensures taken { IfOk result (λ _. fault_of spec.replay_app (map W.text words.now) ≡ []) }
+    ensures usage { IfErr result (IsOfKinds (fault_of spec.replay_app (map W.text words.now))) }
 {
     match replay_words(alloc, words) {
         Ok(settings) => Ok(Command::Replay { settings }),
@@ -101,11 +101,12 @@ fn replay_of<'a, W: AsStr>(alloc: Global, words: &'a [W]) -> Result<Command<'a>,
 }
 
 /// The command that the words ask for. The first word is the program's name and the second the
-/// command's. `Usage` comes only where the words are no command's, and holds the text to print.
+/// command's. `Usage` comes only where `clap` finds a fault in the words, help that they ask for included: it
+/// is of the kind of the first one, and holds the text to print.
 pub fn command_of<'a, W: AsStr>(alloc: Global, words: &'a [W]) -> Result<Command<'a>, CommandError>
     ensures ok { IfOk result (λ c. spec.command_in (map W.text words.now) ≡ Some (named c)) }
-    ensures taken { IfOk result (λ _. spec.are_taken (map W.text words.now) ≡ true) }
-    ensures usage { IfErr result (λ e. IsUsage e → spec.are_taken (map W.text words.now) ≡ false) }
+    ensures taken { IfOk result (λ _. spec.faults_in (map W.text words.now) ≡ []) }
+    ensures usage { IfErr result (IsOfKinds (spec.faults_in (map W.text words.now))) }
 {
     if let Some(name) = words.get(1) {
         if name.as_str() == "plan" {

@@ -2,7 +2,7 @@
 
 ghost use Rattle.std.specs.Prelude.{◌≡◌, ◌<◌, IfOk, IsSomeAnd, Some, [], false, length, map, true};
 ghost use Rattle.clap.specs.Built.{FitsChain, TakesValue};
-ghost use Rattle.clap.specs.Words.{FailsBy, IsPlainArg, app_of, args_of, fault_of, found_of, groups_of, rows_of, rule_of};
+ghost use Rattle.clap.specs.Words.{FailsBy, HasKind, IsPlainArg, app_of, args_of, fault_of, found_of, groups_of, rows_of, rule_of};
 ghost use Rattle.clap.specs.Simple.{matches_of, new_app};
 ghost use Rattle.clap.specs.Walk.{first_of};
 ghost use Rattle.clap.specs.declared.builder.command.Command.TheViews.{out-Command as fields_of};
@@ -206,24 +206,37 @@ pub fn replay_words<'a, W: AsStr>(alloc: Global, words: &'a [W]) -> Result<&'a s
 
 /// A command of the overview, which takes any words.
 fn entry<'a>(alloc: Global, name: &'a str, about: &'a str) -> Command<'a>
+    ensures app { app_of result ≡ new_app name.entry.now }
     ensures name { (fields_of result).name ≡ name.entry }
     ensures about { (fields_of result).about ≡ Some about.entry }
+    ensures local { (fields_of result).has_globals ≡ false }
 {
     Command::new(alloc, name).about(about)
 }
 
+/// The command line of words that name no command.
+fn program<'a>(alloc: Global) -> Result<Command<'a>, AllocError>
+    ensures app { IfOk result (λ p. app_of p ≡ spec.overview_app) }
+{
+    let program = command(
+        alloc,
+        "poolman",
+        "Plans which worker of a Gearman pool serves which function, and shows that no plan is better",
+        "poolman COMMAND ...",
+        "`poolman COMMAND --help` explains a command.",
+    );
+    program
+        .subcommand_required(true)
+        .subcommand(entry(alloc, "plan", PLAN))?
+        .subcommand(entry(alloc, "check", CHECK))?
+        .subcommand(entry(alloc, "replay", REPLAY))
+}
+
 /// What to print where the words name no command: the help that they ask for, or what is wrong.
-pub fn overview<W: AsStr>(alloc: Global, words: &[W]) -> Result<Error, AllocError> {
-    let program = Command::new(alloc, "poolman")
-        .about(
-            "Plans which worker of a Gearman pool serves which function, and shows that no plan is better",
-        )
-        .override_usage("poolman COMMAND ...")
-        .after_help("`poolman COMMAND --help` explains a command.")
-        .subcommand_required(true);
-    let program = program.subcommand(entry(alloc, "plan", PLAN))?;
-    let program = program.subcommand(entry(alloc, "check", CHECK))?;
-    let mut program = program.subcommand(entry(alloc, "replay", REPLAY))?;
+pub fn overview<W: AsStr>(alloc: Global, words: &[W]) -> Result<Error, AllocError>
+    ensures kinds { IfOk result (HasKind (spec.overview_faults (map W.text words.now))) }
+{
+    let mut program = program(alloc)?;
     match program.try_get_matches_from_mut(words) {
         Ok(_) => program.error(ErrorKind::MissingSubcommand, "a command is wanted"),
         Err(error) => Ok(error),
