@@ -10,8 +10,8 @@ use thiserror::Error;
 #[derive(Clone, Copy, Debug, PartialEq, Eq, Error)]
 pub enum ReadError {
     /// This line has not the shape of a line of a report, stands out of its place or order, or stands
-    /// behind `end`. A name that no settings can have, as one of 65 bytes, is a wrong shape; a worker or
-    /// function that is not above the one before it is out of order.
+    /// behind `end`. A machine or function of a name that no settings can have, as one of 65 bytes, is a wrong
+    /// shape; a worker or function that is not above the one before it is out of order.
     #[error("line {0} is no line of a report, or out of its place")]
     BadLine(u64),
     /// This line is in its place, and its worker or function is none of the settings.

@@ -171,8 +171,8 @@ fn push_told(
     }
 }
 
-/// The text of the report of an answer that is shown for an input of these settings: what [`write`] writes,
-/// as [the crate's page](crate) gives it.
+/// The text of the report of an answer that is shown for an input with the permissions of these settings: what
+/// [`write`] writes, as [the crate's page](crate) gives it.
 ///
 /// The needs in it are those at the level one below the backlog, or at [`TOP_LEVEL`] without a plan, so that
 /// each number can be tested by hand: the set needs more workers than may do any of its functions, and by
@@ -198,8 +198,8 @@ pub fn report_text(
     Ok(out)
 }
 
-/// Writes the report of an answer that is shown for an input of these settings: the text of [`report_text`],
-/// byte by byte.
+/// Writes the report of an answer that is shown for an input with the permissions of these settings: the text of
+/// [`report_text`], byte by byte.
 ///
 /// The text is made whole before its first byte goes out. After `WriteFault` so many bytes of it have
 /// gone out, which are its front and never all of it, and after `Memory` none. A sink that fails is not tried

@@ -4,12 +4,13 @@ use Rattle.gear_status.specs.Device.{and_then, counted}
 use Rattle.gear_status.proofs.Devices.{counted_nothing, told_nothing}
 use Rattle.poolman.specs.Carrying.{CarriesOut, IsUnreadIn}
 use Rattle.poolman.specs.Fault.{refused}
+use Rattle.poolman.specs.Folder.{Known}
 use Rattle.poolman.specs.Words.{Named}
 use Rattle.poolman.specs.declared.fault.Exit.{Exit}
 use Rattle.poolman.specs.declared.fault.Fault.{Fault}
 
 -- nothing was taken and nothing written
-pub unread : (file : List ℕ → Option (List ℕ)) (command : Named) (given : Option (List ℕ)) (paused : Option ℕ) (failed : ℕ) (ended : Bool)
+pub unread : (file : List ℕ → Known) (command : Named) (given : Option (List ℕ)) (paused : Option ℕ) (failed : ℕ) (ended : Bool)
     (got : Option (List ℕ)) (f : Fault) (exit : Exit) → exit ≡ refused f → IsUnreadIn file command f
     → (bytes : List ℕ) × (lulls : ℕ) × (failures : ℕ) × (given ≡ and_then given bytes) × (paused ≡ counted paused lulls)
     × (failed ≡ failed + failures) × CarriesOut file command bytes lulls failures ended got got exit.status exit.fault

@@ -3,6 +3,7 @@ use Rattle.std.proofs.Common.{◌≡◌, ◌≤◌, ◌+◌, ℕ, List, [], ◌+
 use Rattle.std.specs.Prelude.{Option, Result, option_map}
 use Rattle.std.specs.Io.KnownBytes.{Appends, Consumes, ReadConsumes, WriteAppends}
 use Rattle.std.proofs.lemmas.List.{append_assoc, length-take, take_all}
+use Rattle.poolman.specs.Folder.{IsTextOf, known_of}
 
 -- what a writer holds after a write is what it held first and more
 pub holds_more : {E : Type 0} (first old new : Option (List ℕ)) (result : Result ℕ E) (bytes : List ℕ)
@@ -28,7 +29,7 @@ gave_more (Some xs) (Some ys) (Some zs) (Err e) buffer (front, given) kept = (fr
 
 -- bytes that are all within a limit, of a reader that was cut one above it, are all that it had
 pub all_within : (had : Option (List ℕ)) (most : ℕ) (cut : ℕ) (got : List ℕ) → cut ≡ most + 1 → length got ≤ most
-    → IfSome (option_map (take cut) had) (λ xs. got ≡ [] ++ xs) → IfSome had (λ all. got ≡ all)
+    → IfSome (option_map (take cut) had) (λ xs. got ≡ [] ++ xs) → IsTextOf (known_of had) got
 all_within None most cut got one_above within is_front = tt
 all_within (Some all) most cut got one_above within is_front =
     is_front ∙ take_all cut all (let same = ap length is_front ∙ length-take cut all in omega arith)

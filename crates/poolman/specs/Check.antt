@@ -1,5 +1,5 @@
 -- What `check` finds a report to be, what it writes, and how it ends.
-use Rattle.std.specs.Prelude.{◌≡◌, ◌≢◌, ℕ, ◌<◌, ◌≤◌, List, [], ◌∷◌, ◌++◌, codes, length, take, Bool, true, Option, None, Some, Result, Ok, Err}
+use Rattle.std.specs.Prelude.{◌≡◌, ◌≢◌, ℕ, ◌+◌, ◌<◌, ◌≤◌, List, [], ◌∷◌, ◌++◌, codes, length, take, Bool, true, Option, None, Some, Result, Ok, Err}
 use Rattle.std.specs.Fmt.{decimal}
 use Rattle.gear_status.specs.Device.{GaveUp, Undisturbed, and_then}
 use Rattle.plan_model.specs.Planning.{Instance}
@@ -40,11 +40,9 @@ Judges p i report (Err (fault.Report e)) = meaning p report ≡ Err e
 Judges p i report (Err fault.Memory) = Unit {0}
 Judges p i report (Err other) = ⊥
 
--- The bytes go above the limit with the piece of the last take, of at most 4,096 bytes, and not before it.
+-- The bytes go above the limit, by no more than the 4,096 bytes of one take.
 abbrev pub GoesOver : List ℕ → Type 0
-GoesOver bytes =
-    (before : List ℕ) × (piece : List ℕ) × (bytes ≡ before ++ piece) × (length before ≤ limit) × (length piece ≤ 4096)
-    × (limit < length bytes)
+GoesOver bytes = (limit < length bytes) × (length bytes ≤ limit + 4096)
 
 -- the bytes that were taken, up to the end of their device and no more than the limit, or why there are none
 abbrev pub TakesWhole : List ℕ → ℕ → ℕ → Bool → Result (List ℕ) Fault → Type 0

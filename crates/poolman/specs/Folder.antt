@@ -1,21 +1,49 @@
 -- What is known of a file, and why it is not read.
-use Rattle.std.specs.Prelude.{◌≡◌, ◌⊎◌, ◌<◌, ℕ, List, Option, None, IfSome, length}
+use Rattle.std.specs.Prelude.{◌≡◌, ◌⊎◌, ◌<◌, ◌≤◌, ℕ, List, Option, None, Some, length}
 use Rattle.poolman.specs.Problem.{limit}
 use Rattle.poolman.specs.declared.fault.Fault.{Fault}
 use Rattle.poolman.specs.declared.fault.Fault.TheVariants as fault
 
--- These are the file's bytes, where they are known.
-abbrev pub IsTextOf : Option (List ℕ) → List ℕ → Type 0
-IsTextOf known text = IfSome known (λ all. text ≡ all)
+-- what is known of a file of a name: nothing, that there is none, or its bytes
+pub data Known : Type 0 where
+  unknown : Known
+  absent : Known
+  holds : List ℕ → Known
 
--- A file of which this is known is not opened by this fault: one whose bytes are known is there.
-abbrev pub IsUnopened : Option (List ℕ) → Fault → Type 0
-IsUnopened known f = (f ≡ fault.Memory) ⊎ ((f ≡ fault.NoFile) × (known ≡ None))
+-- what is known of a file by its reader
+abbrev pub known_of : Option (List ℕ) → Known
+known_of None = unknown
+known_of (Some all) = holds all
 
--- A file of which this is known is not read whole by this fault: one whose bytes are known is there, and a long one is above the limit.
-abbrev pub IsUnread : Option (List ℕ) → Fault → Type 0
-IsUnread known fault.NoFile = known ≡ None
-IsUnread known fault.TooLong = IfSome known (λ all. limit < length all)
-IsUnread known fault.ReadFault = Unit {0}
+-- A file of which this is known is open, and its reader has this left.
+abbrev pub IsOpen : Known → Option (List ℕ) → Type 0
+IsOpen unknown left = Unit {0}
+IsOpen absent left = ⊥
+IsOpen (holds all) left = left ≡ Some all
+
+-- A file of which this is known is not opened by this fault. One that is known to be there fails to open for want of memory alone.
+abbrev pub IsUnopened : Known → Fault → Type 0
+IsUnopened (holds all) f = f ≡ fault.Memory
+IsUnopened known f = (f ≡ fault.NoFile) ⊎ (f ≡ fault.Memory)
+
+-- These may be the bytes of a file of which this is known.
+abbrev pub IsTextOf : Known → List ℕ → Type 0
+IsTextOf unknown text = Unit {0}
+IsTextOf absent text = ⊥
+IsTextOf (holds all) text = text ≡ all
+
+-- A file of which this is known is read whole, and these are its bytes.
+abbrev pub IsRead : Known → List ℕ → Type 0
+IsRead known text = IsTextOf known text × (length text ≤ limit)
+
+-- A file of which this is known is not read whole by this fault. Any file may lack memory, and a device may fail for any that is there;
+-- but for these, one that is known not to be there has no other fault, and one whose bytes are known is above the limit.
+abbrev pub IsUnread : Known → Fault → Type 0
+IsUnread unknown fault.NoFile = Unit {0}
+IsUnread unknown fault.TooLong = Unit {0}
+IsUnread unknown fault.ReadFault = Unit {0}
+IsUnread absent fault.NoFile = Unit {0}
+IsUnread (holds all) fault.TooLong = limit < length all
+IsUnread (holds all) fault.ReadFault = Unit {0}
 IsUnread known fault.Memory = Unit {0}
-IsUnread known _ = ⊥
+IsUnread known other = ⊥

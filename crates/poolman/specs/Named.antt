@@ -14,10 +14,10 @@ named (Plan settings lost) = plan settings.now (map (λ w. w.now) lost.items)
 named (Check settings status lost) = check settings.now status.now (map (λ w. w.now) lost.items)
 named (Replay settings) = replay settings.now
 
--- this error of `clap`, unless it is want of memory
+-- this error of `clap`, or want of memory where it is one of that
 abbrev pub Tells : Error → CommandError → Type 0
 Tells error (Usage told) = (told ≡ error) × (kind_of error ≢ OutOfMemory)
-Tells error Memory = Unit {0}
+Tells error Memory = kind_of error ≡ OutOfMemory
 
 -- an error of `clap` of one of these kinds, or want of memory
 abbrev pub IsOfKinds : Kinds → CommandError → Type 0

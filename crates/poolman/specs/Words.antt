@@ -80,7 +80,7 @@ command_named name words =
 abbrev pub command_in : List Text → Option Named
 command_in words = option_and_then (λ name. command_named name (drop 1 words)) (slice_get words 1)
 
--- the command line of words that name no command: a first word that is one of three names
+-- the command line that wants one of three commands, by which words that name none are answered
 abbrev pub overview_app : App
 overview_app =
     with_subcommand (with_subcommand (with_subcommand (on_top (λ top. record top { subcommand_required = true }) (new_app (codes "poolman")))
@@ -90,8 +90,8 @@ overview_app =
 abbrev pub overview_faults : List Text → Kinds
 overview_faults words = or_else (fault_of overview_app words) (MissingSubcommand ∷ [])
 
--- What is wrong with the words, by the name of their command: the kinds of the first fault that `clap` finds in the words from the
--- name on, and nothing where the words are taken.
+-- What is wrong with words that have this name of a command: the kinds of the first fault that `clap` finds in them from the name on,
+-- and nothing where they are taken.
 abbrev pub faults_as : List Text → Text → Kinds
 faults_as words name =
     if bytes_eq name (codes "plan") then fault_of plan_app (drop 1 words)
@@ -99,5 +99,6 @@ faults_as words name =
     else (if bytes_eq name (codes "replay") then fault_of replay_app (drop 1 words)
     else overview_faults words))
 
+-- the same, of which the first word is the program's name and the second the command's
 abbrev pub faults_in : List Text → Kinds
 faults_in words = option_map_or (faults_as words) (slice_get words 1) (overview_faults words)

@@ -4,7 +4,7 @@ ghost use Rattle.std.specs.Prelude.{◌≡◌, ◌+◌, ◌-◌, ◌^◌, ◌<�
 ghost use Rattle.gear_status.specs.Device.{and_then, counted};
 ghost use Rattle.poolman.specs.Carrying.{CarriesOut};
 ghost use Rattle.poolman.specs.Fault.{sink_failures};
-ghost use Rattle.poolman.specs.Folder.{IsTextOf, IsUnread};
+ghost use Rattle.poolman.specs.Folder.{IsRead, IsUnread};
 ghost use Rattle.poolman.specs.Named.{named};
 
 use crate::check::check_text;
@@ -31,7 +31,7 @@ pub fn carry_out<F: Folder, R: Source, S: Sink>(
         × (R.given source.new ≡ and_then (R.given source.old) bytes)
         × (R.lulls source.new ≡ counted (R.lulls source.old) lulls)
         × (R.failures source.new ≡ R.failures source.old + failures)
-        × CarriesOut (F.text files.now) (named command.now) bytes lulls failures (R.has_ended source.new) (S.got sink.old) (S.got sink.new) result.status result.fault }
+        × CarriesOut (F.file files.now) (named command.now) bytes lulls failures (R.has_ended source.new) (S.got sink.old) (S.got sink.new) result.status result.fault }
     ensures sink_failures { S.failures sink.new ≡ S.failures sink.old + sink_failures result.fault }
 {
     match command {
@@ -54,16 +54,17 @@ pub fn carry_out<F: Folder, R: Source, S: Sink>(
     }
 }
 
-/// The bytes of two files.
+/// The bytes of two files, which are read one after the other.
 fn read_both<F: Folder>(
     files: &F,
     alloc: Global,
     first: &str,
     second: &str,
 ) -> Result<(Vec<u8>, Vec<u8>), Fault>
-    ensures first { IfOk result (λ texts. IsTextOf (F.text files.now first.now) texts.0.items) }
-    ensures second { IfOk result (λ texts. IsTextOf (F.text files.now second.now) texts.1.items) }
-    ensures err { IfErr result (λ f. IsUnread (F.text files.now first.now) f ⊎ IsUnread (F.text files.now second.now) f) }
+    ensures first { IfOk result (λ texts. IsRead (F.file files.now first.now) texts.0.items) }
+    ensures second { IfOk result (λ texts. IsRead (F.file files.now second.now) texts.1.items) }
+    ensures err { IfErr result (λ f. IsUnread (F.file files.now first.now) f
+        ⊎ ((text : List ℕ) × IsRead (F.file files.now first.now) text × IsUnread (F.file files.now second.now) f)) }
 {
     let first = read_file(files, alloc, first)?;
     let second = read_file(files, alloc, second)?;

@@ -11,7 +11,8 @@ use gear_status::{Script, SliceSource, StatusError, read_status_within};
 use pool_report::ReadError;
 use pool_settings::SettingsError;
 use std::alloc::{AllocError, Global};
-use std::io::{Read, Write};
+use std::io;
+use std::io::{ErrorKind, Read, Write};
 
 /// A source that fails at its first read.
 fn broken(alloc: Global) -> Script
@@ -144,6 +145,45 @@ fn status_texts_up_to_a_limit(rt: HostRuntime) {
     assert!(rt; is_read_within(alloc, 0) == Some(false));
 }
 
+/// A source of one text that fails where it is read behind its end.
+fn ending(alloc: Global, text: &[u8]) -> Result<Script, AllocError>
+    ensures { IfOk result (λ script. script.take_failures ≡ 0) }
+{
+    let mut script = after(alloc, 0, text)?;
+    script.fail_take(3);
+    Ok(script)
+}
+
+#[test]
+fn nothing_is_read_behind_the_end(rt: HostRuntime) -> Result<(), AllocError> {
+    let alloc = rt.alloc();
+    let shown = check_on(alloc, SETTINGS, STATUS, &[], ending(alloc, REPORT)?);
+    assert!(rt; shown == Exit::answered(0));
+    let cut = plan_on(alloc, SETTINGS, &[], ending(alloc, b"x\t0\t0\t0\n")?);
+    assert!(rt; cut == Exit::refused(Fault::Status(StatusError::Truncated)));
+    Ok(())
+}
+
+/// A device of which each call fails.
+#[derive(Drop)]
+struct Failing(ErrorKind);
+
+impl Read for Failing {
+    fn read(&mut self, _: &mut [u8]) -> io::Result<usize> {
+        Err(io::Error::from(self.0))
+    }
+}
+
+impl Write for Failing {
+    fn write(&mut self, _: &[u8]) -> io::Result<usize> {
+        Err(io::Error::from(self.0))
+    }
+
+    fn flush(&mut self) -> io::Result<()> {
+        Ok(())
+    }
+}
+
 /// The exit of `plan` from a reader into a writer.
 fn plan_between<R: Read + Drop, W: Write + Drop>(alloc: Global, reader: R, writer: W) -> Exit {
     let mut source = InputSource::new(reader);
@@ -168,4 +208,21 @@ fn plan_from_a_reader_into_a_writer(rt: HostRuntime) {
     assert!(rt; plan_between(alloc, STATUS, &mut report) == Exit::answered(0));
     assert!(rt; report.as_slice() == REPORT);
     assert!(rt; (0..REPORT.len()).all(|room| plan_fills(alloc, room)));
+}
+
+#[test]
+fn plan_between_devices_that_end_or_fail(rt: HostRuntime) {
+    let alloc = rt.alloc();
+    let mut report = Vec::new(alloc);
+    let read_fault = Exit::refused(Fault::ReadFault);
+    let reset = Failing(ErrorKind::ConnectionReset);
+    assert!(rt; plan_between(alloc, reset, &mut report) == read_fault);
+    let interrupted = Failing(ErrorKind::Interrupted);
+    assert!(rt; plan_between(alloc, interrupted, &mut report) == read_fault);
+    let cut: &[u8] = b"x\t0\t0\t0\n";
+    let truncated = Exit::refused(Fault::Status(StatusError::Truncated));
+    assert!(rt; plan_between(alloc, cut, &mut report) == truncated);
+    assert!(rt; report.is_empty());
+    let closed = Failing(ErrorKind::BrokenPipe);
+    assert!(rt; plan_between(alloc, STATUS, closed) == Exit::refused(Fault::WriteFault));
 }

@@ -162,7 +162,7 @@ impl From<AllocError> for Fault {
 /// How a command ended: its exit status, and the fault that kept it from an answer, if one did.
 #[derive(Clone, Copy, Debug, PartialEq, Eq)]
 pub struct Exit {
-    /// 0 where it is done, 1 where there is no plan or nothing is shown, 3 and 4 with a fault. The
+    /// 0 where it is done, 1 where there is no plan or the report is not shown, 3 and 4 with a fault. The
     /// command line alone ends with 2.
     pub status: u8,
     pub fault: Option<Fault>,

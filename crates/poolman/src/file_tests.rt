@@ -17,13 +17,14 @@ struct TwoFiles<'a> {
 }
 
 impl<'a> Folder for TwoFiles<'a> {
-    ghost use Rattle.std.specs.Prelude.{None, Some, codes, if◌then◌else◌};
+    ghost use Rattle.std.specs.Prelude.{codes, if◌then◌else◌};
     ghost use Rattle.std.specs.Str.{bytes_eq};
+    ghost use Rattle.poolman.specs.Folder.{absent, holds};
 
     type File = &'a [u8];
 
-    ghost text = { λ o name. if bytes_eq name (codes "settings.toml") then Some o.settings.now
-        else (if bytes_eq name (codes "status.txt") then Some o.status.now else None) };
+    ghost file = { λ o name. if bytes_eq name (codes "settings.toml") then holds o.settings.now
+        else (if bytes_eq name (codes "status.txt") then holds o.status.now else absent) };
 
     fn open(&self, name: &str) -> Result<&'a [u8], Fault> {
         if name == "settings.toml" {
@@ -120,4 +121,31 @@ fn files_are_read_up_to_the_limit(rt: HostRuntime) {
     assert!(rt; refusal(alloc, 0) == Ok(None));
     assert!(rt; refusal(alloc, LIMIT) == Ok(None));
     assert!(rt; refusal(alloc, LIMIT + 1) == Ok(Some(Fault::TooLong)));
+}
+
+/// How `check` of these two files in their folder ends, by the names that it is given.
+fn check_ends(alloc: Global, texts: (&[u8], &[u8]), settings: &str, status: &str) -> Exit {
+    let files = TwoFiles {
+        settings: texts.0,
+        status: texts.1,
+    };
+    let mut source = SliceSource::new(REPORT);
+    let mut sink = VecSink::new(alloc);
+    let command = check(alloc, settings, status);
+    carry_out(&files, alloc, &command, &mut source, &mut sink)
+}
+
+#[test]
+fn files_are_read_in_the_order_of_the_words(rt: HostRuntime) -> Result<(), AllocError> {
+    let alloc = rt.alloc();
+    let mut long = Vec::from_slice(alloc, STATUS)?;
+    long.resize(LIMIT + 1, b'x')?;
+    let long = long.as_slice();
+    let too_long = Exit::refused(Fault::TooLong);
+    let missing = Exit::refused(Fault::NoFile);
+    assert!(rt; check_ends(alloc, (long, STATUS), "settings.toml", "none") == too_long);
+    assert!(rt; check_ends(alloc, (SETTINGS, long), "none", "status.txt") == missing);
+    assert!(rt; check_ends(alloc, (SETTINGS, long), "settings.toml", "status.txt") == too_long);
+    assert!(rt; check_ends(alloc, (b"", long), "settings.toml", "status.txt") == too_long);
+    Ok(())
 }

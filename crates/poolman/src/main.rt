@@ -1,8 +1,9 @@
 //! `poolman`: plans of a pool of Gearman workers, each shown to be best.
 #![tactic(auto)]
 
-ghost use Rattle.std.specs.Prelude.{◌≡◌, ◌≢◌};
+ghost use Rattle.std.specs.Prelude.{◌≡◌, ◌≢◌, ◌⊎◌, [], map, string_bytes};
 ghost use Rattle.std.specs.IoError.{error_kind};
+ghost use Rattle.poolman.specs.Words.{faults_in};
 
 mod carry_out;
 mod check;
@@ -37,7 +38,10 @@ fn end(rt: &HostRuntime, exit: Exit) -> u8
     exit.status
 }
 
-fn run(rt: &HostRuntime, words: &[String]) -> u8 {
+/// Carries out the command of the words, or prints why they are none. Gives the exit status.
+fn run(rt: &HostRuntime, words: &[String]) -> u8
+    ensures usage { faults_in (map (λ w. string_bytes w) words.now) ≢ [] → (result ≡ 2) ⊎ (result ≡ 4) }
+{
     match command_of(rt.alloc(), words) {
         Ok(command) => {
             let mut source = InputSource::new(rt.reader());

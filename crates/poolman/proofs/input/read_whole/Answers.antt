@@ -22,12 +22,8 @@ returns-then-len-count-gt-LIMIT g c =
       omega (arith, c.in-Ok-Bytes.ensures.fails, so_far.failures),
       (
         (
-          held,
-          piece,
-          refl,
-          so_far.few,
-          omega (arith, long, fits.1, c.take.auto.buffer),
           omega (arith, c.if-len-count-gt-LIMIT.true, c.len.ensures, c.loop-count.bytes.ok.0, length-append held piece, long),
+          omega (arith, so_far.few, length-append held piece, long, fits.1, c.take.auto.buffer),
         ),
         (refl, so_far.few_lulls),
       ),
