@@ -41,8 +41,8 @@ is_verdict fault.Truncated = false
 is_verdict fault.ReadFault = false
 is_verdict _ = true
 
--- The last piece decides, and nothing before it does. It came in one take, of at most 4,096 bytes, and no take after it found
--- the end: so no read is made behind the period line, or behind a fault.
+-- A piece of at most 4,096 bytes at the end decides, nothing before it does, and the last take did not find the end. Since any take may
+-- fail or find the end, a call that promises this makes none behind the piece: it does not read behind the period line, or a fault.
 abbrev pub EndsWithPiece : List ℕ → Bool → Type 0
 EndsWithPiece bytes ended =
     ((before : List ℕ) × (piece : List ℕ) × (bytes ≡ before ++ piece) × (status before ≡ Err fault.Truncated) × (length piece ≤ 4096))

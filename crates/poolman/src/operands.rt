@@ -13,13 +13,37 @@ use clap::{Arg, ArgAction, ArgMatches, Command, Error};
 use std::alloc::{AllocError, Global};
 use std::convert::AsStr;
 
-const PLAN: &str = "Reads a status text and prints the best plan, with what shows it";
+/// What the help of a command says beside its operands.
+#[derive(Clone, Copy)]
+struct Help {
+    about: &'static str,
+    usage: &'static str,
+    example: &'static str,
+}
 
-const CHECK: &str =
-    "Reads a report and says whether it is shown, by the settings and the status text alone";
+const PLAN: Help = Help {
+    about: "Reads a status text and prints the best plan, with what shows it",
+    usage: "poolman plan SETTINGS [LOST]... < STATUS",
+    example: "Example: poolman plan settings.toml b/0 < status.txt",
+};
 
-const REPLAY: &str =
-    "Reads command lines and prints what each answers, on a pool in which nothing has happened yet";
+const CHECK: Help = Help {
+    about: "Reads a report and says whether it is shown, by the settings and the status text alone",
+    usage: "poolman check SETTINGS STATUS [LOST]... < REPORT",
+    example: "Example: poolman check settings.toml status.txt b/0 < report.txt",
+};
+
+const REPLAY: Help = Help {
+    about: "Reads command lines and prints what each answers, on a pool in which nothing has happened yet",
+    usage: "poolman replay SETTINGS < COMMANDS",
+    example: "Example: printf 'join a/0\nload x 6 0\nround\norder a/0\n' | poolman replay settings.toml",
+};
+
+const PROGRAM: Help = Help {
+    about: "Plans which worker of a Gearman pool serves which function, and shows that no plan is better",
+    usage: "poolman COMMAND ...",
+    example: "`poolman COMMAND --help` explains a command.",
+};
 
 /// A word that has to be there.
 fn operand<'a>(alloc: Global, id: &'a str, help: &'a str) -> Arg<'a>
@@ -92,26 +116,20 @@ fn lost<'a>(alloc: Global) -> Arg<'a>
 }
 
 /// A command without operands, with its help.
-fn command<'a>(
-    alloc: Global,
-    name: &'a str,
-    about: &'a str,
-    usage: &'a str,
-    example: &'a str,
-) -> Command<'a>
+fn command<'a>(alloc: Global, name: &'a str, help: Help) -> Command<'a>
     ensures app { app_of result ≡ new_app name.entry.now }
-    ensures about { (fields_of result).about ≡ Some about.entry }
-    ensures usage { (fields_of result).usage_str ≡ Some usage.entry }
-    ensures example { (fields_of result).after_help ≡ Some example.entry }
+    ensures about { (fields_of result).about ≡ Some help.about }
+    ensures usage { (fields_of result).usage_str ≡ Some help.usage }
+    ensures example { (fields_of result).after_help ≡ Some help.example }
     ensures arguments { args_of result ≡ [] }
     ensures groups { groups_of result ≡ [] }
     ensures local { (fields_of result).has_globals ≡ false }
     ensures negates { (fields_of result).subcommand_negates_reqs ≡ false }
 {
     Command::new(alloc, name)
-        .about(about)
-        .override_usage(usage)
-        .after_help(example)
+        .about(help.about)
+        .override_usage(help.usage)
+        .after_help(help.example)
 }
 
 /// The words of several operands, if any were given.
@@ -135,13 +153,7 @@ pub fn plan_words<'a, W: AsStr>(
 {
     let settings = settings(alloc);
     let lost = lost(alloc);
-    let command = command(
-        alloc,
-        "plan",
-        PLAN,
-        "poolman plan SETTINGS [LOST]... < STATUS",
-        "Example: poolman plan settings.toml b/0 < status.txt",
-    );
+    let command = command(alloc, "plan", PLAN);
     let command = command.arg(settings)?.arg(lost)?;
     let matches = command.try_get_matches_from(words)?;
     let lost = lost_in(alloc, &matches)?;
@@ -164,13 +176,7 @@ pub fn check_words<'a, W: AsStr>(
     let settings = settings(alloc);
     let status = status(alloc);
     let lost = lost(alloc);
-    let command = command(
-        alloc,
-        "check",
-        CHECK,
-        "poolman check SETTINGS STATUS [LOST]... < REPORT",
-        "Example: poolman check settings.toml status.txt b/0 < report.txt",
-    );
+    let command = command(alloc, "check", CHECK);
     let command = command.arg(settings)?.arg(status)?.arg(lost)?;
     let matches = command.try_get_matches_from(words)?;
     let lost = lost_in(alloc, &matches)?;
@@ -189,13 +195,7 @@ pub fn replay_words<'a, W: AsStr>(alloc: Global, words: &'a [W]) -> Result<&'a s
     ensures kinds { FailsBy (fault_of spec.replay_app (map W.text words.now)) result }
 {
     let settings = settings(alloc);
-    let command = command(
-        alloc,
-        "replay",
-        REPLAY,
-        "poolman replay SETTINGS < COMMANDS",
-        "Example: printf 'join a/0\nload x 6 0\nround\norder a/0\n' | poolman replay settings.toml",
-    );
+    let command = command(alloc, "replay", REPLAY);
     let command = command.arg(settings)?;
     let matches = command.try_get_matches_from(words)?;
     let Some(settings) = matches.get_str("SETTINGS") else {
@@ -204,32 +204,15 @@ pub fn replay_words<'a, W: AsStr>(alloc: Global, words: &'a [W]) -> Result<&'a s
     Ok(settings)
 }
 
-/// A command of the overview, which takes any words.
-fn entry<'a>(alloc: Global, name: &'a str, about: &'a str) -> Command<'a>
-    ensures app { app_of result ≡ new_app name.entry.now }
-    ensures name { (fields_of result).name ≡ name.entry }
-    ensures about { (fields_of result).about ≡ Some about.entry }
-    ensures local { (fields_of result).has_globals ≡ false }
-{
-    Command::new(alloc, name).about(about)
-}
-
 /// The command line of words that name no command.
 fn program<'a>(alloc: Global) -> Result<Command<'a>, AllocError>
     ensures app { IfOk result (λ p. app_of p ≡ spec.overview_app) }
 {
-    let program = command(
-        alloc,
-        "poolman",
-        "Plans which worker of a Gearman pool serves which function, and shows that no plan is better",
-        "poolman COMMAND ...",
-        "`poolman COMMAND --help` explains a command.",
-    );
-    program
+    command(alloc, "poolman", PROGRAM)
         .subcommand_required(true)
-        .subcommand(entry(alloc, "plan", PLAN))?
-        .subcommand(entry(alloc, "check", CHECK))?
-        .subcommand(entry(alloc, "replay", REPLAY))
+        .subcommand(command(alloc, "plan", PLAN))?
+        .subcommand(command(alloc, "check", CHECK))?
+        .subcommand(command(alloc, "replay", REPLAY))
 }
 
 /// What to print where the words name no command: the help that they ask for, or what is wrong.
