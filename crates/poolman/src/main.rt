@@ -41,6 +41,7 @@ fn end(rt: &HostRuntime, exit: Exit) -> u8
 /// Carries out the command of the words, or prints why they are none. Gives the exit status.
 fn run(rt: &HostRuntime, words: &[String]) -> u8
     ensures usage { faults_in (map (λ w. string_bytes w) words.now) ≢ [] → (result ≡ 2) ⊎ (result ≡ 4) }
+    ensures taken { faults_in (map (λ w. string_bytes w) words.now) ≡ [] → result ≢ 2 }
 {
     match command_of(rt.alloc(), words) {
         Ok(command) => {
