@@ -10,8 +10,8 @@ use Rattle.plan_model.specs.declared.answer.Answer.TheVariants.{Planned, NoPlan}
 use Rattle.pool_settings.specs.Planning.{instance_of}
 use Rattle.pool_report.specs.Answered.{report_text, worker_in}
 use Rattle.plan_model.specs.Shown.{Shown}
-use Rattle.pool_report.specs.Lines.{Line, head, backlog, no_plan, task, short, needed, stranded, last, line_of}
-use Rattle.pool_report.specs.Report.{Needed, Stranded, Worker, backlog_line, ended, needed_line, short_line, stranded_line, worker_line, worker_name}
+use Rattle.pool_report.specs.Lines.{Line, head, backlog, no_plan, task, short, needed, stranded, last, is_worker, line_of}
+use Rattle.pool_report.specs.Report.{Needed, Stranded, Worker, backlog_line, ended, needed_line, short_line, stranded_line, task_line, worker_line, worker_name}
 
 -- no byte of it is a line feed
 abbrev pub is_one_line : List ℕ → Bool
@@ -61,3 +61,21 @@ IsOf p i = (live : List Bool) × (waiting : List ℕ) × (i ≡ instance_of p li
 -- No other answer that is shown has the same report.
 abbrev pub IsTheOnlyOne : Profile → Instance → Answer → Type 0
 IsTheOnlyOne p i answer = (other : Answer) → Shown i other → report_text p i other ≡ report_text p i answer → retold i other ≡ retold i answer
+
+-- The text is a line with its line feed, spelled as what it tells: its words, its names and its numbers without zeros in front, with one
+-- space between them.
+abbrev pub Spells : List ℕ → Line → Type 0
+Spells text head = text ≡ ended (codes "report 1")
+Spells text (backlog k) = (k < 2 ^ 33) × (k ≢ 2 ^ 32) × (text ≡ backlog_line k)
+Spells text no_plan = text ≡ ended (codes "noplan")
+Spells text (task worker function) = IsTrue (is_worker worker) × HasName function × (text ≡ task_line worker function)
+Spells text short = (need : ℕ) × (have : ℕ) × (need < 2 ^ 64) × (have < 2 ^ 64) × (text ≡ short_line need have)
+Spells text (needed f) =
+    (need : ℕ) × IsTrue (is_name f) × (need < 2 ^ 64) × (text ≡ needed_line (record { function = f; need = need }))
+Spells text (stranded f) =
+    (waiting : ℕ) × IsTrue (is_name f) × (waiting < 2 ^ 32) × (text ≡ stranded_line (record { function = f; waiting = waiting }))
+Spells text last = text ≡ ended (codes "end")
+
+-- A line tells something only as it is spelled.
+abbrev pub AreLinesSpelled : Type 0
+AreLinesSpelled = (line : List ℕ) (told : Line) → line_of line ≡ Some told → Spells (ended line) told

@@ -1,7 +1,7 @@
 ghost use Rattle.std.specs.Prelude.{◌≡◌, Ok};
 ghost use Rattle.plan_model.specs.Shown.{Shown};
 ghost use Rattle.pool_report.specs.Answered.{report_text};
-ghost use Rattle.pool_report.specs.Law.{AreLinesRead, AreNamesFound, IsOf, IsTheOnlyOne, retold};
+ghost use Rattle.pool_report.specs.Law.{AreLinesRead, AreLinesSpelled, AreNamesFound, IsOf, IsTheOnlyOne, retold};
 ghost use Rattle.pool_report.specs.Reading.{meaning};
 
 use plan_model::{Answer, Input};
@@ -11,6 +11,12 @@ use pool_settings::Settings;
 /// tells.
 pub fn lines_read_back()
     ensures { AreLinesRead }
+{}
+
+/// The law of the spelling, which does nothing when it runs: a line tells something only where it is spelled as that
+/// is, by its words, its names and its numbers without zeros in front. [`lines_read_back`] is the other way round.
+pub fn lines_are_spelled()
+    ensures { AreLinesSpelled }
 {}
 
 /// The law of the names, which does nothing that is seen: the name of a function, and that of a worker as a

@@ -42,6 +42,6 @@ mod stage;
 mod tests;
 
 pub use error::{ReadError, WriteError};
-pub use law::{lines_read_back, names_read_back, report_reads_back};
+pub use law::{lines_are_spelled, lines_read_back, names_read_back, report_reads_back};
 pub use reader::read;
 pub use report::{report_text, write};
