@@ -4,7 +4,7 @@ use Rattle.std.specs.List.{filter, cons_option, AllByRecursion}
 use Rattle.std.proofs.lemmas.List.{append_assoc, append-nil}
 use Rattle.gear_packets.specs.declared.fault.StreamFault.{StreamFault}
 use Rattle.gear_packets.specs.Request.{Packet, spelling, IsSent, first_request}
-use Rattle.gear_packets.specs.Response.{Assignment, Message, Next, gives, faulty, waits, first_response}
+use Rattle.gear_packets.specs.Response.{AssignedJob, Message, Next, gives, faulty, waits, first_response}
 use Rattle.gear_packets.specs.Text.{Ending, unread, broken, Reading, after_message, reading_within, reading, behind, further, Sent, sent_within, sent, text_of, is_work, register, registered_by, assignments_in, assignment_of, GrowsByARequest, GrowsByAResponse}
 use Rattle.gear_packets.proofs.Requests.{first_found, first_shrinks, first_stays, first_of_nothing}
 use Rattle.gear_packets.proofs.Responses.{gives_stays, gives_shrinks, faulty_stays, response_of_nothing}
@@ -179,9 +179,9 @@ assignments_in_append : (xs ys : List Message) → assignments_in (xs ++ ys) ≡
 assignments_in_append [] ys = refl
 assignments_in_append (x ∷ xs) ys = by (assignment_of x) (assignments_in (xs ++ ys)) (assignments_in xs) (assignments_in ys) (assignments_in_append xs ys)
   where
-    by : (o : Option Assignment) (all front behind : List Assignment) → all ≡ front ++ behind → cons_option o all ≡ cons_option o front ++ behind
+    by : (o : Option AssignedJob) (all front behind : List AssignedJob) → all ≡ front ++ behind → cons_option o all ≡ cons_option o front ++ behind
     by None all front behind h = h
-    by (Some a) all front behind h = ap (λ (t : List Assignment). a ∷ t) h
+    by (Some a) all front behind h = ap (λ (t : List AssignedJob). a ∷ t) h
 
 further_from_nothing : (r : Reading) (piece : List ℕ) → r.ending ≡ unread [] → further r piece ≡ behind r.messages (reading piece)
 unfolding further

@@ -6,7 +6,7 @@ use Rattle.gear_packets.specs.Frame.{response_magic, Front, wrong_magic, too_lar
 use Rattle.gear_packets.specs.Request.{cut}
 
 -- a job that the server hands out
-pub record Assignment : Type 0 where
+pub record AssignedJob : Type 0 where
   pub handle : List ℕ
   pub function : List ℕ
   pub unique : List ℕ
@@ -16,7 +16,7 @@ pub record Assignment : Type 0 where
 pub data Message : Type 0 where
   noop : Message
   no_job : Message
-  assign : Assignment → Message
+  assign : AssignedJob → Message
   server_error : List ℕ → List ℕ → Message
   other : ℕ → Message
 
@@ -33,7 +33,7 @@ abbrev pub bare : Message → List ℕ → Result Message StreamFault
 bare m [] = Ok m
 bare m (b ∷ body) = Err BadBody
 
-abbrev pub assigned : Assignment → Result Message StreamFault
+abbrev pub assigned : AssignedJob → Result Message StreamFault
 assigned a =
     if length a.handle == 0 then Err BadBody else (
     if nat_lt 63 (length a.handle) then Err HandleTooLong else

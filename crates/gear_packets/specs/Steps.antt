@@ -1,5 +1,6 @@
 -- What the functions that read a front answer, as the words of the format.
-use Rattle.std.specs.Prelude.{◌≡◌, ℕ, ◌+◌, ◌-◌, ◌<◌, ◌≤◌, nat_lt, if◌then◌else◌, List, length, drop, Result, Ok, Err}
+use Rattle.std.specs.Prelude.{◌≡◌, ℕ, ◌+◌, ◌-◌, ◌<◌, ◌≤◌, min, nat_lt, if◌then◌else◌, List, length, drop, Result, Ok, Err, Vec, vec_capacity, vec_len}
+use Rattle.std.specs.declared.alloc.Global.{Global}
 use Rattle.gear_packets.specs.declared.fault.StreamFault.{StreamFault}
 use Rattle.gear_packets.specs.declared.fault.FeedError.{FeedError}
 use Rattle.gear_packets.specs.declared.fault.FeedError.TheVariants.{Fault, Memory}
@@ -45,3 +46,9 @@ IsStep step.Waits most = Unit {0}
 -- how many bytes the packet at the front still lacks, as far as its header says
 abbrev pub lacks : List ℕ → ℕ
 lacks bytes = if nat_lt (length bytes) 12 then 0 else 12 + size_at bytes - length bytes
+
+-- A buffer that had to grow for so many more bytes has room for as many as it had room for before, or for all that its packet lacks. So
+-- a packet is moved as often as its size doubles, however small the pieces are in which it comes.
+abbrev pub IsAmple : Vec ℕ Global → Vec ℕ Global → ℕ → Type 0
+IsAmple old new more =
+    vec_capacity old < vec_len old + more → vec_len old + min (vec_capacity old) (lacks old.items) ≤ vec_capacity new

@@ -4,7 +4,7 @@ use Rattle.std.specs.List.{filter, flat_map, filter_map, list_any, AllByRecursio
 use Rattle.std.specs.Cmp.Lexicographic.{pointwise}
 use Rattle.gear_packets.specs.declared.fault.StreamFault.{StreamFault}
 use Rattle.gear_packets.specs.Request.{Packet, can_do, cant_do, pre_sleep, grab_job, set_client_id, work_status, work_complete, work_fail, work_data, work_warning, spelling, IsSent, first_request}
-use Rattle.gear_packets.specs.Response.{Assignment, Message, noop, no_job, assign, server_error, other, gives, faulty, waits, first_response}
+use Rattle.gear_packets.specs.Response.{AssignedJob, Message, noop, no_job, assign, server_error, other, gives, faulty, waits, first_response}
 
 -- how a stream ends: with bytes that are no whole packet yet, or at a fault
 pub data Ending : Type 0 where
@@ -41,18 +41,18 @@ further r piece = elim r.ending [
   | broken f ↦ r
 ]
 
-abbrev pub assignment_of : Message → Option Assignment
+abbrev pub assignment_of : Message → Option AssignedJob
 assignment_of noop = None
 assignment_of no_job = None
 assignment_of (assign a) = Some a
 assignment_of (server_error code text) = None
 assignment_of (other kind) = None
 
-abbrev pub assignments_in : List Message → List Assignment
+abbrev pub assignments_in : List Message → List AssignedJob
 assignments_in ms = filter_map assignment_of ms
 
 -- the jobs that a stream hands out, in order
-abbrev pub assignments : List ℕ → List Assignment
+abbrev pub assignments : List ℕ → List AssignedJob
 assignments bytes = assignments_in (reading bytes).messages
 
 -- ---- what a worker has sent

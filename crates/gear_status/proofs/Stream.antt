@@ -3,7 +3,7 @@ use Rattle.std.proofs.Common.{◌≡◌, ◌≢◌, append_assoc, subst, ℕ, �
 use Rattle.std.specs.List.{slice_split}
 use Rattle.std.proofs.lemmas.Bool.{and_parts, false≢true}
 use Rattle.std.proofs.lemmas.Bool.Decides.{nat_tests}
-use Rattle.gear_status.specs.Device.{Undisturbed}
+use Rattle.gear_status.specs.Sides.{Met, Undisturbed}
 use Rattle.gear_status.specs.Status.{Line, at_end, is_line_feed, is_period, is_too_long, line_meaning, meaning_from, put, status, without_return}
 use Rattle.gear_status.specs.Stream.{Answers, EndsWithPiece, IsPart, Part, is_open, is_verdict, meaning_with}
 use Rattle.gear_status.specs.declared.error.StatusError.{StatusError}
@@ -128,12 +128,12 @@ led_on bytes piece p q ahead on rest =
     subst (λ t. status t ≡ meaning_with q rest) (sym (append_assoc bytes piece rest)) (ahead (piece ++ rest) ∙ on rest)
 
 -- what a piece's fault lets a call answer
-pub fault_answer : (bytes : List ℕ) (lulls failures : ℕ) (ended : Bool) (f : StatusError) → is_verdict f ≡ true → (f ≢ Memory → status bytes ≡ Err f)
-    → EndsWithPiece bytes ended → Undisturbed lulls failures → Answers bytes lulls failures ended (Err f)
-fault_answer bytes lulls failures ended Memory v e last calm = calm
-fault_answer bytes lulls failures ended Truncated v e last calm = absurd (false≢true v)
-fault_answer bytes lulls failures ended ReadFault v e last calm = absurd (false≢true v)
-fault_answer bytes lulls failures ended (BadLine n) v e last calm = (e (λ p. cc), last, calm)
-fault_answer bytes lulls failures ended (BadNumber n) v e last calm = (e (λ p. cc), last, calm)
-fault_answer bytes lulls failures ended (LineTooLong n) v e last calm = (e (λ p. cc), last, calm)
-fault_answer bytes lulls failures ended TooManyLines v e last calm = (e (λ p. cc), last, calm)
+pub fault_answer : (met : Met) (f : StatusError) → is_verdict f ≡ true → (f ≢ Memory → status met.bytes ≡ Err f)
+    → EndsWithPiece met → Undisturbed met → Answers met (Err f)
+fault_answer met Memory v e last calm = (last, calm)
+fault_answer met Truncated v e last calm = absurd (false≢true v)
+fault_answer met ReadFault v e last calm = absurd (false≢true v)
+fault_answer met (BadLine n) v e last calm = (e (λ p. cc), last, calm)
+fault_answer met (BadNumber n) v e last calm = (e (λ p. cc), last, calm)
+fault_answer met (LineTooLong n) v e last calm = (e (λ p. cc), last, calm)
+fault_answer met TooManyLines v e last calm = (e (λ p. cc), last, calm)

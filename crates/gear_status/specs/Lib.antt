@@ -7,3 +7,4 @@ pub mod Refusal
 pub mod Memory
 pub mod Script
 pub mod Played
+pub mod Sides

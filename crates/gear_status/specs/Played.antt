@@ -1,13 +1,17 @@
 -- A scripted device as the code keeps it.
+use Rattle.std.specs.Prelude.{ℕ, List, map, Vec}
+use Rattle.std.specs.declared.alloc.Global.{Global}
 use Rattle.gear_status.specs.Script.{Play}
 use Rattle.gear_status.specs.declared.script.Script.TheInside.{Inside}
 
+abbrev pub pieces_view : List (Vec ℕ Global) → List (List ℕ)
+pieces_view = map (λ piece. piece.items)
+
 abbrev pub play_view : Inside → Play
 play_view s = record {
-  input = s.input.items;
+  pieces = pieces_view s.pieces.items;
+  next = s.next;
   at = s.at;
-  cues = s.cues.items;
-  cue = s.cue;
   lulls = s.lulls;
   has_ended = s.has_ended;
   sound_takes = s.sound_takes;

@@ -1,25 +1,21 @@
 -- What a fault line says of a status text that is not taken.
-use Rattle.std.specs.Prelude.{ℕ, List, Option, Some, None, codes}
+use Rattle.std.specs.Prelude.{ℕ, Bool, true, false, Option, Some, None, codes}
+use Rattle.refusal.specs.Label.{Label, label}
 use Rattle.gear_status.specs.declared.error.StatusError.{StatusError}
 use Rattle.gear_status.specs.declared.error.StatusError.TheVariants as fault
 
-abbrev pub number_of : StatusError → ℕ
-number_of (fault.BadLine n) = 1
-number_of (fault.BadNumber n) = 2
-number_of (fault.LineTooLong n) = 3
-number_of fault.TooManyLines = 4
-number_of fault.Truncated = 5
-number_of fault.ReadFault = 6
-number_of fault.Memory = 7
+abbrev pub status_label : StatusError → Label
+status_label (fault.BadLine n) = label 1 (codes "BadLine")
+status_label (fault.BadNumber n) = label 2 (codes "BadNumber")
+status_label (fault.LineTooLong n) = label 3 (codes "LineTooLong")
+status_label fault.TooManyLines = label 4 (codes "TooManyLines")
+status_label fault.Truncated = label 5 (codes "Truncated")
+status_label fault.ReadFault = label 6 (codes "ReadFault")
+status_label fault.Memory = label 7 (codes "Memory")
 
-abbrev pub name_of : StatusError → List ℕ
-name_of (fault.BadLine n) = codes "BadLine"
-name_of (fault.BadNumber n) = codes "BadNumber"
-name_of (fault.LineTooLong n) = codes "LineTooLong"
-name_of fault.TooManyLines = codes "TooManyLines"
-name_of fault.Truncated = codes "Truncated"
-name_of fault.ReadFault = codes "ReadFault"
-name_of fault.Memory = codes "Memory"
+abbrev pub is_status_memory : StatusError → Bool
+is_status_memory fault.Memory = true
+is_status_memory _ = false
 
 -- the line that is refused, where it is one line
 abbrev pub line_of : StatusError → Option ℕ

@@ -1,7 +1,7 @@
 -- A status text that has come in part.
 use Rattle.std.specs.Prelude.{ℕ, ◌≡◌, ◌+◌, ◌-◌, ◌*◌, ◌≤◌, List, ◌++◌, take, Bool, true, false, not, length, Option, Some, None, Result, Ok, Err}
 use Rattle.std.specs.List.{list_all, slice_split}
-use Rattle.gear_status.specs.Device.{GaveUp, Undisturbed}
+use Rattle.gear_status.specs.Sides.{GaveUp, Met, Undisturbed}
 use Rattle.gear_status.specs.Status.{Line, is_line_feed, meaning_from, status}
 use Rattle.gear_status.specs.declared.error.StatusError.{StatusError}
 use Rattle.gear_status.specs.declared.error.StatusError.TheVariants as fault
@@ -41,32 +41,29 @@ is_verdict fault.Truncated = false
 is_verdict fault.ReadFault = false
 is_verdict _ = true
 
--- A piece of at most 4,096 bytes at the end decides, nothing before it does, and the last take did not find the end. Since any take may
+-- The last piece has at most 4,096 bytes, nothing before it decides, and the last read did not find the end. Since any read may
 -- fail or find the end, a call that promises this makes none behind the piece: it does not read behind the period line, or a fault.
-abbrev pub EndsWithPiece : List ℕ → Bool → Type 0
-EndsWithPiece bytes ended =
-    ((before : List ℕ) × (piece : List ℕ) × (bytes ≡ before ++ piece) × (status before ≡ Err fault.Truncated) × (length piece ≤ 4096))
-    × (ended ≡ false)
+abbrev pub EndsWithPiece : Met → Type 0
+EndsWithPiece met =
+    ((before : List ℕ) × (piece : List ℕ) × (met.bytes ≡ before ++ piece) × (status before ≡ Err fault.Truncated) × (length piece ≤ 4096))
+    × (met.has_ended ≡ false)
 
--- What a call may answer that took these bytes and met these lulls, where `failures` are those of
--- its device in the call, and `ended` says whether the last take found the end.
-abbrev pub Answers : List ℕ → ℕ → ℕ → Bool → Result (List Line) StatusError → Type 0
-Answers bytes lulls failures ended (Ok load) = (status bytes ≡ Ok load) × EndsWithPiece bytes ended × Undisturbed lulls failures
-Answers bytes lulls failures ended (Err fault.Memory) = Undisturbed lulls failures
-Answers bytes lulls failures ended (Err fault.Truncated) =
-    (status bytes ≡ Err fault.Truncated) × (ended ≡ true) × Undisturbed lulls failures
-Answers bytes lulls failures ended (Err fault.ReadFault) = (status bytes ≡ Err fault.Truncated) × GaveUp lulls failures
-Answers bytes lulls failures ended (Err f) = (status bytes ≡ Err f) × EndsWithPiece bytes ended × Undisturbed lulls failures
+-- What a call may answer that met this. Want of memory comes while a piece is taken in, and nothing before that piece decides.
+abbrev pub Answers : Met → Result (List Line) StatusError → Type 0
+Answers met (Ok load) = (status met.bytes ≡ Ok load) × EndsWithPiece met × Undisturbed met
+Answers met (Err fault.Memory) = EndsWithPiece met × Undisturbed met
+Answers met (Err fault.Truncated) =
+    (status met.bytes ≡ Err fault.Truncated) × (met.has_ended ≡ true) × Undisturbed met
+Answers met (Err fault.ReadFault) = (status met.bytes ≡ Err fault.Truncated) × GaveUp met
+Answers met (Err f) = (status met.bytes ≡ Err f) × EndsWithPiece met × Undisturbed met
 
 -- No text that is undecided is longer than this: 65,536 lines of 4,096 bytes with their line feeds, and one more line.
 abbrev pub longest : ℕ
 longest = 65537 * 4097
 
 -- The same, of a call that takes so many bytes at most and one byte more to see whether the text goes on
-abbrev pub AnswersWithin : ℕ → List ℕ → ℕ → ℕ → Bool → Result (Option (List Line)) StatusError → Type 0
-AnswersWithin limit bytes lulls failures ended (Ok (Some load)) =
-    Answers bytes lulls failures ended (Ok load) × (length bytes ≤ limit)
-AnswersWithin limit bytes lulls failures ended (Ok None) =
-    (length bytes ≡ limit + 1) × (status (take limit bytes) ≡ Err fault.Truncated) × (limit ≤ longest) × Undisturbed lulls failures
-AnswersWithin limit bytes lulls failures ended (Err f) =
-    Answers bytes lulls failures ended (Err f) × (length bytes ≤ limit)
+abbrev pub AnswersWithin : ℕ → Met → Result (Option (List Line)) StatusError → Type 0
+AnswersWithin limit met (Ok (Some load)) = Answers met (Ok load) × (length met.bytes ≤ limit)
+AnswersWithin limit met (Ok None) =
+    (length met.bytes ≡ limit + 1) × (status (take limit met.bytes) ≡ Err fault.Truncated) × (limit ≤ longest) × Undisturbed met
+AnswersWithin limit met (Err f) = Answers met (Err f) × (length met.bytes ≤ limit)

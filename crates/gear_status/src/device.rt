@@ -1,7 +1,8 @@
 // What bytes are read from and written to.
 
-ghost use Rattle.std.specs.Prelude.{◌≡◌, ◌+◌, ◌-◌, ◌^◌, ◌<◌, ◌≤◌, ℕ, List, Bool, Option, length, IfOk, IfErr, OnOk, OnErr, take};
-ghost use Rattle.gear_status.specs.Device.{FitsBuffer, and_then, counted, failure_of, gone, is_end, lull_of, taken};
+ghost use Rattle.std.specs.Prelude.{◌≡◌, ◌+◌, ◌-◌, ◌^◌, ◌<◌, ◌≤◌, length, IfOk, IfErr, OnOk, OnErr, take};
+ghost use Rattle.gear_status.specs.Device.{FitsBuffer, failure_of, gone, is_end, lull_of, taken};
+ghost use Rattle.gear_status.specs.Sides.{HasFront, HasText, Input, Output, and_then, counted, no_input, no_output};
 
 use thiserror::Error;
 
@@ -21,51 +22,46 @@ pub enum Took {
 #[error("the device failed")]
 pub struct DeviceFault;
 
-/// What bytes are read from: a socket, a file, a slice.
+/// What bytes come from, or go to, or both: a socket, a file, memory.
 ///
-/// A source stores and tells how often it has failed, and whether its last read found the end. What it has given and how
-/// many lulls there were it tells where it can, as one over memory does; of a socket nothing is claimed, and it says None.
-pub trait Source {
-    /// The bytes that it has given so far, in order, where it tells them.
-    ghost given: { Self → Option (List ℕ) };
+/// A device tells of its two sides. A side that it does not have stays as it was at first. Bytes and lulls are told where that
+/// can be, as over memory; of a socket nothing is claimed, and it says None. Failures are counted always.
+pub trait Device {
+    /// What was read from it.
+    ghost input: { Self → Input } = { λ _. no_input };
 
-    /// How many lulls there were so far, where it tells them.
-    ghost lulls: { Self → Option ℕ };
+    /// What was written to it.
+    ghost output: { Self → Output } = { λ _. no_output };
+}
 
-    /// How often it has failed.
-    ghost failures: { Self → ℕ };
-
-    /// Whether its last read found the end. It is false before the first.
-    ghost has_ended: { Self → Bool };
-
+/// What bytes are read from.
+///
+/// A source stores and tells how often it has failed, and whether its last read found the end.
+pub trait Source: Device {
     /// Reads into the front of the buffer. After a failure nothing is known of the buffer.
     fn take(&mut self, buffer: &mut [u8]) -> Result<Took, DeviceFault>
         requires room { 0 < length buffer.old }
-        requires count { failures self.old < 2 ^ 64 - 1 }
+        requires count { (Self.input self.old).failures < 2 ^ 64 - 1 }
         ensures within { IfOk result (FitsBuffer (length buffer.new)) }
-        ensures bytes { given self.new ≡ and_then (given self.old) (taken buffer.new result) }
-        ensures pauses { lulls self.new ≡ counted (lulls self.old) (lull_of result) }
-        ensures fails { failures self.new ≡ failures self.old + failure_of result }
-        ensures ends { has_ended self.new ≡ is_end result };
+        ensures bytes { (Self.input self.new).given ≡ and_then (Self.input self.old).given (taken buffer.new result) }
+        ensures pauses { (Self.input self.new).lulls ≡ counted (Self.input self.old).lulls (lull_of result) }
+        ensures fails { (Self.input self.new).failures ≡ (Self.input self.old).failures + failure_of result }
+        ensures ends { (Self.input self.new).has_ended ≡ is_end result }
+        ensures output { Self.output self.new ≡ Self.output self.old };
 }
 
-/// What bytes are written to: a socket, a file, a vector.
+/// What bytes are written to.
 ///
-/// A sink stores and tells how often it has failed. What it was given it tells where it can, as one over memory does.
-pub trait Sink {
-    /// The bytes that it took so far, in order, where it tells them.
-    ghost got: { Self → Option (List ℕ) };
-
-    /// How often it has failed.
-    ghost failures: { Self → ℕ };
-
+/// A sink stores and tells how often it has failed.
+pub trait Sink: Device {
     /// Writes the bytes, or a front of them, and says how many it took: at least one. After a failure it took none.
     fn give(&mut self, bytes: &[u8]) -> Result<usize, DeviceFault>
         requires some { 0 < length bytes.now }
-        requires count { failures self.old < 2 ^ 64 - 1 }
+        requires count { (Self.output self.old).failures < 2 ^ 64 - 1 }
         ensures within { IfOk result (λ n. (1 ≤ n) × (n ≤ length bytes.now)) }
-        ensures bytes { got self.new ≡ and_then (got self.old) (gone bytes.now result) }
-        ensures fails { failures self.new ≡ failures self.old + failure_of result };
+        ensures bytes { (Self.output self.new).got ≡ and_then (Self.output self.old).got (gone bytes.now result) }
+        ensures fails { (Self.output self.new).failures ≡ (Self.output self.old).failures + failure_of result }
+        ensures input { Self.input self.new ≡ Self.input self.old };
 }
 
 /// The sink failed after it took so many bytes, a front of the text.
@@ -79,12 +75,10 @@ pub struct Given {
 /// Writes all the bytes, in as many writes as the sink wants. Where a write fails, a front of them has gone out, and
 /// nothing is written after it.
 pub fn give_all<S: Sink>(sink: &mut S, bytes: &[u8]) -> Result<(), Given>
-    requires count { S.failures sink.old < 2 ^ 64 - 1 }
-    ensures ok { OnOk result (S.got sink.new ≡ and_then (S.got sink.old) bytes.now) }
-    ensures ok_count { OnOk result (S.failures sink.new ≡ S.failures sink.old) }
-    ensures err { IfErr result (λ g. S.got sink.new ≡ and_then (S.got sink.old) (take g.count bytes.now)) }
-    ensures err_count { OnErr result (S.failures sink.new ≡ S.failures sink.old + 1) }
-    ensures front { IfErr result (λ g. g.count < length bytes.now) }
+    requires count { (S.output sink.old).failures < 2 ^ 64 - 1 }
+    ensures ok { OnOk result (HasText (S.output sink.old) bytes.now (S.output sink.new)) }
+    ensures err { IfErr result (λ g. HasFront (S.output sink.old) bytes.now g.count (S.output sink.new)) }
+    ensures input { S.input sink.new ≡ S.input sink.old }
 {
     let mut count = 0;
     while count < bytes.len() {

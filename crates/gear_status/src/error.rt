@@ -3,6 +3,7 @@
 ghost use Rattle.std.specs.Prelude.{◌≡◌};
 ghost use Rattle.gear_status.specs.Refusal as spec;
 
+use refusal::{Label, Labelled, Refusal};
 use std::alloc::{AllocError, AllocFailed};
 use thiserror::Error;
 
@@ -34,37 +35,32 @@ pub enum StatusError {
     Memory,
 }
 
+/// The number of a refusal is its place in the list of variants, from 1 to 7.
+impl Labelled for StatusError {
+    ghost use Rattle.gear_status.specs.Refusal.{status_label};
+
+    ghost label = { status_label };
+
+    fn label(&self) -> Label {
+        match self {
+            StatusError::BadLine(_) => Label::new(1, "BadLine"),
+            StatusError::BadNumber(_) => Label::new(2, "BadNumber"),
+            StatusError::LineTooLong(_) => Label::new(3, "LineTooLong"),
+            StatusError::TooManyLines => Label::new(4, "TooManyLines"),
+            StatusError::Truncated => Label::new(5, "Truncated"),
+            StatusError::ReadFault => Label::new(6, "ReadFault"),
+            StatusError::Memory => Label::new(7, "Memory"),
+        }
+    }
+}
+
+impl Refusal for StatusError {
+    ghost use Rattle.gear_status.specs.Refusal.{is_status_memory};
+
+    ghost is_memory = { is_status_memory };
+}
+
 impl StatusError {
-    /// The number of this refusal, from 1 to 7 in the order above, as fault lines give it.
-    pub fn number(self) -> u32
-        ensures number { result ≡ spec.number_of self }
-    {
-        match self {
-            StatusError::BadLine(_) => 1,
-            StatusError::BadNumber(_) => 2,
-            StatusError::LineTooLong(_) => 3,
-            StatusError::TooManyLines => 4,
-            StatusError::Truncated => 5,
-            StatusError::ReadFault => 6,
-            StatusError::Memory => 7,
-        }
-    }
-
-    /// The name of this refusal, as fault lines give it: that of its variant.
-    pub fn name(self) -> &'static str
-        ensures name { result.now ≡ spec.name_of self }
-    {
-        match self {
-            StatusError::BadLine(_) => "BadLine",
-            StatusError::BadNumber(_) => "BadNumber",
-            StatusError::LineTooLong(_) => "LineTooLong",
-            StatusError::TooManyLines => "TooManyLines",
-            StatusError::Truncated => "Truncated",
-            StatusError::ReadFault => "ReadFault",
-            StatusError::Memory => "Memory",
-        }
-    }
-
     /// The line that is refused, counted from 1, where it is one line.
     pub fn line(self) -> Option<u32>
         ensures line { result ≡ spec.line_of self }

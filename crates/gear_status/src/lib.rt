@@ -10,11 +10,11 @@ mod reader;
 mod script;
 mod status;
 
-pub use device::{DeviceFault, Given, Sink, Source, Took, give_all};
+pub use device::{Device, DeviceFault, Given, Sink, Source, Took, give_all};
 pub use error::StatusError;
 pub use load::{Counts, Load};
 pub use memory::{SliceSource, VecSink};
-pub use script::{Cue, Script};
+pub use script::Script;
 pub use status::{load_of, read_status, read_status_within};
 
 #[cfg(test)]

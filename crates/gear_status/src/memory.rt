@@ -1,8 +1,9 @@
 // Devices over memory, which tell their bytes.
 
-ghost use Rattle.std.specs.Prelude.{◌≡◌, [], false};
+ghost use Rattle.std.specs.Prelude.{◌≡◌, ◌<◌, ◌≤◌, ◌^◌, ◌+◌, ◌-◌, ◌++◌, [], IfOk, OnErr, false, length};
+ghost use Rattle.gear_status.specs.Memory.{ReadsText};
 
-use crate::device::{DeviceFault, Sink, Source, Took};
+use crate::device::{Device, DeviceFault, Sink, Source, Took};
 use std::alloc::Global;
 use std::marker::Model;
 
@@ -38,18 +39,18 @@ impl<'s> SliceSource<'s> {
     }
 }
 
-impl Source for SliceSource<'_> {
+impl Device for SliceSource<'_> {
     ghost use Rattle.std.specs.Prelude.{Some, take};
 
-    ghost given = { λ s. Some (take s.at s.text) };
+    ghost input = { λ s. record { given = Some (take s.at s.text); lulls = Some 0; failures = 0; has_ended = s.has_ended } };
+}
 
-    ghost lulls = { λ _. Some 0 };
-
-    ghost failures = { λ _. 0 };
-
-    ghost has_ended = { λ s. s.has_ended };
-
-    fn take(&mut self, buffer: &mut [u8]) -> Result<Took, DeviceFault> {
+impl SliceSource<'_> {
+    /// One read: all that is left and has room, or the end behind it.
+    fn read(&mut self, buffer: &mut [u8]) -> Result<Took, DeviceFault>
+        requires room { 0 < length buffer.old }
+        ensures reads { ReadsText self.old buffer.new result self.new }
+    {
         let left = self.all.len() - self.at;
         let count = left.min(buffer.len());
         if count == 0 {
@@ -61,6 +62,12 @@ impl Source for SliceSource<'_> {
         self.at = end;
         self.has_ended = false;
         Ok(Took::Bytes(count))
+    }
+}
+
+impl Source for SliceSource<'_> {
+    fn take(&mut self, buffer: &mut [u8]) -> Result<Took, DeviceFault> {
+        self.read(buffer)
     }
 }
 
@@ -98,14 +105,19 @@ impl VecSink {
     }
 }
 
-impl Sink for VecSink {
+impl Device for VecSink {
     ghost use Rattle.std.specs.Prelude.{Some};
 
-    ghost got = { λ s. Some s.bytes };
+    ghost output = { λ s. record { got = Some s.bytes; failures = s.failures } };
+}
 
-    ghost failures = { λ s. s.failures };
-
-    fn give(&mut self, bytes: &[u8]) -> Result<usize, DeviceFault> {
+impl VecSink {
+    /// One write: it takes all the bytes, or none where memory is refused.
+    fn write(&mut self, bytes: &[u8]) -> Result<usize, DeviceFault>
+        requires count { self.old.failures < 2 ^ 64 - 1 }
+        ensures all { IfOk result (λ n. (n ≡ length bytes.now) × (self.new ≡ record self.old { bytes = self.old.bytes ++ bytes.now })) }
+        ensures none { OnErr result (self.new ≡ record self.old { failures = self.old.failures + 1 }) }
+    {
         match self.bytes.extend_from_slice(bytes) {
             Ok(()) => Ok(bytes.len()),
             Err(_) => {
@@ -113,5 +125,11 @@ impl Sink for VecSink {
                 Err(DeviceFault)
             }
         }
+    }
+}
+
+impl Sink for VecSink {
+    fn give(&mut self, bytes: &[u8]) -> Result<usize, DeviceFault> {
+        self.write(bytes)
     }
 }

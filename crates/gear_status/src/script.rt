@@ -1,30 +1,19 @@
 // A device in memory that follows a script, for tests.
 
-ghost use Rattle.std.specs.Prelude.{◌≡◌, ◌<◌, ◌≤◌, ◌+◌, ◌-◌, ◌++◌, ◌∷◌, [], min, length, take, OnOk, OnErr, Some};
-ghost use Rattle.gear_status.specs.declared.script.Cue.TheVariants as cues;
-ghost use Rattle.gear_status.specs.Script.{first_play};
+ghost use Rattle.std.specs.Prelude.{◌≡◌, ◌<◌, ◌≤◌, ◌-◌, ◌^◌, ◌++◌, ◌∷◌, [], min, length, take, IfOk, OnOk, OnErr, Some, None};
+ghost use Rattle.gear_status.specs.Script.{Reads, Writes, first_play, fails, one_less};
 
-use crate::device::{DeviceFault, Sink, Source, Took};
+use crate::device::{Device, DeviceFault, Sink, Source, Took};
 use std::alloc::{AllocError, Global};
 use std::marker::Model;
 
-/// What a script does at a read.
-#[derive(Clone, Copy, Debug, PartialEq, Eq)]
-pub enum Cue {
-    /// It gives this many bytes of its input, over as many reads as the buffers need. None is as good as a lull.
-    Bytes(usize),
-    /// It gives nothing.
-    Lull,
-}
-
-/// A source and a sink for tests. It gives its input in the listed pieces, with lulls between them, and then ends; it takes so
-/// many bytes at a write; and each side may fail at one stated call.
+/// A source and a sink for tests. It gives its pieces one by one, over as many reads as the buffers need, and then ends; a piece
+/// without bytes is a lull. It takes so many bytes at a write. Each side may fail at one stated call, which reads or writes nothing.
 #[derive(Drop)]
 pub struct Script {
-    input: Vec<u8>,
+    pieces: Vec<Vec<u8>>,
+    next: usize,
     at: usize,
-    cues: Vec<Cue>,
-    cue: usize,
     lulls: usize,
     has_ended: bool,
     sound_takes: Option<u64>,
@@ -48,15 +37,14 @@ impl Model for Script {
 }
 
 impl Script {
-    /// A script without cues: it ends at its first read, takes whatever is written, and never fails.
+    /// A script without pieces: it ends at its first read, takes whatever is written, and never fails.
     pub fn new(alloc: Global) -> Script
-        ensures no_cues { result ≡ first_play }
+        ensures no_pieces { result ≡ first_play }
     {
         Script {
-            input: Vec::new(alloc),
+            pieces: Vec::new(alloc),
+            next: 0,
             at: 0,
-            cues: Vec::new(alloc),
-            cue: 0,
             lulls: 0,
             has_ended: false,
             sound_takes: None,
@@ -68,25 +56,22 @@ impl Script {
         }
     }
 
-    /// Lists a piece of input. Where there is no memory for it, the script stays as it was.
+    /// Lists a piece of input. One without bytes is a lull. Where there is no memory for it, the script stays as it was.
     pub fn piece(&mut self, bytes: &[u8]) -> Result<(), AllocError>
-        ensures ok { OnOk result
-            (self.new ≡ record self.old { input = self.old.input ++ bytes.now; cues = self.old.cues ++ cues.Bytes (length bytes.now) ∷ [] }) }
+        ensures ok { OnOk result (self.new ≡ record self.old { pieces = self.old.pieces ++ bytes.now ∷ [] }) }
         ensures err { OnErr result (self.new ≡ self.old) }
     {
-        self.cues.reserve(1)?;
-        self.input.extend_from_slice(bytes)?;
-        self.cues.push(Cue::Bytes(bytes.len()))?;
+        let piece = Vec::from_slice(*self.pieces.allocator(), bytes)?;
+        self.pieces.push(piece)?;
         Ok(())
     }
 
     /// Lists a lull. Where there is no memory for it, the script stays as it was.
     pub fn lull(&mut self) -> Result<(), AllocError>
-        ensures ok { OnOk result (self.new ≡ record self.old { cues = self.old.cues ++ cues.Lull ∷ [] }) }
+        ensures ok { OnOk result (self.new ≡ record self.old { pieces = self.old.pieces ++ [] ∷ [] }) }
         ensures err { OnErr result (self.new ≡ self.old) }
     {
-        self.cues.push(Cue::Lull)?;
-        Ok(())
+        self.piece(&[])
     }
 
     /// The call of `take` that is to fail, counted from 1 for the next.
@@ -122,20 +107,64 @@ impl Script {
 }
 
 impl Script {
-    /// How many bytes the next cue still gives, and 0 for a lull.
-    fn due(&self) -> usize
-        requires { self.now.cue < length self.now.cues }
-        ensures { self.now.at + result ≤ length self.now.input }
+    /// One read: what it gives, and the script that is left, are those that the script and the room in the buffer say.
+    fn read(&mut self, buffer: &mut [u8]) -> Result<Took, DeviceFault>
+        requires room { 0 < length buffer.old }
+        requires count { self.old.take_failures < 2 ^ 64 - 1 }
+        ensures reads { Reads self.old buffer.new result self.new }
     {
-        match self.cues[self.cue] {
-            Cue::Bytes(count) => count.min(self.input.len() - self.at),
-            Cue::Lull => 0,
+        let (fails, sound) = counted(self.sound_takes);
+        self.has_ended = false;
+        self.sound_takes = sound;
+        if fails {
+            self.take_failures += 1;
+            return Err(DeviceFault);
         }
+        if self.next == self.pieces.len() {
+            self.has_ended = true;
+            return Ok(Took::Ended);
+        }
+        let piece = self.pieces[self.next].as_slice();
+        if piece.is_empty() {
+            self.next += 1;
+            self.at = 0;
+            self.lulls += 1;
+            return Ok(Took::Lull);
+        }
+        let left = &piece[self.at..];
+        let count = copy_front(left, buffer);
+        if count < left.len() {
+            self.at += count;
+            return Ok(Took::Bytes(count));
+        }
+        self.next += 1;
+        self.at = 0;
+        Ok(Took::Bytes(count))
+    }
+
+    /// One write: what it takes is what the script says, or nothing where it is to fail or the growth of its output is refused.
+    fn write(&mut self, bytes: &[u8]) -> Result<usize, DeviceFault>
+        requires some { 0 < length bytes.now }
+        requires count { self.old.give_failures < 2 ^ 64 - 1 }
+        ensures within { IfOk result (λ n. (1 ≤ n) × (n ≤ length bytes.now)) }
+        ensures writes { Writes self.old bytes.now result self.new }
+    {
+        let (fails, sound) = counted(self.sound_gives);
+        self.sound_gives = sound;
+        let count = bytes.len().min(self.widest_give);
+        if fails || self.output.extend_from_slice(&bytes[..count]).is_err() {
+            self.give_failures += 1;
+            return Err(DeviceFault);
+        }
+        Ok(count)
     }
 }
 
 /// Whether this call is to fail, and the calls before the failure that are left after it.
-fn counted(sound: Option<u64>) -> (bool, Option<u64>) {
+fn counted(sound: Option<u64>) -> (bool, Option<u64>)
+    ensures fails { result.0 ≡ fails sound }
+    ensures less { result.1 ≡ one_less sound }
+{
     match sound {
         Some(0) => (true, None),
         Some(calls) => (false, Some(calls - 1)),
@@ -154,66 +183,23 @@ fn copy_front(from: &[u8], into: &mut [u8]) -> usize
     count
 }
 
+impl Device for Script {
+    ghost use Rattle.std.specs.Prelude.{Some};
+    ghost use Rattle.gear_status.specs.Script.{given};
+
+    ghost input = { λ s. record { given = Some (given s); lulls = Some s.lulls; failures = s.take_failures; has_ended = s.has_ended } };
+
+    ghost output = { λ s. record { got = Some s.output; failures = s.give_failures } };
+}
+
 impl Source for Script {
-    ghost use Rattle.std.specs.Prelude.{Some, take};
-
-    ghost given = { λ s. Some (take s.at s.input) };
-
-    ghost lulls = { λ s. Some s.lulls };
-
-    ghost failures = { λ s. s.take_failures };
-
-    ghost has_ended = { λ s. s.has_ended };
-
     fn take(&mut self, buffer: &mut [u8]) -> Result<Took, DeviceFault> {
-        self.has_ended = false;
-        let (fails, sound) = counted(self.sound_takes);
-        self.sound_takes = sound;
-        if fails {
-            self.take_failures += 1;
-            return Err(DeviceFault);
-        }
-        if self.cue == self.cues.len() {
-            self.has_ended = true;
-            return Ok(Took::Ended);
-        }
-        let left = self.due();
-        if left == 0 {
-            self.cue += 1;
-            self.lulls += 1;
-            return Ok(Took::Lull);
-        }
-        let end = self.at + left;
-        let count = copy_front(&self.input[self.at..end], buffer);
-        self.at += count;
-        if count == left {
-            self.cue += 1;
-        } else {
-            self.cues[self.cue] = Cue::Bytes(left - count);
-        }
-        Ok(Took::Bytes(count))
+        self.read(buffer)
     }
 }
 
 impl Sink for Script {
-    ghost use Rattle.std.specs.Prelude.{Some};
-
-    ghost got = { λ s. Some s.output };
-
-    ghost failures = { λ s. s.give_failures };
-
     fn give(&mut self, bytes: &[u8]) -> Result<usize, DeviceFault> {
-        let (fails, sound) = counted(self.sound_gives);
-        self.sound_gives = sound;
-        if fails {
-            self.give_failures += 1;
-            return Err(DeviceFault);
-        }
-        let count = bytes.len().min(self.widest_give.max(1));
-        if self.output.extend_from_slice(&bytes[..count]).is_err() {
-            self.give_failures += 1;
-            return Err(DeviceFault);
-        }
-        Ok(count)
+        self.write(bytes)
     }
 }

@@ -1,7 +1,8 @@
 // A load, read from a source.
 
 ghost use Rattle.std.specs.Prelude.{◌≡◌, ◌≢◌, ◌+◌, ◌-◌, ◌^◌, ◌<◌, Err, IfErr, IfOk, Ok, ℕ, List, length, max, min};
-ghost use Rattle.gear_status.specs.Device.{FitsBuffer, and_then, counted, failure_of, is_end, lull_of, taken};
+ghost use Rattle.gear_status.specs.Device.{FitsBuffer, failure_of, is_end, lull_of, taken};
+ghost use Rattle.gear_status.specs.Sides.{Meets, Met, and_then, counted};
 ghost use Rattle.gear_status.specs.Status.{status};
 ghost use Rattle.gear_status.specs.Stream.{Answers, AnswersWithin};
 
@@ -24,12 +25,8 @@ const LULLS: u32 = 64;
 /// has come, and what was read behind it is not looked at. `ReadFault` is answered exactly where the source failed in this call,
 /// or lulled for the 65th time in it, before its bytes decided: after the first failure nothing is read.
 pub fn read_status<S: Source>(alloc: Global, source: &mut S) -> Result<Load, StatusError>
-    requires count { S.failures source.old < 2 ^ 64 - 1 }
-    ensures answers { (bytes : List ℕ) × (lulls : ℕ) × (failures : ℕ)
-        × (S.given source.new ≡ and_then (S.given source.old) bytes)
-        × (S.lulls source.new ≡ counted (S.lulls source.old) lulls)
-        × (S.failures source.new ≡ S.failures source.old + failures)
-        × Answers bytes lulls failures (S.has_ended source.new) result }
+    requires count { (S.input source.old).failures < 2 ^ 64 - 1 }
+    ensures answers { (met : Met) × Meets (S.input source.old) met (S.input source.new) × Answers met result }
 {
     match read_status_within(alloc, source, u64::MAX)? {
         Some(load) => Ok(load),
@@ -44,12 +41,8 @@ pub fn read_status_within<S: Source>(
     source: &mut S,
     limit: u64,
 ) -> Result<Option<Load>, StatusError>
-    requires count { S.failures source.old < 2 ^ 64 - 1 }
-    ensures answers { (bytes : List ℕ) × (lulls : ℕ) × (failures : ℕ)
-        × (S.given source.new ≡ and_then (S.given source.old) bytes)
-        × (S.lulls source.new ≡ counted (S.lulls source.old) lulls)
-        × (S.failures source.new ≡ S.failures source.old + failures)
-        × AnswersWithin limit bytes lulls failures (S.has_ended source.new) result }
+    requires count { (S.input source.old).failures < 2 ^ 64 - 1 }
+    ensures answers { (met : Met) × Meets (S.input source.old) met (S.input source.new) × AnswersWithin limit met result }
 {
     let mut buffer = [0u8; 4096];
     let mut text = Unfinished::new(alloc);
@@ -96,13 +89,13 @@ pub fn load_of(alloc: Global, text: &[u8]) -> Result<Load, StatusError>
 /// one.
 fn take_up_to<S: Source>(source: &mut S, buffer: &mut [u8], left: u64) -> Result<Took, DeviceFault>
     requires room { 0 < length buffer.old }
-    requires count { S.failures source.old < 2 ^ 64 - 1 }
+    requires count { (S.input source.old).failures < 2 ^ 64 - 1 }
     ensures within { IfOk result (FitsBuffer (min (length buffer.new) (max left 1))) }
     ensures buffer { length buffer.new ≡ length buffer.old }
-    ensures bytes { S.given source.new ≡ and_then (S.given source.old) (taken buffer.new result) }
-    ensures pauses { S.lulls source.new ≡ counted (S.lulls source.old) (lull_of result) }
-    ensures fails { S.failures source.new ≡ S.failures source.old + failure_of result }
-    ensures ends { S.has_ended source.new ≡ is_end result }
+    ensures bytes { (S.input source.new).given ≡ and_then (S.input source.old).given (taken buffer.new result) }
+    ensures pauses { (S.input source.new).lulls ≡ counted (S.input source.old).lulls (lull_of result) }
+    ensures fails { (S.input source.new).failures ≡ (S.input source.old).failures + failure_of result }
+    ensures ends { (S.input source.new).has_ended ≡ is_end result }
 {
     let room = left.max(1).min(buffer.len() as u64) as usize;
     source.take(&mut buffer[..room])

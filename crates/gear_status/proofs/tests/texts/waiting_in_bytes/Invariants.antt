@@ -1,5 +1,5 @@
 use Rattle.std.proofs.Common.{◌≡◌, ◌≤◌}
-use Rattle.gear_status.proofs.tests.waiting_in_bytes.Given as goal
+use Rattle.gear_status.proofs.tests.texts.waiting_in_bytes.Given as goal
 
 -- the script has not failed
 abbrev pub invariant-loop-byte : goal.invariant-loop-byte

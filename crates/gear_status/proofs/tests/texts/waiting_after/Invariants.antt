@@ -1,5 +1,5 @@
 use Rattle.std.proofs.Common.{◌≡◌}
-use Rattle.gear_status.proofs.tests.waiting_after.Given as goal
+use Rattle.gear_status.proofs.tests.texts.waiting_after.Given as goal
 
 -- the script has not failed
 abbrev pub invariant-loop : goal.invariant-loop

@@ -1,0 +1,13 @@
+-- What is wrong with an answer, as a line tells it: a number, its place in the order in which `check` looks, and a name.
+use Rattle.std.specs.Prelude.{codes}
+use Rattle.refusal.specs.Label.{Label, label}
+use Rattle.plan_model.specs.declared.answer.Reason.{Reason}
+use Rattle.plan_model.specs.declared.answer.Reason.TheVariants.{NotPermitted, BelowLeast, WrongBacklog, NotShort, SetMissing, Idle}
+
+abbrev pub reason_label : Reason → Label
+reason_label NotPermitted = label 1 (codes "NotPermitted")
+reason_label BelowLeast = label 2 (codes "BelowLeast")
+reason_label WrongBacklog = label 3 (codes "WrongBacklog")
+reason_label NotShort = label 4 (codes "NotShort")
+reason_label SetMissing = label 5 (codes "SetMissing")
+reason_label Idle = label 6 (codes "Idle")

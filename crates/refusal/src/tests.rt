@@ -1,0 +1,47 @@
+//! An enum of refusals, told through its bound.
+ghost use Rattle.std.specs.Prelude.{◌≡◌};
+ghost use Rattle.refusal.specs.Label.{Label};
+
+use super::*;
+
+#[derive(Drop)]
+enum Closed {
+    Locked,
+    Memory,
+}
+
+impl Labelled for Closed {
+    ghost use Rattle.std.specs.Prelude.{codes};
+    ghost use Rattle.refusal.specs.Label.{label as spelled};
+    ghost use Rattle.refusal.specs.declared.tests.Closed.TheVariants.{Locked, Memory};
+
+    ghost label = { elim [ Locked ↦ spelled 1 (codes "Locked") | Memory ↦ spelled 2 (codes "Memory") ] };
+
+    fn label(&self) -> Label {
+        match self {
+            Closed::Locked => Label::new(1, "Locked"),
+            Closed::Memory => Label::new(2, "Memory"),
+        }
+    }
+}
+
+impl Refusal for Closed {
+    ghost use Rattle.std.specs.Prelude.{true, false};
+    ghost use Rattle.refusal.specs.declared.tests.Closed.TheVariants.{Locked, Memory};
+
+    ghost is_memory = { elim [ Locked ↦ false | Memory ↦ true ] };
+}
+
+fn number_of<R: Refusal>(refusal: &R) -> u32
+    ensures { result ≡ (R.Labelled.label refusal.now).number }
+{
+    refusal.label().number()
+}
+
+#[test]
+fn numbers_and_names(rt: HostRuntime) {
+    assert_eq!(rt; number_of(&Closed::Locked), 1);
+    assert_eq!(rt; number_of(&Closed::Memory), 2);
+    assert_eq!(rt; Closed::Locked.label().name(), "Locked");
+    assert_eq!(rt; Closed::Memory.label().name(), "Memory");
+}
