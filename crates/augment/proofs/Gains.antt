@@ -14,7 +14,7 @@ use Rattle.round_arena.specs.declared.tables.Pairs.{Pairs}
 use Rattle.round_arena.specs.Plan.{IsAssigned, IsCounted, count_on}
 use Rattle.augment.specs.Tree.{HasRoom}
 use Rattle.augment.specs.Moves.{one_if_equal, GainsOne}
-use Rattle.augment.proofs.Totals.{total, served, total-cong, total-le, total-add, total-zeros, total-change, total-one_if_equal}
+use Rattle.augment.proofs.Totals.{total, served_up_to, total-cong, total-le, total-add, total-zeros, total-change, total-one_if_equal}
 use Rattle.augment.proofs.Flips.{one_if_equal-same, one_if_equal-other}
 
 -- the workers on the functions below n are not more than there are
@@ -25,8 +25,8 @@ total-count_on n (x ∷ xs) =
     total-cong n (count_on (x ∷ xs)) (λ f. one_if_equal x f + count_on xs f) (λ f l. sum_by-cons (λ g. cond (eqb g f) 1 0) x xs) in
     omega (arith, total-add n (one_if_equal x) (count_on xs), total-one_if_equal n x, total-count_on n xs)
 
-pub served-le : (functions : ℕ) (need owner : List ℕ) → served functions need owner ≤ length owner
-unfolding served
+pub served-le : (functions : ℕ) (need owner : List ℕ) → served_up_to functions need owner ≤ length owner
+unfolding served_up_to
 served-le functions need owner =
     let fewer : total functions (λ f. min (count_on owner f) (get_or need f 0)) ≤ total functions (count_on owner) =
     total-le functions (λ f. min (count_on owner f) (get_or need f 0)) (count_on owner) (λ f l. omega arith) in
@@ -65,9 +65,18 @@ module _ {functions root : ℕ} {need before after : List ℕ} where
         | inr ne ↦ omega (arith, g.counts f, one_if_equal-other root f (λ z. ne (sym z)))
       ]
 
+  -- one idle worker at most gets a function
+  pub GainsOne-hires : (g : GainsOne functions root need before after) → root < functions → count_on before functions ≤ count_on after functions + 1
+  GainsOne-hires g l =
+      let others : one_if_equal root functions ≡ 0 = one_if_equal-other root functions (λ q. omega (arith, q)) in
+      elim (cases_eq functions g.source) [
+        | inl q ↦ omega (arith, g.counts functions, others, one_if_equal-same g.source functions (sym q))
+        | inr ne ↦ omega (arith, g.counts functions, others, one_if_equal-other g.source functions (λ z. ne (sym z)))
+      ]
+
   -- one worker more counts towards the needs
-  pub served-gains : (g : GainsOne functions root need before after) → root < functions → count_on before root < get_or need root 0 → served functions need after ≡ served functions need before + 1
-  unfolding served
+  pub served-gains : (g : GainsOne functions root need before after) → root < functions → count_on before root < get_or need root 0 → served_up_to functions need after ≡ served_up_to functions need before + 1
+  unfolding served_up_to
   served-gains g l lack =
       let old : ℕ → ℕ = λ f. min (count_on before f) (get_or need f 0) in
       let new : ℕ → ℕ = λ f. min (count_on after f) (get_or need f 0) in
@@ -92,7 +101,11 @@ pub record IsServing (pairs : Pairs) (order need before owner count : List ℕ) 
   pub room : HasRoom (length need) tree
   pub kept : (f : ℕ) → f < length need → min (get_or need f 0) (count_on before f) ≤ count_on owner f
   pub capped : (f : ℕ) → f < length need → count_on owner f ≤ max (get_or need f 0) (count_on before f)
-  pub looks : looks_now ≤ looks_before + length pairs.workers.now * served (length need) need owner
+  pub looks : looks_now ≤ looks_before + length pairs.workers.now * served_up_to (length need) need owner
+  pub more : looks_before ≤ looks_now
+  -- looks pay for the workers gained for the needs, and for idle ones who got a function
+  pub paid : looks_before + served_up_to (length need) need owner ≤ looks_now + served_up_to (length need) need before
+  pub hired : looks_before + count_on before (length need) ≤ looks_now + count_on owner (length need)
   pub have : (k : ℕ) → k < done → get_or need (get_or order k 0) 0 ≤ count_on owner (get_or order k 0)
 
 -- each place of the order has a function
@@ -115,6 +128,9 @@ IsServing-start pairs order need owner count tree looks a c r = record {
   kept = λ f l. omega arith;
   capped = λ f l. omega arith;
   looks = omega arith;
+  more = omega arith;
+  paid = omega arith;
+  hired = omega arith;
   have = λ k l. absurd (omega arith);
 }
 
@@ -122,8 +138,8 @@ pub IsServing-gains : (pairs : Pairs) (order need before owner count after count
     → IsPermutation (range_with_len 0 (length need)) order → done ≤ length order
     → IsServing pairs order need before owner count tree looks_before looks_now done → root < length need → get_or count root 0 < get_or need root 0
     → GainsOne (length need) root need owner after → IsAssigned (length need) pairs.first.now pairs.workers.now after → IsCounted (length need) after count' → HasRoom (length need) tree'
-    → looks_then ≤ looks_now + length pairs.workers.now → IsServing pairs order need before after count' tree' looks_before looks_then done
-IsServing-gains pairs order need before owner count after count' tree tree' looks_before looks_now looks_then done root perm within s l lack g a c r spent =
+    → looks_now < looks_then → looks_then ≤ looks_now + length pairs.workers.now → IsServing pairs order need before after count' tree' looks_before looks_then done
+IsServing-gains pairs order need before owner count after count' tree tree' looks_before looks_now looks_then done root perm within s l lack g a c r looked spent =
     let lacking : count_on owner root < get_or need root 0 = omega (arith, s.counted.counts root (omega arith)) in
     record {
       size = g.size ∙ s.size;
@@ -133,8 +149,11 @@ IsServing-gains pairs order need before owner count after count' tree tree' look
       kept = λ f k. GainsOne-keeps g f (min (get_or need f 0) (count_on before f)) k (omega arith) (s.kept f k);
       capped = λ f k. GainsOne-caps g f (max (get_or need f 0) (count_on before f)) l lacking (omega arith) (s.capped f k);
       looks =
-          let more : length pairs.workers.now * served (length need) need after ≡ length pairs.workers.now * (served (length need) need owner + 1) = ap (λ n. length pairs.workers.now * n) (served-gains g l lacking) in
+          let more : length pairs.workers.now * served_up_to (length need) need after ≡ length pairs.workers.now * (served_up_to (length need) need owner + 1) = ap (λ n. length pairs.workers.now * n) (served-gains g l lacking) in
           omega (arith, more, s.looks);
+      more = omega (arith, s.more, looked);
+      paid = omega (arith, served-gains g l lacking, s.paid, looked);
+      hired = omega (arith, GainsOne-hires g l, s.hired, looked);
       have = λ k m. GainsOne-keeps g (get_or order k 0) (get_or need (get_or order k 0) 0) (order-below (length need) order perm k (omega arith)) (omega arith) (s.have k m);
     }
 
@@ -149,6 +168,9 @@ IsServing-next pairs order need before owner count tree looks_before looks_now d
   kept = s.kept;
   capped = s.capped;
   looks = s.looks;
+  more = s.more;
+  paid = s.paid;
+  hired = s.hired;
   have = λ k m. elim (cases_eq k done) [
     | inl q ↦ omega (arith, ap (λ z. get_or need (get_or order z 0) 0) q, ap (λ z. count_on owner (get_or order z 0)) q, s.counted.counts (get_or order done 0) (omega arith))
     | inr ne ↦ s.have k (omega (arith, ne))
@@ -166,6 +188,6 @@ IsServing-all pairs order need before owner count tree looks_before looks_now do
 pub looks-le : (pairs : Pairs) (order need before owner count : List ℕ) (tree : Tree) (looks_before looks_now done : ℕ)
     → IsServing pairs order need before owner count tree looks_before looks_now done → looks_now ≤ looks_before + length before * length pairs.workers.now
 looks-le pairs order need before owner count tree looks_before looks_now done s =
-    let few : length pairs.workers.now * served (length need) need owner ≤ length pairs.workers.now * length before =
+    let few : length pairs.workers.now * served_up_to (length need) need owner ≤ length pairs.workers.now * length before =
     mul-le-mul_left (length pairs.workers.now) (omega (arith, served-le (length need) need owner, s.size)) in
     omega (arith, few, s.looks)

@@ -1,7 +1,7 @@
 ghost use Rattle.std.specs.Prelude.{◌≡◌, ℕ, ◌+◌, ◌*◌, ◌^◌, ◌<◌, ◌≤◌, length, IfOk, OnErr};
 ghost use Rattle.augment.specs.Short.{marked};
 ghost use Rattle.round_arena.specs.Round.{IsSound, SamePairs};
-ghost use Rattle.augment.specs.Round.{IsServed, KeepsServed, IsCapped, IsWithinLooks};
+ghost use Rattle.augment.specs.Round.{IsServed, KeepsServed, IsCapped, IsWithinLooks, PaysForWorkers};
 
 use crate::search::Tree;
 use crate::serving::{Served, collect, serve_all};
@@ -16,7 +16,8 @@ use std::alloc::AllocError;
 /// No function falls below the smaller of its need and its number before, nor rises above the larger.
 ///
 /// For L workers and P permitted pairs it looks at most at L * P pairs where all is served, and at
-/// (L + 1) * P where a set is short; so many looks must fit into the tables' counter.
+/// (L + 1) * P where a set is short; so many looks must fit into the tables' counter. It looks at least once for each worker who
+/// is gained for a need, and for each idle worker who gets a function.
 ///
 /// The only error is that a growth of the arena was refused. All growths are made first, so then the
 /// tables are as before.
@@ -29,6 +30,7 @@ pub fn serve<'a>(tables: &mut Tables<'a>, need: &[u32]) -> Result<Served<'a>, Al
     ensures kept { KeepsServed need.now tables.old tables.new }
     ensures capped { IsCapped need.now tables.old tables.new }
     ensures looks { IfOk result (IsWithinLooks tables.old tables.new) }
+    ensures paid { PaysForWorkers need.now tables.old tables.new }
     ensures memory { OnErr result (tables.new ≡ tables.old) }
 {
     let functions = need.len();

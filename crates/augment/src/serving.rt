@@ -8,6 +8,7 @@ ghost use Rattle.augment.specs.Moves.{GainsOne, IsStuck};
 ghost use Rattle.round_arena.specs.Planning.{LacksWorkers};
 ghost use Rattle.round_arena.specs.Plan.{Represents};
 ghost use Rattle.augment.specs.Short.{marked};
+ghost use Rattle.augment.specs.Round.{served};
 
 use crate::search::{Tree, search};
 use round_arena::{FuncId, Pairs};
@@ -42,6 +43,8 @@ fn serve_one(
     ensures counted { IsCounted (length need.now) owner.new count.new }
     ensures room { HasRoom (length need.now) tree.new }
     ensures looks { looks.new ≤ looks.old + length pairs.now.workers.now }
+    ensures more { looks.old ≤ looks.new }
+    ensures looked { OnTrue result (looks.old < looks.new) }
     ensures gained { OnTrue result (GainsOne (length need.now) root need.now owner.old owner.new) }
     ensures same { OnFalse result (owner.new ≡ owner.old) }
     ensures stuck { OnFalse result (IsStuck pairs.now owner.new count.new need.now tree.new root) }
@@ -92,6 +95,11 @@ pub fn serve_all(
     ensures short { OnFalse result ((permits : ℕ → ℕ → Bool) (machines : List ℕ) → length machines ≡ length owner.old → Represents permits machines pairs.now.first.now pairs.now.workers.now (length need.now) → LacksWorkers permits machines (length need.now) (λ f. slice_index need.now f) (marked tree.new.place.now (length need.now))) }
     ensures looks_served { OnTrue result (looks.new ≤ looks.old + length owner.old * length pairs.now.workers.now) }
     ensures looks { looks.new ≤ looks.old + (length owner.old + 1) * length pairs.now.workers.now }
+
+    // Each worker who is gained for a need costs a look at least, and so does each idle worker who gets a function.
+    ensures more { looks.old ≤ looks.new }
+    ensures paid { looks.old + served need.now owner.new ≤ looks.new + served need.now owner.old }
+    ensures hired { looks.old + count_on owner.old (length need.now) ≤ looks.new + count_on owner.new (length need.now) }
 {
     for k in 0..order.len() {
         let f = order[k];

@@ -11,7 +11,7 @@ use Rattle.round_arena.specs.Plan.{Represents}
 use Rattle.round_arena.specs.Round.{IsSound, SamePairs, Holds}
 use Rattle.augment.specs.declared.serving.Served.{Served}
 use Rattle.augment.specs.declared.serving.Served.TheVariants.{All as Full, Short}
-use Rattle.augment.specs.Round.{IsServed, KeepsServed, IsWithinLooks}
+use Rattle.augment.specs.Round.{Hires, IsServed, KeepsServed, IsWithinLooks}
 use Rattle.level_search.specs.Levels.{AreNeeds, Fits, AreMet}
 use Rattle.level_search.specs.Found.{IsProbed, KeepsMet}
 
@@ -62,6 +62,7 @@ pub record IsBisecting (i : Instance) (before now : Tables) (low high round : �
   pub width : high - low < 2 ^ (33 - round)
   pub met : AreMet i now.owner.now high
   pub short : 0 < low → IsShort i (low - 1) set
+  pub hired : Hires (length i.least) before now
   pub looks : now.looks ≤ before.looks + length before.owner.now * length before.pairs.workers.now + round * ((length before.owner.now + 1) * length before.pairs.workers.now)
 
 half_width : (round : ℕ) → round < 33 → 2 ^ (33 - round) ≡ 2 ^ (33 - (round + 1)) + 2 ^ (33 - (round + 1))
@@ -100,9 +101,9 @@ looks-more i set before now then low high round served h w =
 
 -- the middle level was served
 pub IsBisecting-met : (i : Instance) (set : List ℕ) (before now then : Tables) (low high round middle : ℕ) → IsBisecting i before now low high round set → round < 33 → low < high → middle ≡ low + (high - low) / 2
-    → IsSound (length i.least) then → SamePairs now then → AreMet i then.owner.now middle → IsWithinLooks now then Full
+    → IsSound (length i.least) then → SamePairs now then → AreMet i then.owner.now middle → IsWithinLooks now then Full → Hires (length i.least) now then
     → IsBisecting i before then low middle (round + 1) set
-IsBisecting-met i set before now then low high round middle h r l m sound same met w =
+IsBisecting-met i set before now then low high round middle h r l m sound same met w more =
     let half : 2 ^ (33 - round) ≡ 2 ^ (33 - (round + 1)) + 2 ^ (33 - (round + 1)) = half_width round r in
     record {
       sound = sound;
@@ -112,14 +113,15 @@ IsBisecting-met i set before now then low high round middle h r l m sound same m
       width = omega (arith, h.width);
       met = met;
       short = λ p. h.short p;
+      hired = omega (arith, h.hired, more);
       looks = looks-more i set before now then low high round Full h w;
     }
 
 -- the middle level is short
 pub IsBisecting-short : (i : Instance) (set : List ℕ) (before now then : Tables) (low high round middle : ℕ) (found : Served) (more : List ℕ) → IsBisecting i before now low high round set → round < 33 → low < high → middle ≡ low + (high - low) / 2
-    → IsSound (length i.least) then → SamePairs now then → KeepsMet i middle now then → IsShort i middle more → IsWithinLooks now then found
+    → IsSound (length i.least) then → SamePairs now then → KeepsMet i middle now then → IsShort i middle more → IsWithinLooks now then found → Hires (length i.least) now then
     → IsBisecting i before then (middle + 1) high (round + 1) more
-IsBisecting-short i set before now then low high round middle found more h r l m sound same kept short w =
+IsBisecting-short i set before now then low high round middle found more h r l m sound same kept short w hired =
     let half : 2 ^ (33 - round) ≡ 2 ^ (33 - (round + 1)) + 2 ^ (33 - (round + 1)) = half_width round r in
     let back : middle + 1 - 1 ≡ middle = omega arith in
     record {
@@ -130,6 +132,7 @@ IsBisecting-short i set before now then low high round middle found more h r l m
       width = omega (arith, h.width);
       met = kept high (omega arith) h.met;
       short = λ _. subst (λ (n : ℕ). IsShort i n more) (sym back) short;
+      hired = omega (arith, h.hired, hired);
       looks = looks-more i set before now then low high round found h w;
     }
 
@@ -147,6 +150,7 @@ IsBisecting-idle i set before now low high round h r l =
       order = h.order;
       met = h.met;
       short = h.short;
+      hired = h.hired;
       width = omega (arith, h.width);
       looks = omega (arith, h.looks);
     }

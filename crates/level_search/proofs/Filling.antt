@@ -68,6 +68,7 @@ IsSound-moved {functions = functions} {u = u} t owner count s same_size a c ep e
     record {
       few = s.few;
       graph = graph;
+      last = subst (λ (p : Pairs). get_or p.first.now functions 0 ≡ length p.workers.now) (sym ep) s.last;
       assigned = assigned;
       counted = counted;
       staff = ap (λ m. length m.now) em ∙ s.staff ∙ sym size;

@@ -3,3 +3,4 @@ pub mod Levels
 pub mod Found
 pub mod Answered
 pub mod Steady
+pub mod Paid

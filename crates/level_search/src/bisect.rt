@@ -1,6 +1,6 @@
 ghost use Rattle.std.specs.Prelude.{◌≡◌, ℕ, ◌+◌, ◌*◌, ◌^◌, ◌<◌, ◌≤◌, length, IfOk, OnOk};
 ghost use Rattle.round_arena.specs.Round.{IsSound, SamePairs};
-ghost use Rattle.augment.specs.Round.{IsWithinLooks};
+ghost use Rattle.augment.specs.Round.{Hires, IsWithinLooks};
 ghost use Rattle.level_search.specs.Levels.{AreNeeds, Fits};
 ghost use Rattle.level_search.specs.Found.{IsProbed, KeepsMet, IsFound};
 
@@ -38,6 +38,7 @@ fn probe<'a>(tables: &mut Tables<'a>, input: &Input, level: u64) -> Result<Serve
     ensures probed { IfOk result (IsProbed input.now level tables.new) }
     ensures kept { KeepsMet input.now level tables.old tables.new }
     ensures looks { IfOk result (IsWithinLooks tables.old tables.new) }
+    ensures hired { Hires (length input.now.least) tables.old tables.new }
 {
     let needs = tables
         .bump
@@ -57,6 +58,7 @@ pub fn solve_levels<'a>(tables: &mut Tables<'a>, input: &Input) -> Result<Found<
     ensures same { SamePairs tables.old tables.new }
     ensures found { IfOk result (IsFound input.now tables.new) }
     ensures looks { OnOk result (tables.new.looks + length tables.old.pairs.workers.now ≤ tables.old.looks + 34 * ((length tables.old.owner.now + 1) * length tables.old.pairs.workers.now)) }
+    ensures hired { OnOk result (Hires (length input.now.least) tables.old tables.new) }
 {
     if let Served::Short(set) = probe(tables, input, TOP_LEVEL)? {
         return Ok(Found::Nothing(set));

@@ -1,4 +1,4 @@
-ghost use Rattle.std.specs.Prelude.{◌≡◌, ℕ, [], ◌+◌, ◌*◌, ◌^◌, ◌<◌, ◌≤◌, length, map, IfOk, IfSome, IsTrue};
+ghost use Rattle.std.specs.Prelude.{◌≡◌, ℕ, [], ◌+◌, ◌*◌, ◌^◌, ◌<◌, ◌≤◌, length, map, IfOk, IfSome, IfNone, IsTrue};
 ghost use Rattle.std.specs.List.Sorted.{IsStrictlyIncreasing};
 ghost use Rattle.plan_model.specs.Planning.{assigned, is_full};
 ghost use Rattle.plan_model.specs.Shown.{Shown};
@@ -8,6 +8,7 @@ ghost use Rattle.level_search.specs.Levels.{Fits};
 ghost use Rattle.level_search.specs.Found.{IsFound, Serves};
 ghost use Rattle.level_search.specs.Answered.{Starts, evidence};
 ghost use Rattle.level_search.specs.Steady.{HasPlan, IsSteady};
+ghost use Rattle.level_search.specs.Paid.{Fills, PaysForPlan};
 
 use crate::bisect::{Found, solve_levels};
 use crate::fill::fill_idle;
@@ -70,6 +71,7 @@ fn start<'a>(
 ) -> Result<Tables<'a>, AllocError>
     ensures starts { IfOk result (Starts input.now) }
     ensures kept { IfOk result (λ t. IfSome previous.entry (λ plan. plan_of t ≡ cut_plan input.now plan.now)) }
+    ensures idle { IfOk result (λ t. IfNone previous.entry (plan_of t ≡ cut_plan input.now [])) }
 {
     match previous {
         Some(plan) => build(bump, input, plan),
@@ -93,7 +95,7 @@ fn answer<'a>(
 
     // Where nobody is idle for nothing, the answer's plan is the tables'.
     ensures kept { IfOk result (λ answer. Serves input.now tables.old.owner.now found.entry → IsTrue (is_full input.now (assigned (plan_of tables.old))) → HasPlan (plan_of tables.old) answer) }
-    ensures looks { tables.new.looks ≤ tables.old.looks + length tables.old.pairs.workers.now }
+    ensures looks { IfOk result (Fills found.entry (length tables.old.pairs.workers.now) tables.old.looks tables.new.looks) }
 {
     let _live = input.live();
     match found {
@@ -124,6 +126,9 @@ fn answer<'a>(
 /// The search starts from the `previous` plan, cut to live workers and permitted functions, and
 /// answers it where it is best and leaves nobody idle who may do something.
 ///
+/// With a plan, each permitted pair was looked at once more when idle workers were given something to do, and there was a look at
+/// least for each worker whom the needs at its backlog ask for beyond those who had a function by the previous plan.
+///
 /// All tables lie in `bump`; the answer is copied out of it, so the arena may be reset afterwards. The
 /// only error is that memory was refused, by `alloc` or by the arena's own allocator.
 pub fn solve(
@@ -134,6 +139,8 @@ pub fn solve(
 ) -> Result<Solved, AllocError>
     ensures shown { IfOk result (λ solved. Shown input.now solved.answer) }
     ensures looks { IfOk result (λ solved. solved.looks ≤ 34 * ((length input.now.live + 1) * pair_count input.now)) }
+    ensures paid { IfOk result (λ solved. IfSome previous.entry (λ plan. PaysForPlan input.now plan.now solved.answer solved.looks)) }
+    ensures paid_anew { IfOk result (λ solved. IfNone previous.entry (PaysForPlan input.now [] solved.answer solved.looks)) }
     ensures steady { IfOk result (λ solved. IfSome previous.entry (λ plan. IsSteady input.now plan.now solved.answer)) }
 {
     let mut tables = start(alloc, bump, input, previous)?;

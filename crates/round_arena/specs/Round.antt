@@ -9,6 +9,7 @@ use Rattle.round_arena.specs.Plan.{IsGraph, IsAssigned, IsCounted, Represents}
 pub record IsSound (functions : ℕ) (t : Tables) : Type 0 where
   pub few : functions < 2 ^ 32
   pub graph : IsGraph functions (length t.owner.now) t.pairs.first.now t.pairs.workers.now
+  pub last : slice_index t.pairs.first.now functions ≡ length t.pairs.workers.now
   pub assigned : IsAssigned functions t.pairs.first.now t.pairs.workers.now t.owner.now
   pub counted : IsCounted functions t.owner.now t.count.now
   pub staff : length t.machine.now ≡ length t.owner.now

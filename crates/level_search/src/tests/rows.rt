@@ -131,3 +131,38 @@ fn previous_plan_stays(rt: HostRuntime) -> Result<(), Fail> {
     assert_eq!(rt; line.as_str(), "1 backlog 5");
     Ok(())
 }
+
+/// How many looks a first round takes.
+fn looks_of(
+    alloc: Global,
+    live: &[(u32, u32)],
+    may: &[&[u32]],
+    least: &[u32],
+    waiting: &[u32],
+) -> Result<Option<u64>, AllocError> {
+    let Some(input) = input_of(alloc, live, may, least, waiting)? else {
+        return Ok(None);
+    };
+    let bump = Bump::new(alloc);
+    let solved = solve(alloc, &bump, &input, None)?;
+    Ok(Some(solved.looks))
+}
+
+#[test]
+fn looks_by_hand(rt: HostRuntime) -> Result<(), Fail> {
+    let alloc = rt.alloc();
+
+    // One worker for one function: one look finds him, one more is stuck at level 0, and one is for the filling.
+    let looks = looks_of(alloc, &[(0, 0)], &[&[0]], &[0], &[1])?;
+    assert_eq!(rt; looks, Some(3));
+
+    // Each function finds its worker at the first look, and levels 3 and 5 are stuck after three looks each.
+    let looks = looks_of(alloc, &[(0, 0), (1, 1)], &[&[0], &[0, 1]], &[0, 0], &[6, 2])?;
+    assert_eq!(rt; looks, Some(11));
+
+    // One look and two at the first level, three more at level 7, and six at each of the levels 3 and 4, which are stuck.
+    let three = [(0, 0), (1, 0), (2, 0)];
+    let looks = looks_of(alloc, &three, &[&[0, 1]], &[0, 0], &[10, 4])?;
+    assert_eq!(rt; looks, Some(24));
+    Ok(())
+}

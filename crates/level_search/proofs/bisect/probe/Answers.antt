@@ -1,3 +1,5 @@
+use Rattle.std.proofs.Common.{ℕ, subst}
+use Rattle.augment.specs.Round.{Hires}
 use Rattle.level_search.proofs.Bisecting.{AreMet-kept, Fits-same, IsProbed-served}
 use Rattle.level_search.proofs.bisect.probe.Goals as goal
 
@@ -9,3 +11,7 @@ returns-clause-probed c =
 pub returns-clause-kept : goal.returns-clause-kept
 returns-clause-kept c higher l met =
     AreMet-kept c.args.input.now c.fill_needs.new.needs c.args.level higher c.args.tables.now c.serve.new.tables c.fill_needs.ensures c.serve.ensures.kept l met
+
+pub returns-clause-hired : goal.returns-clause-hired
+returns-clause-hired c =
+    subst (λ (n : ℕ). Hires n c.args.tables.now c.serve.new.tables) c.fill_needs.ensures.size c.serve.ensures.paid.2
