@@ -1,5 +1,5 @@
 -- What a slot and a standing say.
-use Rattle.std.specs.Prelude.{ℕ, Option, None, Some, Bool, true, false}
+use Rattle.std.specs.Prelude.{ℕ, ◌==◌, Option, None, Some, Bool, true, false}
 use Rattle.worker_state.specs.declared.slot.Slot.{Slot}
 use Rattle.worker_state.specs.declared.slot.Slot.TheVariants.{Empty, Live}
 use Rattle.worker_state.specs.declared.job.Standing.{Standing}
@@ -9,24 +9,36 @@ abbrev pub is_live : Slot → Bool
 is_live (Empty last) = false
 is_live (Live generation runs ticket) = true
 
--- the generation of the live worker
-abbrev pub generation_of : Slot → Option ℕ
-generation_of (Empty last) = None
-generation_of (Live generation runs ticket) = Some generation
+-- the worker of that generation is in the slot
+abbrev pub has_generation : Slot → ℕ → Bool
+has_generation (Empty last) generation = false
+has_generation (Live own runs ticket) generation = own == generation
 
 -- the generation of the last worker, live or not; 0 where there was none
 abbrev pub last_generation : Slot → ℕ
 last_generation (Empty last) = last
 last_generation (Live generation runs ticket) = generation
 
-abbrev pub runs_of : Slot → ℕ
-runs_of (Empty last) = 0
-runs_of (Live generation runs ticket) = runs
+abbrev pub run_count : Slot → ℕ
+run_count (Empty last) = 0
+run_count (Live generation runs ticket) = runs
 
 -- the open ticket
-abbrev pub ticket_of : Slot → Option ℕ
-ticket_of (Empty last) = None
-ticket_of (Live generation runs ticket) = ticket
+abbrev pub held_ticket : Slot → Option ℕ
+held_ticket (Empty last) = None
+held_ticket (Live generation runs ticket) = ticket
+
+abbrev pub is_running : Standing → Bool
+is_running Running = true
+is_running Reporting = false
+is_running (Reported end) = false
+is_running (Lost worker cause) = false
+
+abbrev pub is_reporting : Standing → Bool
+is_reporting Running = false
+is_reporting Reporting = true
+is_reporting (Reported end) = false
+is_reporting (Lost worker cause) = false
 
 -- a job that is neither reported nor lost
 abbrev pub is_open : Standing → Bool

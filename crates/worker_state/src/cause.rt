@@ -1,5 +1,7 @@
 ghost use Rattle.std.specs.Prelude.{◌≡◌};
-ghost use Rattle.worker_state.specs.Causes.{cause_number, cause_name};
+ghost use Rattle.worker_state.specs.Causes.{cause_named};
+
+use refusal::{Label, Labelled};
 
 /// Why a worker was lost.
 #[derive(Clone, Copy, Debug, PartialEq, Eq)]
@@ -26,40 +28,49 @@ pub enum Cause {
     Late,
 }
 
-impl Cause {
-    /// The number of the cause. 1 and 2 are ends of a session that lose no worker.
-    pub fn number(self) -> u8
-        ensures { result ≡ cause_number self }
-    {
-        match self {
-            Cause::BadPacket => 3,
-            Cause::ServerError => 4,
-            Cause::ReadFault => 5,
-            Cause::WriteFault => 6,
-            Cause::TurnsUsed => 7,
-            Cause::Memory => 8,
-            Cause::HistoryFull => 9,
-            Cause::Closed => 10,
-            Cause::Stopped => 11,
-            Cause::Late => 12,
-        }
-    }
+const CAUSES: [Cause; 10] = [
+    Cause::BadPacket,
+    Cause::ServerError,
+    Cause::ReadFault,
+    Cause::WriteFault,
+    Cause::TurnsUsed,
+    Cause::Memory,
+    Cause::HistoryFull,
+    Cause::Closed,
+    Cause::Stopped,
+    Cause::Late,
+];
 
-    /// The name of the cause, as texts spell it.
-    pub fn name(self) -> &'static str
-        ensures { result.now ≡ cause_name self }
+impl Cause {
+    /// The cause of that name, if there is one.
+    pub fn named(name: &[u8]) -> Option<Cause>
+        ensures { result ≡ cause_named name.now }
     {
+        CAUSES
+            .iter()
+            .find(|cause| cause.label().name().as_bytes() == name)
+            .copied()
+    }
+}
+
+/// The number and the name of a cause, as texts give them. 1 and 2 are ends of a session that lose no worker.
+impl Labelled for Cause {
+    ghost use Rattle.worker_state.specs.Causes.{cause_label};
+
+    ghost label = { cause_label };
+
+    fn label(&self) -> Label {
         match self {
-            Cause::BadPacket => "BadPacket",
-            Cause::ServerError => "ServerError",
-            Cause::ReadFault => "ReadFault",
-            Cause::WriteFault => "WriteFault",
-            Cause::TurnsUsed => "TurnsUsed",
-            Cause::Memory => "Memory",
-            Cause::HistoryFull => "HistoryFull",
-            Cause::Closed => "Closed",
-            Cause::Stopped => "Stopped",
-            Cause::Late => "Late",
+            Cause::BadPacket => Label::new(3, "BadPacket"),
+            Cause::ServerError => Label::new(4, "ServerError"),
+            Cause::ReadFault => Label::new(5, "ReadFault"),
+            Cause::WriteFault => Label::new(6, "WriteFault"),
+            Cause::TurnsUsed => Label::new(7, "TurnsUsed"),
+            Cause::Memory => Label::new(8, "Memory"),
+            Cause::HistoryFull => Label::new(9, "HistoryFull"),
+            Cause::Closed => Label::new(10, "Closed"),
+            Cause::Stopped => Label::new(11, "Stopped"),
+            Cause::Late => Label::new(12, "Late"),
         }
     }
 }

@@ -1,4 +1,5 @@
 ghost use Rattle.std.specs.Prelude.{◌≡◌};
+ghost use Rattle.worker_state.specs.Slots as spec;
 
 use crate::cause::Cause;
 use crate::slot::WorkerName;
@@ -55,4 +56,38 @@ pub enum Standing {
     Reported(EndKind),
     /// Its worker was lost with it, for this cause.
     Lost(WorkerName, Cause),
+}
+
+impl Standing {
+    /// Whether a worker has the job and has not begun to write its answer.
+    pub fn is_running(&self) -> bool
+        ensures { result ≡ spec.is_running self.now }
+    {
+        match self {
+            Standing::Running => true,
+            _ => false,
+        }
+    }
+
+    /// Whether its worker has begun to write the answer, and not ended.
+    pub fn is_reporting(&self) -> bool
+        ensures { result ≡ spec.is_reporting self.now }
+    {
+        match self {
+            Standing::Reporting => true,
+            _ => false,
+        }
+    }
+
+    /// How many events are still to come of the job before its worker's last one.
+    pub fn closing_events(&self) -> u32
+        ensures { result ≡ spec.closing_events self.now }
+    {
+        match self {
+            Standing::Running => 2,
+            Standing::Reporting => 1,
+            Standing::Reported(_) => 0,
+            Standing::Lost(_, _) => 0,
+        }
+    }
 }
