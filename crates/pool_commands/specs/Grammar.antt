@@ -7,6 +7,7 @@ use Rattle.pool_settings.specs.Profile.{Profile}
 use Rattle.pool_settings.specs.Slots.{slot_named}
 use Rattle.pool_commands.specs.declared.command.Command.{Command}
 use Rattle.pool_commands.specs.declared.command.Command.TheVariants as command
+use Rattle.worker_state.specs.Causes.{cause_named}
 use Rattle.pool_commands.specs.Words as word
 
 -- ---- the forms, by the words behind the first
@@ -55,7 +56,7 @@ report_in p _ = None
 
 abbrev pub lose_in : Profile → List (List ℕ) → Option Command
 lose_in p (worker ∷ cause ∷ []) =
-    option_and_then (λ w. option_map (λ c. command.Lose w c) (word.cause_in cause)) (word.worker_in p worker)
+    option_and_then (λ w. option_map (λ c. command.Lose w c) (cause_named cause)) (word.worker_in p worker)
 lose_in p _ = None
 
 abbrev pub expire_in : Profile → List (List ℕ) → Option Command

@@ -3,10 +3,10 @@ use Rattle.std.specs.Prelude.{◌≡◌, ℕ, ◌<◌, ◌≤◌, List, ◌∷�
 use Rattle.std.specs.Fmt.{decimal}
 use Rattle.pool_settings.specs.Profile.{IsProfile, Profile}
 use Rattle.pool_settings.specs.Slots.{slots, worker_name}
-use Rattle.worker_state.specs.Causes.{cause_name}
+use Rattle.worker_state.specs.Causes.{cause_label, cause_named}
 use Rattle.worker_state.specs.Limits.{max_generation}
 use Rattle.worker_state.specs.declared.cause.Cause.{Cause}
-use Rattle.pool_commands.specs.Words.{cause_in, worker_in}
+use Rattle.pool_commands.specs.Words.{worker_in}
 
 -- the name of the slot, a hash sign and the generation in decimal
 abbrev pub worker_text : Profile → ℕ → ℕ → List ℕ
@@ -17,4 +17,4 @@ AreWorkersReadBack = (p : Profile) → IsProfile p → (slot generation : ℕ) �
     → worker_in p (worker_text p slot generation) ≡ Some (record { slot = slot; generation = generation })
 
 abbrev pub AreCausesReadBack : Type 0
-AreCausesReadBack = (cause : Cause) → cause_in (cause_name cause) ≡ Some cause
+AreCausesReadBack = (cause : Cause) → cause_named (cause_label cause).name ≡ Some cause

@@ -1,5 +1,5 @@
 -- The words of a command line, and what a single word says.
-use Rattle.std.specs.Prelude.{ℕ, ◌==◌, List, [], ◌∷◌, length, Bool, ◌&&◌, nat_le, nat_lt, is_none, find, position, take, drop, ◌+◌, Option, Some, None, option_map, if◌then◌else◌, codes}
+use Rattle.std.specs.Prelude.{ℕ, ◌==◌, List, [], length, Bool, ◌&&◌, nat_le, nat_lt, is_none, position, take, drop, ◌+◌, Option, Some, None, option_map, if◌then◌else◌, codes}
 use Rattle.std.specs.List.{slice_split}
 use Rattle.std.specs.Option.{option_and_then, option_map_or}
 use Rattle.std.specs.Str.{all_ascii_digits, bytes_eq}
@@ -7,10 +7,7 @@ use Rattle.std.specs.Str.Parse.{digits_value}
 use Rattle.gear_packets.specs.Refusal.{handle_refusal}
 use Rattle.pool_settings.specs.Profile.{Profile}
 use Rattle.pool_settings.specs.Slots.{slot_named}
-use Rattle.worker_state.specs.Causes.{cause_name}
 use Rattle.worker_state.specs.Limits.{max_generation}
-use Rattle.worker_state.specs.declared.cause.Cause.{Cause}
-use Rattle.worker_state.specs.declared.cause.Cause.TheVariants.{BadPacket, ServerError, ReadFault, WriteFault, TurnsUsed, Memory, HistoryFull, Closed, Stopped, Late}
 use Rattle.worker_state.specs.declared.job.EndKind.{EndKind}
 use Rattle.worker_state.specs.declared.job.EndKind.TheVariants.{Complete, Fail}
 use Rattle.worker_state.specs.declared.slot.WorkerName.{WorkerName}
@@ -64,7 +61,7 @@ worker_of p parts =
 abbrev pub worker_in : Profile → List ℕ → Option WorkerName
 worker_in p text = option_and_then (worker_of p) (cut_at 35 text)
 
--- ---- handles, ends and causes
+-- ---- handles and ends
 
 abbrev pub handle_in : List ℕ → Option (List ℕ)
 handle_in text = if is_none (handle_refusal text) then Some text else None
@@ -73,10 +70,3 @@ abbrev pub end_in : List ℕ → Option EndKind
 end_in text =
     if bytes_eq text (codes "complete") then Some Complete
     else (if bytes_eq text (codes "fail") then Some Fail else None)
-
-abbrev pub causes : List Cause
-causes = BadPacket ∷ ServerError ∷ ReadFault ∷ WriteFault ∷ TurnsUsed ∷ Memory ∷ HistoryFull ∷ Closed ∷ Stopped ∷ Late ∷ []
-
--- the cause of that name
-abbrev pub cause_in : List ℕ → Option Cause
-cause_in text = find (λ cause. bytes_eq (cause_name cause) text) causes

@@ -6,9 +6,10 @@ ghost use Rattle.pool_commands.specs.Grammar.{IsWithin};
 ghost use Rattle.pool_settings.specs.Slots.{slots};
 
 use crate::command::{Command, Word};
-use crate::word::{cause_in, end_in, handle_in, number_in, ticket_in, worker_in};
+use crate::word::{end_in, handle_in, number_in, ticket_in, worker_in};
 use pool_settings::Settings;
 use std::alloc::{AllocError, Global};
+use worker_state::Cause;
 
 /// A command of one word.
 fn alone(command: Command, args: &[&[u8]]) -> Option<Command>
@@ -129,7 +130,7 @@ fn lose_in(settings: &Settings, args: &[&[u8]]) -> Option<Command>
     match args {
         [worker, cause] => {
             let worker = worker_in(settings, worker)?;
-            let cause = cause_in(cause)?;
+            let cause = Cause::named(cause)?;
             Some(Command::Lose { worker, cause })
         }
         _ => None,

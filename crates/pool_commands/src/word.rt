@@ -6,20 +6,7 @@ ghost use Rattle.pool_settings.specs.Slots.{slots};
 
 use gear_packets::Handle;
 use pool_settings::Settings;
-use worker_state::{Cause, EndKind, MAX_GENERATION, Ticket, WorkerName};
-
-const CAUSES: [Cause; 10] = [
-    Cause::BadPacket,
-    Cause::ServerError,
-    Cause::ReadFault,
-    Cause::WriteFault,
-    Cause::TurnsUsed,
-    Cause::Memory,
-    Cause::HistoryFull,
-    Cause::Closed,
-    Cause::Stopped,
-    Cause::Late,
-];
+use worker_state::{EndKind, MAX_GENERATION, Ticket, WorkerName};
 
 /// The number that one or more decimal digits write, zeros before it allowed.
 pub fn number_in(digits: &[u8]) -> Option<u64>
@@ -104,13 +91,4 @@ pub fn end_in(text: &[u8]) -> Option<EndKind>
     } else {
         None
     }
-}
-
-pub fn cause_in(text: &[u8]) -> Option<Cause>
-    ensures { result ≡ spec.cause_in text.now }
-{
-    CAUSES
-        .iter()
-        .find(|cause| cause.name().as_bytes() == text)
-        .copied()
 }

@@ -50,7 +50,7 @@ numbers_from_0 (f ∷ fs) = (omega arith, numbers_from_0 fs)
 
 -- ---- functions of a plan
 
-abbrev Below : ℕ → Option ℕ → Type 0
+abbrev pub Below : ℕ → Option ℕ → Type 0
 Below n None = Unit {0}
 Below n (Some f) = f < n
 

@@ -8,3 +8,4 @@ pub mod Drafts
 pub mod Answered
 pub mod Refusal
 pub mod Law
+pub mod Grammar

@@ -1,19 +1,18 @@
 -- What a fault line says of a report that is not taken.
-use Rattle.std.specs.Prelude.{ℕ, List, Option, Some, None, codes}
+use Rattle.std.specs.Prelude.{ℕ, Bool, true, false, Option, Some, None, codes}
+use Rattle.refusal.specs.Label.{Label, label}
 use Rattle.pool_report.specs.declared.error.ReadError.{ReadError}
 use Rattle.pool_report.specs.declared.error.ReadError.TheVariants as fault
 
-abbrev pub number_of : ReadError → ℕ
-number_of (fault.BadLine n) = 1
-number_of (fault.UnknownName n) = 2
-number_of fault.Truncated = 3
-number_of fault.Memory = 4
+abbrev pub read_label : ReadError → Label
+read_label (fault.BadLine n) = label 1 (codes "BadLine")
+read_label (fault.UnknownName n) = label 2 (codes "UnknownName")
+read_label fault.Truncated = label 3 (codes "Truncated")
+read_label fault.Memory = label 4 (codes "Memory")
 
-abbrev pub name_of : ReadError → List ℕ
-name_of (fault.BadLine n) = codes "BadLine"
-name_of (fault.UnknownName n) = codes "UnknownName"
-name_of fault.Truncated = codes "Truncated"
-name_of fault.Memory = codes "Memory"
+abbrev pub is_read_memory : ReadError → Bool
+is_read_memory fault.Memory = true
+is_read_memory _ = false
 
 -- the line that is refused, where it is one line
 abbrev pub line_of : ReadError → Option ℕ

@@ -3,6 +3,7 @@
 ghost use Rattle.std.specs.Prelude.{◌≡◌};
 ghost use Rattle.pool_report.specs.Refusal as spec;
 
+use refusal::{Label, Labelled, Refusal};
 use thiserror::Error;
 
 /// Why a report is not taken. Lines are counted from 1, each with the line feed that ends it, and the first
@@ -25,31 +26,29 @@ pub enum ReadError {
     Memory,
 }
 
+/// The number of a refusal is its place in the list of variants, from 1 to 4.
+impl Labelled for ReadError {
+    ghost use Rattle.pool_report.specs.Refusal.{read_label};
+
+    ghost label = { read_label };
+
+    fn label(&self) -> Label {
+        match self {
+            ReadError::BadLine(_) => Label::new(1, "BadLine"),
+            ReadError::UnknownName(_) => Label::new(2, "UnknownName"),
+            ReadError::Truncated => Label::new(3, "Truncated"),
+            ReadError::Memory => Label::new(4, "Memory"),
+        }
+    }
+}
+
+impl Refusal for ReadError {
+    ghost use Rattle.pool_report.specs.Refusal.{is_read_memory};
+
+    ghost is_memory = { is_read_memory };
+}
+
 impl ReadError {
-    /// The number of this refusal, from 1 to 4 in the order above, as fault lines give it.
-    pub fn number(self) -> u32
-        ensures { result ≡ spec.number_of self }
-    {
-        match self {
-            ReadError::BadLine(_) => 1,
-            ReadError::UnknownName(_) => 2,
-            ReadError::Truncated => 3,
-            ReadError::Memory => 4,
-        }
-    }
-
-    /// The name of this refusal, as fault lines give it: that of its variant.
-    pub fn name(self) -> &'static str
-        ensures { result.now ≡ spec.name_of self }
-    {
-        match self {
-            ReadError::BadLine(_) => "BadLine",
-            ReadError::UnknownName(_) => "UnknownName",
-            ReadError::Truncated => "Truncated",
-            ReadError::Memory => "Memory",
-        }
-    }
-
     /// The line that is refused, counted from 1, where it is one line.
     pub fn line(self) -> Option<u64>
         ensures { result ≡ spec.line_of self }

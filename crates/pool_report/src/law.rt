@@ -1,6 +1,7 @@
 ghost use Rattle.std.specs.Prelude.{◌≡◌, Ok};
 ghost use Rattle.plan_model.specs.Shown.{Shown};
 ghost use Rattle.pool_report.specs.Answered.{report_text};
+ghost use Rattle.pool_report.specs.Grammar.{AreTextsReports};
 ghost use Rattle.pool_report.specs.Law.{AreLinesRead, AreLinesSpelled, AreNamesFound, IsOf, IsTheOnlyOne, retold};
 ghost use Rattle.pool_report.specs.Reading.{meaning};
 
@@ -23,6 +24,14 @@ pub fn lines_are_spelled()
 /// report writes it, name this function and this worker's slot.
 pub fn names_read_back(settings: &Settings)
     ensures { AreNamesFound settings.now }
+{
+    let _functions = settings.functions();
+}
+
+/// The law of the whole text, which does nothing that is seen: a text means an answer exactly where it is a report that tells it,
+/// line by line, by the names of the settings and in rising order.
+pub fn texts_are_reports(settings: &Settings)
+    ensures { AreTextsReports settings.now }
 {
     let _functions = settings.functions();
 }

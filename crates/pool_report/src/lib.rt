@@ -42,6 +42,8 @@ mod stage;
 mod tests;
 
 pub use error::{ReadError, WriteError};
-pub use law::{lines_are_spelled, lines_read_back, names_read_back, report_reads_back};
+pub use law::{
+    lines_are_spelled, lines_read_back, names_read_back, report_reads_back, texts_are_reports,
+};
 pub use reader::read;
 pub use report::{report_text, write};

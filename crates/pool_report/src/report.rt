@@ -6,7 +6,7 @@ ghost use Rattle.plan_model.specs.Planning.{assigned, is_stranded};
 ghost use Rattle.plan_model.specs.Shown.{IsEvidence, Shown};
 ghost use Rattle.pool_report.specs.Answered as spec;
 ghost use Rattle.pool_report.specs.Kept.{needed_view, stranded_view, worker_view};
-ghost use Rattle.pool_report.specs.Outcome.{StopsWithin, Wrote, failures_told};
+ghost use Rattle.pool_report.specs.Outcome.{Wrote};
 ghost use Rattle.pool_report.specs.Report.{needed_line, short_if, short_lines, stranded_line, told_lines, worker_line};
 ghost use Rattle.pool_settings.specs.Names.{name_at};
 
@@ -213,10 +213,8 @@ pub fn write<S: Sink>(
 ) -> Result<(), WriteError>
     requires of_these { input.now.may ≡ settings.now.may }
     requires shown { Shown input.now answer.now }
-    requires count { S.failures sink.old < 2 ^ 64 - 1 }
-    ensures written { Wrote (S.got sink.old) (spec.report_text settings.now input.now answer.now) (S.got sink.new) result }
-    ensures within { StopsWithin (spec.report_text settings.now input.now answer.now) result }
-    ensures failures { S.failures sink.new ≡ S.failures sink.old + failures_told result }
+    requires count { (S.output sink.old).failures < 2 ^ 64 - 1 }
+    ensures written { Wrote (S.output sink.old) (spec.report_text settings.now input.now answer.now) (S.output sink.new) result }
 {
     let text = match report_text(alloc, settings, input, answer) {
         Ok(text) => text,

@@ -10,3 +10,4 @@ pub mod Cuts
 pub mod Risen
 pub mod Planned
 pub mod WorkerNames
+pub mod OneToOne

@@ -8,3 +8,4 @@ pub mod Reading
 pub mod Entries
 pub mod Refusal
 pub mod Kept
+pub mod Law

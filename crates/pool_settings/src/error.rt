@@ -1,8 +1,8 @@
 // Why a settings file is not taken.
 
 ghost use Rattle.std.specs.Prelude.{◌≡◌};
-ghost use Rattle.pool_settings.specs.Refusal as spec;
 
+use refusal::{Label, Labelled, Refusal};
 use std::alloc::AllocError;
 use thiserror::Error;
 
@@ -38,40 +38,31 @@ pub enum SettingsError {
     Memory,
 }
 
-impl SettingsError {
-    /// The number of this refusal, from 1 to 9 in the order above, as fault lines give it.
-    pub fn number(self) -> u32
-        ensures number { result ≡ spec.number_of self }
-    {
-        match self {
-            SettingsError::Text => 1,
-            SettingsError::Version => 2,
-            SettingsError::UnknownKey => 3,
-            SettingsError::MissingKey => 4,
-            SettingsError::BadName => 5,
-            SettingsError::BadValue => 6,
-            SettingsError::UnknownFunction => 7,
-            SettingsError::TooMany => 8,
-            SettingsError::Memory => 9,
-        }
-    }
+/// The number of a refusal is its place in the order in which it is looked for, from 1 to 9.
+impl Labelled for SettingsError {
+    ghost use Rattle.pool_settings.specs.Refusal.{settings_label};
 
-    /// The name of this refusal, as fault lines give it: that of its variant.
-    pub fn name(self) -> &'static str
-        ensures name { result.now ≡ spec.name_of self }
-    {
+    ghost label = { settings_label };
+
+    fn label(&self) -> Label {
         match self {
-            SettingsError::Text => "Text",
-            SettingsError::Version => "Version",
-            SettingsError::UnknownKey => "UnknownKey",
-            SettingsError::MissingKey => "MissingKey",
-            SettingsError::BadName => "BadName",
-            SettingsError::BadValue => "BadValue",
-            SettingsError::UnknownFunction => "UnknownFunction",
-            SettingsError::TooMany => "TooMany",
-            SettingsError::Memory => "Memory",
+            SettingsError::Text => Label::new(1, "Text"),
+            SettingsError::Version => Label::new(2, "Version"),
+            SettingsError::UnknownKey => Label::new(3, "UnknownKey"),
+            SettingsError::MissingKey => Label::new(4, "MissingKey"),
+            SettingsError::BadName => Label::new(5, "BadName"),
+            SettingsError::BadValue => Label::new(6, "BadValue"),
+            SettingsError::UnknownFunction => Label::new(7, "UnknownFunction"),
+            SettingsError::TooMany => Label::new(8, "TooMany"),
+            SettingsError::Memory => Label::new(9, "Memory"),
         }
     }
+}
+
+impl Refusal for SettingsError {
+    ghost use Rattle.pool_settings.specs.Refusal.{is_settings_memory};
+
+    ghost is_memory = { is_settings_memory };
 }
 
 impl From<AllocError> for SettingsError {

@@ -5,6 +5,7 @@ mod build;
 mod checks;
 mod error;
 mod keys;
+mod law;
 mod limits;
 mod names;
 mod planning;
@@ -14,6 +15,7 @@ mod tree;
 mod worker_name;
 
 pub use error::SettingsError;
+pub use law::names_are_one_to_one;
 pub use settings::Settings;
 
 #[cfg(test)]

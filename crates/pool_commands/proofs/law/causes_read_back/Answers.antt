@@ -1,11 +1,10 @@
 use Rattle.std.proofs.Common.{◌≡◌, Some, refl}
-use Rattle.worker_state.specs.Causes.{cause_name}
+use Rattle.worker_state.specs.Causes.{cause_label, cause_named}
 use Rattle.worker_state.specs.declared.cause.Cause.{Cause}
 use Rattle.worker_state.specs.declared.cause.Cause.TheVariants.{BadPacket, ServerError, ReadFault, WriteFault, TurnsUsed, Memory, HistoryFull, Closed, Stopped, Late}
-use Rattle.pool_commands.specs.Words.{cause_in}
 use Rattle.pool_commands.proofs.law.causes_read_back.Goals as goal
 
-read_back : (cause : Cause) → cause_in (cause_name cause) ≡ Some cause
+read_back : (cause : Cause) → cause_named (cause_label cause).name ≡ Some cause
 read_back BadPacket = refl
 read_back ServerError = refl
 read_back ReadFault = refl
