@@ -13,7 +13,7 @@ use Rattle.worker_state.specs.declared.cause.Cause.{Cause}
 use Rattle.worker_state.specs.declared.job.Standing.{Standing}
 use Rattle.worker_state.specs.declared.job.Standing.TheVariants as standing
 use Rattle.worker_state.specs.Slots.{is_reported}
-use Rattle.pool_core.specs.declared.event.Assignment.{Assignment}
+use Rattle.pool_core.specs.declared.event.Job.{Job}
 use Rattle.pool_core.specs.declared.event.Event.{Event}
 use Rattle.pool_core.specs.declared.event.Event.TheVariants as event
 use Rattle.pool_core.specs.Machine.{State, first, standing_in, replay, IsHistory, IsPossible, after, with_lost, open_ticket}
@@ -114,23 +114,23 @@ reports_replayed rules r (e ∷ events) state h p k =
     let later = reports_replayed rules r events (after rules e state) (sound_after rules e state r h p.0) p.1 k in
     omega (arith, later, reports_after rules e state h p.0 k, sum_by-cons (one_if (is_report_of k)) e events)
 
-jobs_after : (rules : Profile) (e : Event) (state : State) → (after rules e state).assignments ≡ state.assignments ++ grabbed_jobs (e ∷ [])
-jobs_after rules (event.Join slot) state = sym (append-nil state.assignments)
-jobs_after rules (event.Load load) state = sym (append-nil state.assignments)
-jobs_after rules (event.Round (answers.Planned plan backlog short)) state = sym (append-nil state.assignments)
-jobs_after rules (event.Round (answers.NoPlan short)) state = sym (append-nil state.assignments)
+jobs_after : (rules : Profile) (e : Event) (state : State) → (after rules e state).jobs ≡ state.jobs ++ grabbed_jobs (e ∷ [])
+jobs_after rules (event.Join slot) state = sym (append-nil state.jobs)
+jobs_after rules (event.Load load) state = sym (append-nil state.jobs)
+jobs_after rules (event.Round (answers.Planned plan backlog short)) state = sym (append-nil state.jobs)
+jobs_after rules (event.Round (answers.NoPlan short)) state = sym (append-nil state.jobs)
 jobs_after rules (event.Grab worker handle function now) state = refl
-jobs_after rules (event.Begin worker ticket) state = sym (append-nil state.assignments)
-jobs_after rules (event.Reported worker ticket end) state = sym (append-nil state.assignments)
-jobs_after rules (event.Lost worker cause) state = sym (append-nil state.assignments)
+jobs_after rules (event.Begin worker ticket) state = sym (append-nil state.jobs)
+jobs_after rules (event.Reported worker ticket end) state = sym (append-nil state.jobs)
+jobs_after rules (event.Lost worker cause) state = sym (append-nil state.jobs)
 
-jobs_replayed : (rules : Profile) (events : List Event) (state : State) → (replay rules state events).assignments ≡ state.assignments ++ grabbed_jobs events
-jobs_replayed rules [] state = sym (append-nil state.assignments)
+jobs_replayed : (rules : Profile) (events : List Event) (state : State) → (replay rules state events).jobs ≡ state.jobs ++ grabbed_jobs events
+jobs_replayed rules [] state = sym (append-nil state.jobs)
 jobs_replayed rules (e ∷ events) state =
     jobs_replayed rules events (after rules e state)
-    ∙ ap (λ (xs : List Assignment). xs ++ grabbed_jobs events) (jobs_after rules e state)
-    ∙ append_assoc state.assignments (grabbed_jobs (e ∷ [])) (grabbed_jobs events)
-    ∙ ap (λ (xs : List Assignment). state.assignments ++ xs) (sym (filter_map-append job_of (e ∷ []) events))
+    ∙ ap (λ (xs : List Job). xs ++ grabbed_jobs events) (jobs_after rules e state)
+    ∙ append_assoc state.jobs (grabbed_jobs (e ∷ [])) (grabbed_jobs events)
+    ∙ ap (λ (xs : List Job). state.jobs ++ xs) (sym (filter_map-append job_of (e ∷ []) events))
 
 none_given : (k : ℕ) → times_reported (standing_in [] k) ≡ 0
 none_given k = by (k == 0)

@@ -14,10 +14,10 @@ use Rattle.worker_state.specs.declared.cause.Cause.{Cause}
 use Rattle.worker_state.specs.declared.job.EndKind.{EndKind}
 use Rattle.worker_state.specs.declared.job.Standing.{Standing}
 use Rattle.worker_state.specs.declared.job.Standing.TheVariants as standing
-use Rattle.worker_state.specs.Slots.{last_generation, ticket_of, runs_of, is_open}
+use Rattle.worker_state.specs.Slots.{has_generation, last_generation, held_ticket, run_count, is_open}
 use Rattle.pool_core.specs.declared.event.Event.{Event}
 use Rattle.pool_core.specs.declared.event.Event.TheVariants as event
-use Rattle.pool_core.specs.Machine.{State, first, slot_in, has_generation, standing_in, replay, IsHistory, IsPossible, after, with_lost, open_ticket, slot_after_run}
+use Rattle.pool_core.specs.Machine.{State, first, slot_in, standing_in, replay, IsHistory, IsPossible, after, with_lost, open_ticket, slot_after_run}
 use Rattle.pool_core.specs.Kept.{OpensAt, IsOpen, IsSound}
 use Rattle.pool_core.specs.Laws.{grabber_of, grabbers, is_report_of, times_reported, IsHeldByGrabber, IsAccountedFor, JobsAreLostWithTheirWorkers, JobsAreAccountedFor}
 use Rattle.pool_core.proofs.Tables.{standing_given, opens_elsewhere, opens_here}
@@ -26,16 +26,16 @@ use Rattle.pool_core.proofs.Lasting.{standing_from, length-with_lost, none_open,
 use Rattle.pool_core.proofs.Booked.{jobs_are_booked_once_lem}
 
 -- the worker that a slot with this content had last
-abbrev named : ℕ → Slot → WorkerName
+abbrev pub named : ℕ → Slot → WorkerName
 named s x = record { slot = s; generation = last_generation x }
 
 -- the job of each open ticket was grabbed by the worker that has it, and each lost job by the worker that is named
-record AreGrabbed (by : List WorkerName) (state : State) : Type 0 where
-  many : length by ≡ length state.standings
-  own : (s k : ℕ) → OpensAt state.slots s k → slice_get by (k - 1) ≡ Some (named s (get_or state.slots s (Empty 0)))
-  lost : (k : ℕ) (w : WorkerName) (cause : Cause) → standing_in state.standings k ≡ Some (standing.Lost w cause) → slice_get by (k - 1) ≡ Some w
+pub record AreGrabbed (by : List WorkerName) (state : State) : Type 0 where
+  pub many : length by ≡ length state.standings
+  pub own : (s k : ℕ) → OpensAt state.slots s k → slice_get by (k - 1) ≡ Some (named s (get_or state.slots s (Empty 0)))
+  pub lost : (k : ℕ) (w : WorkerName) (cause : Cause) → standing_in state.standings k ≡ Some (standing.Lost w cause) → slice_get by (k - 1) ≡ Some w
 
-got_front : {X : Type 0} (xs ys : List X) (i : ℕ) (x : X) → slice_get xs i ≡ Some x → slice_get (xs ++ ys) i ≡ Some x
+pub got_front : {X : Type 0} (xs ys : List X) (i : ℕ) (x : X) → slice_get xs i ≡ Some x → slice_get (xs ++ ys) i ≡ Some x
 got_front [] ys i x h = absurd (cc)
 got_front (y ∷ xs) ys zero x h = h
 got_front (y ∷ xs) ys (suc i) x h = got_front xs ys i x h
@@ -47,7 +47,7 @@ got_last (x ∷ xs) y zero e = absurd (omega arith)
 got_last (x ∷ xs) y (suc i) e = got_last xs y i (omega (arith, e))
 
 -- after a slot was written without a ticket
-own_beside : (by : List WorkerName) (slots : List Slot) (i : ℕ) (x : Slot) → i < length slots → ticket_of x ≡ None
+own_beside : (by : List WorkerName) (slots : List Slot) (i : ℕ) (x : Slot) → i < length slots → held_ticket x ≡ None
     → ((s k : ℕ) → OpensAt slots s k → slice_get by (k - 1) ≡ Some (named s (get_or slots s (Empty 0))))
     → (s k : ℕ) → OpensAt (set slots i x) s k → slice_get by (k - 1) ≡ Some (named s (get_or (set slots i x) s (Empty 0)))
 own_beside by slots i x within none own s k o =
@@ -55,7 +55,7 @@ own_beside by slots i x within none own s k o =
     own s k t.1 ∙ ap (λ (y : Slot). Some (named s y)) (sym (get_or-set_other slots i s x (Empty 0) t.0))
 
 -- how a ticket stands after one standing was written: by that, or as before
-stood : (standings : List Standing) (i : ℕ) (y : Standing) (k : ℕ) (x : Standing) → standing_in (set standings i y) k ≡ Some x
+pub stood : (standings : List Standing) (i : ℕ) (y : Standing) (k : ℕ) (x : Standing) → standing_in (set standings i y) k ≡ Some x
     → ((k - 1 ≡ i) × (x ≡ y)) ⊎ (standing_in standings k ≡ Some x)
 stood standings i y k x is = by (k - 1 == i) refl
   where
@@ -68,25 +68,25 @@ stood standings i y k x is = by (k - 1 == i) refl
         let t = standing_given (set standings i y) k x standing.Running is in
         inr (standing_from standings k x standing.Running t.0 (omega (arith, t.1, length-set standings i y)) (sym (get_or-set_other standings i (k - 1) y standing.Running (λ f. false≢true (sym e ∙ eq-eqb (k - 1) i f))) ∙ t.2))
 
--- a lost job among those with a new one was lost before
-lost_pushed : (standings : List Standing) (k : ℕ) (w : WorkerName) (cause : Cause) → standing_in (standings ++ standing.Running ∷ []) k ≡ Some (standing.Lost w cause) → standing_in standings k ≡ Some (standing.Lost w cause)
-lost_pushed standings k w cause is = by (k - 1 == length standings) refl
+-- a job that is closed, among those with a new one, was closed before
+pub closed_pushed : (standings : List Standing) (k : ℕ) (x : Standing) → is_open x ≡ false → standing_in (standings ++ standing.Running ∷ []) k ≡ Some x → standing_in standings k ≡ Some x
+closed_pushed standings k x closed is = by (k - 1 == length standings) refl
   where
-    by : (b : Bool) → (k - 1 == length standings) ≡ b → standing_in standings k ≡ Some (standing.Lost w cause)
+    by : (b : Bool) → (k - 1 == length standings) ≡ b → standing_in standings k ≡ Some x
     by true e =
-        let t = standing_given (standings ++ standing.Running ∷ []) k (standing.Lost w cause) standing.Reporting is in
+        let t = standing_given (standings ++ standing.Running ∷ []) k x standing.Reporting is in
         let other : get_or (standings ++ standing.Running ∷ []) (length standings) standing.Reporting ≡ standing.Running = at_end standings in
         let same = sym (ap (λ (n : ℕ). get_or (standings ++ standing.Running ∷ []) n standing.Reporting) (eqb-true (k - 1) (length standings) e)) ∙ t.2 in
-        absurd (cc (other, same))
+        absurd (false≢true (sym closed ∙ ap is_open (sym same ∙ other)))
       where
         at_end : (xs : List Standing) → get_or (xs ++ standing.Running ∷ []) (length xs) standing.Reporting ≡ standing.Running
         at_end [] = refl
         at_end (x ∷ xs) = at_end xs
     by false e =
-        let t = standing_given (standings ++ standing.Running ∷ []) k (standing.Lost w cause) standing.Running is in
+        let t = standing_given (standings ++ standing.Running ∷ []) k x standing.Running is in
         let other : k - 1 ≢ length standings = λ f. false≢true (sym e ∙ eq-eqb (k - 1) (length standings) f) in
         let given : k ≤ length standings = omega (arith, t.0, t.1, other, length-append standings (standing.Running ∷ [])) in
-        standing_from standings k (standing.Lost w cause) standing.Running t.0 given (sym (get_or_append_left standings (standing.Running ∷ []) standing.Running (k - 1) (omega (arith, t.0, given))) ∙ t.2)
+        standing_from standings k x standing.Running t.0 given (sym (get_or_append_left standings (standing.Running ∷ []) standing.Running (k - 1) (omega (arith, t.0, given))) ∙ t.2)
 
 grabbed_join : (rules : Profile) (by : List WorkerName) (state : State) (slot : ℕ) → AreGrabbed by state → IsPossible rules (event.Join slot) state → AreGrabbed by (after rules (event.Join slot) state)
 grabbed_join rules by state slot g p =
@@ -95,7 +95,7 @@ grabbed_join rules by state slot g p =
 grabbed_grab : (rules : Profile) (by : List WorkerName) (state : State) (w : WorkerName) (handle function : List ℕ) (now : ℕ) → AreGrabbed by state → IsPossible rules (event.Grab w handle function now) state
     → AreGrabbed (by ++ w ∷ []) (after rules (event.Grab w handle function now) state)
 grabbed_grab rules by state w handle function now g p =
-    let new = Live w.generation (runs_of (slot_in state.slots w.slot)) (Some (length state.standings + 1)) in
+    let new = Live w.generation (run_count (slot_in state.slots w.slot)) (Some (length state.standings + 1)) in
     record {
       many = omega (arith, g.many, length-append by (w ∷ []), length-append state.standings (standing.Running ∷ []));
       own = λ s k o. elim (opens_here state.slots w.slot new s k o) [
@@ -108,7 +108,7 @@ grabbed_grab rules by state w handle function now g p =
             got_front by (w ∷ []) (k - 1) (named s (get_or state.slots s (Empty 0))) (g.own s k t.1)
             ∙ ap (λ (x : Slot). Some (named s x)) (sym (get_or-set_other state.slots w.slot s new (Empty 0) t.0))
       ];
-      lost = λ k v cause is. got_front by (w ∷ []) (k - 1) v (g.lost k v cause (lost_pushed state.standings k v cause is));
+      lost = λ k v cause is. got_front by (w ∷ []) (k - 1) v (g.lost k v cause (closed_pushed state.standings k (standing.Lost v cause) refl is));
     }
 
 grabbed_begin : (rules : Profile) (by : List WorkerName) (state : State) (w : WorkerName) (j : ℕ) → AreGrabbed by state → AreGrabbed by (after rules (event.Begin w j) state)
@@ -123,7 +123,7 @@ grabbed_reported : (rules : Profile) (by : List WorkerName) (state : State) (w :
 grabbed_reported rules by state w j end g p =
     record {
       many = g.many ∙ sym (length-set state.standings (j - 1) (standing.Reported end));
-      own = own_beside by state.slots w.slot (slot_after_run rules w.generation (runs_of (slot_in state.slots w.slot))) (worker_within state w p.0) (run_none rules w.generation (runs_of (slot_in state.slots w.slot))) g.own;
+      own = own_beside by state.slots w.slot (slot_after_run rules w.generation (run_count (slot_in state.slots w.slot))) (worker_within state w p.0) (run_none rules w.generation (run_count (slot_in state.slots w.slot))) g.own;
       lost = λ k v cause is. elim (stood state.standings (j - 1) (standing.Reported end) k (standing.Lost v cause) is) [ inl t ↦ absurd (let e = t.1 in cc) | inr t ↦ g.lost k v cause t ];
     }
 
@@ -152,7 +152,7 @@ grabbed_lost rules by state w cause g p =
 same_by : (by : List WorkerName) (state : State) → AreGrabbed by state → AreGrabbed (by ++ []) state
 same_by by state g = subst (λ (ws : List WorkerName). AreGrabbed ws state) (sym (append-nil by)) g
 
-grabbed_after : (rules : Profile) (e : Event) (by : List WorkerName) (state : State) → AreGrabbed by state → IsPossible rules e state → AreGrabbed (by ++ grabbers (e ∷ [])) (after rules e state)
+pub grabbed_after : (rules : Profile) (e : Event) (by : List WorkerName) (state : State) → AreGrabbed by state → IsPossible rules e state → AreGrabbed (by ++ grabbers (e ∷ [])) (after rules e state)
 grabbed_after rules (event.Join slot) by state g p = same_by by (after rules (event.Join slot) state) (grabbed_join rules by state slot g p)
 grabbed_after rules (event.Load load) by state g p = same_by by (after rules (event.Load load) state) (record { many = g.many; own = g.own; lost = g.lost })
 grabbed_after rules (event.Round (answers.Planned plan backlog short)) by state g p = same_by by (after rules (event.Round (answers.Planned plan backlog short)) state) (record { many = g.many; own = g.own; lost = g.lost })
@@ -162,14 +162,14 @@ grabbed_after rules (event.Begin worker ticket) by state g p = same_by by (after
 grabbed_after rules (event.Reported worker ticket end) by state g p = same_by by (after rules (event.Reported worker ticket end) state) (grabbed_reported rules by state worker ticket end g p)
 grabbed_after rules (event.Lost worker cause) by state g p = same_by by (after rules (event.Lost worker cause) state) (grabbed_lost rules by state worker cause g p)
 
-grabbed_all : (rules : Profile) (events : List Event) (by : List WorkerName) (state : State) → AreGrabbed by state → IsHistory rules state events → AreGrabbed (by ++ grabbers events) (replay rules state events)
+pub grabbed_all : (rules : Profile) (events : List Event) (by : List WorkerName) (state : State) → AreGrabbed by state → IsHistory rules state events → AreGrabbed (by ++ grabbers events) (replay rules state events)
 grabbed_all rules [] by state g h = same_by by state g
 grabbed_all rules (e ∷ events) by state g h =
     subst (λ (ws : List WorkerName). AreGrabbed ws (replay rules (after rules e state) events))
     (append_assoc by (grabbers (e ∷ [])) (grabbers events) ∙ ap (λ (ws : List WorkerName). by ++ ws) (sym (filter_map-append grabber_of (e ∷ []) events)))
     (grabbed_all rules events (by ++ grabbers (e ∷ [])) (after rules e state) (grabbed_after rules e by state g h.0) h.1)
 
-grabbed_first : (rules : Profile) → AreGrabbed [] (first rules)
+pub grabbed_first : (rules : Profile) → AreGrabbed [] (first rules)
 grabbed_first rules =
     record {
       many = refl;
@@ -181,31 +181,11 @@ pub jobs_are_lost_with_their_workers_lem : JobsAreLostWithTheirWorkers
 jobs_are_lost_with_their_workers_lem rules r events h = (grabbed_all rules events [] (first rules) (grabbed_first rules) h).lost
 
 -- a slot with an open ticket has a live worker, the one of its last generation
-live_holder : (x : Slot) (k : ℕ) → ticket_of x ≡ Some k → has_generation x (last_generation x) ≡ true
+live_holder : (x : Slot) (k : ℕ) → held_ticket x ≡ Some k → has_generation x (last_generation x) ≡ true
 live_holder (Empty last) k h = absurd (cc)
 live_holder (Live generation runs ticket) k h = eq-eqb generation generation refl
 
-held_by_grabber : (rules : Profile) (events : List Event) (state : State) (k : ℕ) → IsSound rules state → AreGrabbed (grabbers events) state → IsOpen state.standings k → IsHeldByGrabber events state k
+pub held_by_grabber : (rules : Profile) (events : List Event) (state : State) (k : ℕ) → IsSound rules state → AreGrabbed (grabbers events) state → IsOpen state.standings k → IsHeldByGrabber events state k
 held_by_grabber rules events state k sound g o =
     let t = sound.held k o in
     (named t.0 (slot_in state.slots t.0), g.own t.0 k t.1, live_holder (slot_in state.slots t.0) k t.1, t.1)
-
-accounted : (rules : Profile) (events : List Event) (state : State) (k : ℕ) (x : Standing) → IsSound rules state → AreGrabbed (grabbers events) state
-    → 0 < k → k ≤ length state.standings → standing_in state.standings k ≡ Some x → count_by (is_report_of k) events ≡ times_reported (Some x) → IsAccountedFor events state k x
-accounted rules events state k standing.Running sound g from_one given is count =
-    (held_by_grabber rules events state k sound g (record { from_one = from_one; given = given; goes_on = ap is_open (standing_given state.standings k standing.Running standing.Running is).2 }), count)
-accounted rules events state k standing.Reporting sound g from_one given is count =
-    (held_by_grabber rules events state k sound g (record { from_one = from_one; given = given; goes_on = ap is_open (standing_given state.standings k standing.Reporting standing.Running is).2 }), count)
-accounted rules events state k (standing.Reported end) sound g from_one given is count = count
-accounted rules events state k (standing.Lost worker cause) sound g from_one given is count = (g.lost k worker cause is, count)
-
-pub jobs_are_accounted_for_lem : JobsAreAccountedFor
-jobs_are_accounted_for_lem rules r events h k from_one given =
-    let state = replay rules (first rules) events in
-    let sound = histories_are_sound_lem rules r events h in
-    let booked = jobs_are_booked_once_lem rules r events h in
-    let g = grabbed_all rules events [] (first rules) (grabbed_first rules) h in
-    let there : k ≤ length state.standings = omega (arith, given, ap length booked.jobs, sound.assignments) in
-    let x = get_or state.standings (k - 1) standing.Running in
-    let is = standing_from state.standings k x standing.Running from_one there refl in
-    (x, is, accounted rules events state k x sound g from_one there is (booked.reports k ∙ ap times_reported is))

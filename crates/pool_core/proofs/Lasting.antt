@@ -17,14 +17,15 @@ use Rattle.worker_state.specs.declared.slot.Slot.TheVariants.{Empty, Live}
 use Rattle.worker_state.specs.declared.job.Standing.{Standing}
 use Rattle.worker_state.specs.declared.job.Standing.TheVariants as standing
 use Rattle.worker_state.specs.Orders.{no_order, IsOrder}
-use Rattle.worker_state.specs.Slots.{is_open, is_reported, last_generation, runs_of, ticket_of}
-use Rattle.pool_core.specs.declared.event.Assignment.{Assignment}
+use Rattle.worker_state.specs.Slots.{is_open, is_reported, last_generation, run_count, held_ticket}
+use Rattle.pool_core.specs.declared.event.Job.{Job}
 use Rattle.pool_core.specs.declared.event.Event.{Event}
 use Rattle.pool_core.specs.declared.event.Event.TheVariants as event
 use Rattle.pool_core.specs.Machine.{State, first, slot_in, standing_in, replay, IsHistory, IsPossible, after, after_round, with_lost, is_live_in, open_ticket, input_of, slot_after_run}
 use Rattle.plan_model.proofs.Shown.{shown_best}
-use Rattle.pool_core.specs.Kept.{IsSound, IsOpen, OpensAt}
-use Rattle.pool_core.specs.Laws.{Extends, is_grab, is_report, next_generation, HistoriesExtend, HistoriesAreSound, WorkersAreNew, HistoriesCount, ChaptersCount, RoundsAreShown, HistoriesJoin}
+use Rattle.pool_core.specs.Kept.{IsBase, IsChapter, IsSound, IsOpen, OpensAt}
+use Rattle.pool_core.specs.Book.{Book, IsStep}
+use Rattle.pool_core.specs.Laws.{Extends, is_grab, is_report, next_generation, HistoriesExtend, HistoriesAreSound, WorkersAreNew, HistoriesCount, ChaptersCount, RoundsAreShown, HistoriesJoin, HistoriesCut, BasesAreSound, EventsCount}
 use Rattle.pool_core.proofs.Tables.{standing_given}
 use Rattle.pool_core.proofs.Sound.{sound_after, generation_last, run_generation}
 use Rattle.pool_core.proofs.Steps.{replay-append, history-append}
@@ -66,9 +67,9 @@ no_fall_of state w x live is s = no_fall state.slots w.slot x (omega (arith, is,
 same_slots : (state : State) (s : ℕ) → last_generation (slot_in state.slots s) ≤ last_generation (slot_in state.slots s)
 same_slots state s = omega arith
 
-same_jobs : (old new : State) → new.assignments ≡ old.assignments → ((k : ℕ) (x : Standing) → standing_in old.standings k ≡ Some x → is_open x ≡ false → standing_in new.standings k ≡ Some x)
+same_jobs : (old new : State) → new.jobs ≡ old.jobs → ((k : ℕ) (x : Standing) → standing_in old.standings k ≡ Some x → is_open x ≡ false → standing_in new.standings k ≡ Some x)
     → ((s : ℕ) → last_generation (slot_in old.slots s) ≤ last_generation (slot_in new.slots s)) → Extends old new
-same_jobs old new is h g = record { jobs = ([], is ∙ sym (append-nil old.assignments)); closed = h; generations = g }
+same_jobs old new is h g = record { jobs = ([], is ∙ sym (append-nil old.jobs)); closed = h; generations = g }
 
 round_keeps : (answer : Answer) (state : State) → Extends state (after_round answer state)
 round_keeps (answers.Planned plan backlog short) state = same_jobs state (after_round (answers.Planned plan backlog short) state) refl (λ k x is closed. is) (same_slots state)
@@ -82,7 +83,7 @@ extends_after rules (event.Grab worker handle function now) state h p =
     record {
       jobs = (record { handle = handle; function = function } ∷ [], refl);
       closed = λ k x is closed. pushed_keeps state.standings standing.Running k x is;
-      generations = no_fall_of state worker (Live worker.generation (runs_of (slot_in state.slots worker.slot)) (Some (length state.standings + 1))) p.0 refl;
+      generations = no_fall_of state worker (Live worker.generation (run_count (slot_in state.slots worker.slot)) (Some (length state.standings + 1))) p.0 refl;
     }
 extends_after rules (event.Begin worker ticket) state h p =
     same_jobs state (after rules (event.Begin worker ticket) state) refl
@@ -91,7 +92,7 @@ extends_after rules (event.Begin worker ticket) state h p =
 extends_after rules (event.Reported worker ticket end) state h p =
     same_jobs state (after rules (event.Reported worker ticket end) state) refl
     (written_keeps state.standings (ticket - 1) (standing.Reported end) (ap is_open (standing_given state.standings ticket standing.Reporting standing.Running p.2).2))
-    (no_fall_of state worker (slot_after_run rules worker.generation (runs_of (slot_in state.slots worker.slot))) p.0 (run_generation rules worker.generation (runs_of (slot_in state.slots worker.slot))))
+    (no_fall_of state worker (slot_after_run rules worker.generation (run_count (slot_in state.slots worker.slot))) p.0 (run_generation rules worker.generation (run_count (slot_in state.slots worker.slot))))
 extends_after rules (event.Lost worker cause) state h p =
     same_jobs state (after rules (event.Lost worker cause) state) refl
     (lost_keeps state.standings (open_ticket state worker) worker cause (λ k e. h.tickets worker.slot k e))
@@ -100,7 +101,7 @@ extends_after rules (event.Lost worker cause) state h p =
 extends_trans : (a b c : State) → Extends a b → Extends b c → Extends a c
 extends_trans a b c h k =
     record {
-      jobs = (h.jobs.0 ++ k.jobs.0, k.jobs.1 ∙ ap (λ (xs : List Assignment). xs ++ k.jobs.0) h.jobs.1 ∙ append_assoc a.assignments h.jobs.0 k.jobs.0);
+      jobs = (h.jobs.0 ++ k.jobs.0, k.jobs.1 ∙ ap (λ (xs : List Job). xs ++ k.jobs.0) h.jobs.1 ∙ append_assoc a.jobs h.jobs.0 k.jobs.0);
       closed = λ t x is closed. k.closed t x (h.closed t x is closed) closed;
       generations = λ s. omega (arith, h.generations s, k.generations s);
     }
@@ -132,7 +133,7 @@ length-copies zero x = refl
 length-copies (suc n) x = ap suc (length-copies n x)
 
 pub none_open : (rules : Profile) (s : ℕ) (k : ℕ) → OpensAt (first rules).slots s k → ⊥
-none_open rules s k o = let e = sym (ap ticket_of (copy_at (slot_count rules) s (Empty 0))) ∙ o in cc
+none_open rules s k o = let e = sym (ap held_ticket (copy_at (slot_count rules) s (Empty 0))) ∙ o in cc
 
 pub sound_first : (rules : Profile) → IsProfile rules → IsSound rules (first rules)
 sound_first rules r =
@@ -140,10 +141,10 @@ sound_first rules r =
       slots = length-copies (slot_count rules) _;
       grab_times = length-copies (slot_count rules) _;
       orders = length-copies (slot_count rules) _;
-      assignments = refl;
+      jobs = refl;
       generations = λ s. omega (arith, ap last_generation (copy_at (slot_count rules) s (Empty 0)));
       ranges = λ s. subst IsOrder (sym (copy_at (slot_count rules) s no_order)) (record { generation = omega arith; function = tt });
-      runs = λ s. omega (arith, ap runs_of (copy_at (slot_count rules) s (Empty 0)), r.max_runs_some);
+      runs = λ s. omega (arith, ap run_count (copy_at (slot_count rules) s (Empty 0)), r.max_runs_some);
       tickets = λ s k o. absurd (none_open rules s k o);
       alone = λ s t k o q. absurd (none_open rules s k o);
       held = λ k o. absurd (let t = o.given in omega (arith, o.from_one, t));
@@ -245,3 +246,18 @@ pub chapters_count_lem : ChaptersCount
 chapters_count_lem rules r base h events p =
     let t = counts_replayed rules r events base h p in
     record { sum = sym (counts_all (replay rules base events).standings); grabs = t.0; reports = t.1 }
+
+pub histories_cut_lem : HistoriesCut
+histories_cut_lem rules base earlier later h =
+    let t = history_cut rules base earlier later h in (t.0, t.1, replay-append rules base earlier later)
+
+pub bases_are_sound_lem : BasesAreSound
+bases_are_sound_lem rules r chapters base h =
+    subst (IsSound rules) (sym h.replays.replayed) (sound_all rules r h.before (first rules) (sound_first rules r) h.replays.history)
+
+pub events_count_lem : (book : Book) → IsProfile book.rules → IsChapter book.rules book.chapters book.events book.state → EventsCount book
+events_count_lem book r k e new s =
+    let based = bases_are_sound_lem book.rules r book.chapters k.base k.begins in
+    let sound : IsSound book.rules book.state = subst (IsSound book.rules) (sym k.replays.replayed) (sound_all book.rules r book.events k.base based k.replays.history) in
+    let a = adds_after book.rules e book.state sound s.possible in
+    (ap (λ (t : State). length t.standings) s.state ∙ a.grabs, ap (λ (t : State). count_by is_reported t.standings) s.state ∙ a.reports)

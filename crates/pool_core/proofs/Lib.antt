@@ -8,5 +8,6 @@ pub mod Calls
 pub mod Lasting
 pub mod Booked
 pub mod Grabbers
+pub mod Told
 pub mod Ordered
 mod Inputs

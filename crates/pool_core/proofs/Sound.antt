@@ -19,9 +19,9 @@ use Rattle.worker_state.specs.declared.job.EndKind.{EndKind}
 use Rattle.worker_state.specs.declared.job.Standing.{Standing}
 use Rattle.worker_state.specs.declared.job.Standing.TheVariants as standing
 use Rattle.worker_state.specs.Limits.{max_generation}
-use Rattle.worker_state.specs.Slots.{ticket_of, is_open, last_generation, runs_of}
+use Rattle.worker_state.specs.Slots.{has_generation, held_ticket, is_open, last_generation, run_count}
 use Rattle.pool_core.specs.declared.event.Event.TheVariants as event
-use Rattle.pool_core.specs.Machine.{State, has_generation, slot_in, is_live_in, open_ticket, after, IsPossible, slot_after_run, with_lost, orders_from, after_round, input_of}
+use Rattle.pool_core.specs.Machine.{State, slot_in, is_live_in, open_ticket, after, IsPossible, slot_after_run, with_lost, orders_from, after_round, input_of}
 use Rattle.pool_core.specs.Kept.{OpensAt, IsOpen, IsSound}
 use Rattle.pool_core.proofs.Ranges.{ranges_after}
 use Rattle.pool_core.proofs.Tables.{at_set, live_within, live_has, opens_elsewhere, opens_here, open_is, opens_still, opens_written, empty_none, holds_none, holds_one, standing_given}
@@ -97,10 +97,10 @@ sound_join rules state slot some h p =
       slots = length-set state.slots slot new ∙ h.slots;
       grab_times = h.grab_times;
       orders = length-set state.orders slot _ ∙ h.orders;
-      assignments = h.assignments;
+      jobs = h.jobs;
       generations = λ s. at_set (λ x. last_generation x ≤ max_generation) state.slots slot new (Empty 0) s (h.generations s) (omega (arith, p.2));
       ranges = λ s. at_set IsOrder state.orders slot _ no_order s (h.ranges s) (record { generation = omega (arith, p.2); function = tt });
-      runs = λ s. at_set (λ x. runs_of x < rules.max_runs) state.slots slot new (Empty 0) s (h.runs s) some;
+      runs = λ s. at_set (λ x. run_count x < rules.max_runs) state.slots slot new (Empty 0) s (h.runs s) some;
       tickets = λ s k o. h.tickets s k (opens_elsewhere state.slots slot new s k p.0 refl o).1;
       alone = λ s t k o q. h.alone s t k (opens_elsewhere state.slots slot new s k p.0 refl o).1 (opens_elsewhere state.slots slot new t k p.0 refl q).1;
       held = λ k o.
@@ -114,7 +114,7 @@ sound_begin rules state w k h p =
       slots = h.slots;
       grab_times = h.grab_times;
       orders = h.orders;
-      assignments = h.assignments ∙ sym (length-set state.standings (k - 1) standing.Reporting);
+      jobs = h.jobs ∙ sym (length-set state.standings (k - 1) standing.Reporting);
       generations = h.generations;
       ranges = h.ranges;
       runs = h.runs;
@@ -124,7 +124,7 @@ sound_begin rules state w k h p =
     }
 
 -- runs of the worker that is there
-runs_there : (rules : Profile) (state : State) → IsSound rules state → (slot : ℕ) → runs_of (slot_in state.slots slot) < rules.max_runs
+runs_there : (rules : Profile) (state : State) → IsSound rules state → (slot : ℕ) → run_count (slot_in state.slots slot) < rules.max_runs
 runs_there rules state h slot = h.runs slot
 
 generation_there : (rules : Profile) (state : State) → IsSound rules state → (w : WorkerName) → is_live_in state w ≡ true → w.generation ≤ max_generation
@@ -143,7 +143,7 @@ other_ticket rules state h s t k j o q apart e =
 pub sound_grab : (rules : Profile) (state : State) (w : WorkerName) (handle function : List ℕ) (now : ℕ) → IsSound rules state → is_live_in state w ≡ true → open_ticket state w ≡ None → IsSound rules (after rules (event.Grab w handle function now) state)
 sound_grab rules state w handle function now h live idle =
     let next : ℕ = (length state.standings + 1) in
-    let new = Live w.generation (runs_of (slot_in state.slots w.slot)) (Some next) in
+    let new = Live w.generation (run_count (slot_in state.slots w.slot)) (Some next) in
     let fresh : IsOpen (state.standings ++ standing.Running ∷ []) next = record {
       from_one = omega arith;
       given = omega (arith, length-append state.standings (standing.Running ∷ []));
@@ -154,10 +154,10 @@ sound_grab rules state w handle function now h live idle =
       slots = length-set state.slots w.slot new ∙ h.slots;
       grab_times = length-set state.grab_times w.slot now ∙ h.grab_times;
       orders = h.orders;
-      assignments = omega (arith, h.assignments, length-append state.assignments (record { handle = handle; function = function } ∷ []), length-append state.standings (standing.Running ∷ []));
+      jobs = omega (arith, h.jobs, length-append state.jobs (record { handle = handle; function = function } ∷ []), length-append state.standings (standing.Running ∷ []));
       generations = λ s. at_set (λ x. last_generation x ≤ max_generation) state.slots w.slot new (Empty 0) s (h.generations s) (generation_there rules state h w live);
       ranges = h.ranges;
-      runs = λ s. at_set (λ x. runs_of x < rules.max_runs) state.slots w.slot new (Empty 0) s (h.runs s) (runs_there rules state h w.slot);
+      runs = λ s. at_set (λ x. run_count x < rules.max_runs) state.slots w.slot new (Empty 0) s (h.runs s) (runs_there rules state h w.slot);
       tickets = λ s k o. elim (opens_here state.slots w.slot new s k o) [
         | inl t ↦ subst (IsOpen (state.standings ++ standing.Running ∷ [])) (let e : next ≡ k = cc in e) fresh
         | inr t ↦ open_pushed state.standings standing.Running k (h.tickets s k t.1)
@@ -176,27 +176,27 @@ sound_grab rules state w handle function now h live idle =
     }
   where
     held : (k : ℕ) → IsOpen (state.standings ++ standing.Running ∷ []) k → (b : Bool) → (k == length state.standings + 1) ≡ b
-        → (s : ℕ) × OpensAt (set state.slots w.slot (Live w.generation (runs_of (slot_in state.slots w.slot)) (Some (length state.standings + 1)))) s k
+        → (s : ℕ) × OpensAt (set state.slots w.slot (Live w.generation (run_count (slot_in state.slots w.slot)) (Some (length state.standings + 1)))) s k
     held k o true e =
-        let here : OpensAt (set state.slots w.slot (Live w.generation (runs_of (slot_in state.slots w.slot)) (Some (length state.standings + 1)))) w.slot (length state.standings + 1) =
+        let here : OpensAt (set state.slots w.slot (Live w.generation (run_count (slot_in state.slots w.slot)) (Some (length state.standings + 1)))) w.slot (length state.standings + 1) =
         opens_written state.slots w.slot _ (length state.standings + 1) (worker_within state w live) refl in
-        (w.slot, subst (OpensAt (set state.slots w.slot (Live w.generation (runs_of (slot_in state.slots w.slot)) (Some (length state.standings + 1)))) w.slot) (sym (eqb-true k (length state.standings + 1) e)) here)
+        (w.slot, subst (OpensAt (set state.slots w.slot (Live w.generation (run_count (slot_in state.slots w.slot)) (Some (length state.standings + 1)))) w.slot) (sym (eqb-true k (length state.standings + 1) e)) here)
     held k o false e =
         let t = h.held k (open_pushed_before state.standings standing.Running k (λ f. false≢true (sym e ∙ eq-eqb k (length state.standings + 1) f)) o) in
         (t.0, opens_still state.slots w.slot _ t.0 k (holds_none state.slots w.slot t.0 k idle t.1) t.1)
 
 -- a slot that is given up, with its ticket's standing
-cleared : (rules : Profile) (state : State) (slot : ℕ) (new : Slot) (k : ℕ) (y : Standing) → IsSound rules state → slot < length state.slots → ticket_of new ≡ None → last_generation new ≤ max_generation → runs_of new < rules.max_runs → is_open y ≡ false → OpensAt state.slots slot k
+cleared : (rules : Profile) (state : State) (slot : ℕ) (new : Slot) (k : ℕ) (y : Standing) → IsSound rules state → slot < length state.slots → held_ticket new ≡ None → last_generation new ≤ max_generation → run_count new < rules.max_runs → is_open y ≡ false → OpensAt state.slots slot k
     → IsSound rules (record state { slots = set state.slots slot new; standings = set state.standings (k - 1) y })
 cleared rules state slot new k y h within none generation runs closed own =
     record {
       slots = length-set state.slots slot new ∙ h.slots;
       grab_times = h.grab_times;
       orders = h.orders;
-      assignments = h.assignments ∙ sym (length-set state.standings (k - 1) y);
+      jobs = h.jobs ∙ sym (length-set state.standings (k - 1) y);
       generations = λ s. at_set (λ x. last_generation x ≤ max_generation) state.slots slot new (Empty 0) s (h.generations s) generation;
       ranges = h.ranges;
-      runs = λ s. at_set (λ x. runs_of x < rules.max_runs) state.slots slot new (Empty 0) s (h.runs s) runs;
+      runs = λ s. at_set (λ x. run_count x < rules.max_runs) state.slots slot new (Empty 0) s (h.runs s) runs;
       tickets = λ s j o.
           let e = opens_elsewhere state.slots slot new s j within none o in
           open_beside state.standings k y j (h.tickets slot k own).from_one (other_ticket rules state h s slot j k e.1 own e.0) (h.tickets s j e.1);
@@ -209,17 +209,17 @@ cleared rules state slot new k y h within none generation runs closed own =
     }
 
 -- a slot that is given up without a ticket
-cleared_idle : (rules : Profile) (state : State) (slot : ℕ) (new : Slot) → IsSound rules state → slot < length state.slots → ticket_of new ≡ None → last_generation new ≤ max_generation → runs_of new < rules.max_runs → ticket_of (slot_in state.slots slot) ≡ None
+cleared_idle : (rules : Profile) (state : State) (slot : ℕ) (new : Slot) → IsSound rules state → slot < length state.slots → held_ticket new ≡ None → last_generation new ≤ max_generation → run_count new < rules.max_runs → held_ticket (slot_in state.slots slot) ≡ None
     → IsSound rules (record state { slots = set state.slots slot new })
 cleared_idle rules state slot new h within none generation runs idle =
     record {
       slots = length-set state.slots slot new ∙ h.slots;
       grab_times = h.grab_times;
       orders = h.orders;
-      assignments = h.assignments;
+      jobs = h.jobs;
       generations = λ s. at_set (λ x. last_generation x ≤ max_generation) state.slots slot new (Empty 0) s (h.generations s) generation;
       ranges = h.ranges;
-      runs = λ s. at_set (λ x. runs_of x < rules.max_runs) state.slots slot new (Empty 0) s (h.runs s) runs;
+      runs = λ s. at_set (λ x. run_count x < rules.max_runs) state.slots slot new (Empty 0) s (h.runs s) runs;
       tickets = λ s j o. h.tickets s j (opens_elsewhere state.slots slot new s j within none o).1;
       alone = λ s t j o q. h.alone s t j (opens_elsewhere state.slots slot new s j within none o).1 (opens_elsewhere state.slots slot new t j within none q).1;
       held = λ j o.
@@ -228,18 +228,18 @@ cleared_idle rules state slot new h within none generation runs idle =
     }
 
 -- the slot after one more run: its ticket, generation and runs
-pub run_none : (rules : Profile) (g r : ℕ) → ticket_of (slot_after_run rules g r) ≡ None
-run_none rules g r = cond_both (nat_lt (r + 1) rules.max_runs) (Live g (r + 1) None) (Empty g) (λ x. ticket_of x ≡ None) (λ e. refl) (λ e. refl)
+pub run_none : (rules : Profile) (g r : ℕ) → held_ticket (slot_after_run rules g r) ≡ None
+run_none rules g r = cond_both (nat_lt (r + 1) rules.max_runs) (Live g (r + 1) None) (Empty g) (λ x. held_ticket x ≡ None) (λ e. refl) (λ e. refl)
 
 pub run_generation : (rules : Profile) (g r : ℕ) → last_generation (slot_after_run rules g r) ≡ g
 run_generation rules g r = cond_both (nat_lt (r + 1) rules.max_runs) (Live g (r + 1) None) (Empty g) (λ x. last_generation x ≡ g) (λ e. refl) (λ e. refl)
 
-run_runs : (rules : Profile) (g r : ℕ) → 0 < rules.max_runs → runs_of (slot_after_run rules g r) < rules.max_runs
-run_runs rules g r some = cond_both (nat_lt (r + 1) rules.max_runs) (Live g (r + 1) None) (Empty g) (λ x. runs_of x < rules.max_runs) (λ e. ltb-true (r + 1) rules.max_runs e) (λ e. some)
+run_runs : (rules : Profile) (g r : ℕ) → 0 < rules.max_runs → run_count (slot_after_run rules g r) < rules.max_runs
+run_runs rules g r some = cond_both (nat_lt (r + 1) rules.max_runs) (Live g (r + 1) None) (Empty g) (λ x. run_count x < rules.max_runs) (λ e. ltb-true (r + 1) rules.max_runs e) (λ e. some)
 
 pub sound_reported : (rules : Profile) (state : State) (w : WorkerName) (k : ℕ) (end : EndKind) → 0 < rules.max_runs → IsSound rules state → IsPossible rules (event.Reported w k end) state → IsSound rules (after rules (event.Reported w k end) state)
 sound_reported rules state w k end some h p =
-    let r = runs_of (slot_in state.slots w.slot) in
+    let r = run_count (slot_in state.slots w.slot) in
     cleared rules state w.slot (slot_after_run rules w.generation r) k (standing.Reported end) h (worker_within state w p.0)
     (run_none rules w.generation r) (omega (arith, run_generation rules w.generation r, generation_there rules state h w p.0)) (run_runs rules w.generation r some) refl
     (open_is (open_ticket state w) k p.1)
@@ -259,13 +259,13 @@ length-orders_from plan round number [] orders e = refl
 length-orders_from plan round number (slot ∷ slots) [] e = refl
 length-orders_from plan round number (slot ∷ slots) (order ∷ orders) e = ap suc (length-orders_from plan round (number + 1) slots orders (omega arith))
 
-sound_round : (rules : Profile) (answer : Answer) (state : State) → IsProfile rules → IsSound rules state → IsPossible rules (event.Round answer) state → IsSound rules (after_round answer state)
+pub sound_round : (rules : Profile) (answer : Answer) (state : State) → IsProfile rules → IsSound rules state → IsPossible rules (event.Round answer) state → IsSound rules (after_round answer state)
 sound_round rules (answers.Planned plan backlog short) state r h p =
     record {
       slots = h.slots;
       grab_times = h.grab_times;
       orders = length-orders_from plan (state.rounds + 1) 0 state.slots state.orders (h.slots ∙ sym h.orders) ∙ h.orders;
-      assignments = h.assignments;
+      jobs = h.jobs;
       generations = h.generations;
       ranges = ranges_after rules r (input_of rules state p.0) refl state.slots h.slots refl plan (state.rounds + 1) state.orders (and_parts _ _ p.3.permitted).1 h.generations h.ranges;
       runs = h.runs;
@@ -274,13 +274,13 @@ sound_round rules (answers.Planned plan backlog short) state r h p =
       held = h.held;
     }
 sound_round rules (answers.NoPlan short) state r h p =
-    record { slots = h.slots; grab_times = h.grab_times; orders = h.orders; assignments = h.assignments; generations = h.generations; ranges = h.ranges; runs = h.runs; tickets = h.tickets; alone = h.alone; held = h.held }
+    record { slots = h.slots; grab_times = h.grab_times; orders = h.orders; jobs = h.jobs; generations = h.generations; ranges = h.ranges; runs = h.runs; tickets = h.tickets; alone = h.alone; held = h.held }
 
 -- every event keeps a state sound
 pub sound_after : (rules : Profile) (e : Event) (state : State) → IsProfile rules → IsSound rules state → IsPossible rules e state → IsSound rules (after rules e state)
 sound_after rules (event.Join slot) state r h p = sound_join rules state slot r.max_runs_some h p
 sound_after rules (event.Load load) state r h p =
-    record { slots = h.slots; grab_times = h.grab_times; orders = h.orders; assignments = h.assignments; generations = h.generations; ranges = h.ranges; runs = h.runs; tickets = h.tickets; alone = h.alone; held = h.held }
+    record { slots = h.slots; grab_times = h.grab_times; orders = h.orders; jobs = h.jobs; generations = h.generations; ranges = h.ranges; runs = h.runs; tickets = h.tickets; alone = h.alone; held = h.held }
 sound_after rules (event.Round answer) state r h p = sound_round rules answer state r h p
 sound_after rules (event.Grab worker handle function now) state r h p = sound_grab rules state worker handle function now h p.0 p.1
 sound_after rules (event.Begin worker ticket) state r h p = sound_begin rules state worker ticket h p

@@ -25,29 +25,41 @@ replays_more rules base events state e h p =
       replayed = ap (after rules e) h.replayed ∙ sym (replay-append rules base events (e ∷ []));
     }
 
+-- two parts
+pub replays_joined : (rules : Profile) (base : State) (xs : List Event) (middle : State) (ys : List Event) (state : State) → Replays rules base xs middle → Replays rules middle ys state → Replays rules base (xs ++ ys) state
+replays_joined rules base xs middle ys state h k =
+    record {
+      history = history-append rules base xs ys h.history (subst (λ (s : State). IsHistory rules s ys) h.replayed k.history);
+      replayed = k.replayed ∙ ap (λ (s : State). replay rules s ys) h.replayed ∙ sym (replay-append rules base xs ys);
+    }
+
 pub chapter_more : (rules : Profile) (chapters : ℕ) (events : List Event) (state : State) (e : Event) → IsChapter rules chapters events state → IsPossible rules e state → IsChapter rules chapters (events ++ e ∷ []) (after rules e state)
 chapter_more rules chapters events state e h p =
     record {
-      before = h.before;
-      none_before = h.none_before;
-      replays = subst (λ (all : List Event). Replays rules (first rules) all (after rules e state)) (append_assoc h.before events (e ∷ [])) (replays_more rules (first rules) (h.before ++ events) state e h.replays p);
+      base = h.base;
+      begins = h.begins;
+      replays = replays_more rules h.base events state e h.replays p;
     }
 
 -- the next chapter begins where this one ends
 pub next_chapter_is : (rules : Profile) (chapters : ℕ) (events : List Event) (state : State) → IsChapter rules chapters events state → IsChapter rules (chapters + 1) [] state
 next_chapter_is rules chapters events state h =
     record {
-      before = h.before ++ events;
-      none_before = λ e. absurd (omega arith);
-      replays = subst (λ (all : List Event). Replays rules (first rules) all state) (sym (append-nil (h.before ++ events))) h.replays;
+      base = state;
+      begins = record {
+        before = h.begins.before ++ events;
+        none_before = λ e. absurd (omega arith);
+        replays = replays_joined rules (first rules) h.begins.before h.base events state h.begins.replays h.replays;
+      };
+      replays = record { history = tt; replayed = refl };
     }
 
-pub kept_more : (rules : Profile) (chapters : ℕ) (events : List Event) (state : State) (owes reported lost capacity : ℕ) → IsKept rules chapters events state owes reported lost capacity
+pub kept_more : (rules : Profile) (chapters : ℕ) (events : List Event) (state : State) (owes reported lost capacity : ℕ) → IsKept (record { rules = rules; events = events; state = state; chapters = chapters }) owes reported lost capacity
     → (e : Event) → IsPossible rules e state
     → (owes' reported' lost' capacity' : ℕ) → owes' ≡ owed (after rules e state)
     → reported' ≡ count_by is_reported (after rules e state).standings → lost' ≡ count_by is_lost (after rules e state).standings
     → length events + 1 + owes' ≤ rules.history → length events + 1 + owes' ≤ capacity'
-    → IsKept rules chapters (events ++ e ∷ []) (after rules e state) owes' reported' lost' capacity'
+    → IsKept (record { rules = rules; events = (events ++ e ∷ []); state = (after rules e state); chapters = chapters }) owes' reported' lost' capacity'
 kept_more rules chapters events state owes reported lost capacity h e p owes' reported' lost' capacity' o r l within reserved =
     record {
       in_range = h.in_range;

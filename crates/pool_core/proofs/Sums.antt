@@ -10,7 +10,7 @@ use Rattle.worker_state.specs.declared.cause.Cause.{Cause}
 use Rattle.worker_state.specs.declared.job.EndKind.{EndKind}
 use Rattle.worker_state.specs.declared.job.Standing.{Standing}
 use Rattle.worker_state.specs.declared.job.Standing.TheVariants as standing
-use Rattle.worker_state.specs.Slots.{is_live, is_open, is_reported, is_lost, closing_events, runs_of, last_generation}
+use Rattle.worker_state.specs.Slots.{is_live, is_open, is_reported, is_lost, closing_events, run_count, last_generation}
 use Rattle.pool_core.specs.declared.event.Event.TheVariants as event
 use Rattle.pool_core.specs.Machine.{State, slot_in, is_live_in, open_ticket, after, IsPossible, owed, with_lost, slot_after_run}
 use Rattle.pool_core.specs.Kept.{IsOpen, IsSound, closing_of, lost_of}
@@ -42,7 +42,7 @@ pub owed_grab : (rules : Profile) (state : State) (w : WorkerName) (handle funct
 owed_grab rules state w handle function now live =
     omega (
       arith,
-      count_by-set is_live state.slots w.slot (Live w.generation (runs_of (slot_in state.slots w.slot)) (Some ((length state.standings + 1)))) (Empty 0) true true (worker_within state w live) (live_before state w live) refl,
+      count_by-set is_live state.slots w.slot (Live w.generation (run_count (slot_in state.slots w.slot)) (Some ((length state.standings + 1)))) (Empty 0) true true (worker_within state w live) (live_before state w live) refl,
       sum_by_push closing_events state.standings standing.Running,
     )
 
@@ -55,13 +55,13 @@ pub owed_begin : (rules : Profile) (state : State) (w : WorkerName) (k : ℕ) �
 owed_begin rules state w k p =
     omega (arith, sum_written closing_events state.standings k standing.Running standing.Reporting (standing_given state.standings k standing.Running standing.Running p.2))
 
-pub owed_reported : (rules : Profile) (state : State) (w : WorkerName) (k : ℕ) (end : EndKind) (stays : Bool) → is_live (slot_after_run rules w.generation (runs_of (slot_in state.slots w.slot))) ≡ stays → IsPossible rules (event.Reported w k end) state
+pub owed_reported : (rules : Profile) (state : State) (w : WorkerName) (k : ℕ) (end : EndKind) (stays : Bool) → is_live (slot_after_run rules w.generation (run_count (slot_in state.slots w.slot))) ≡ stays → IsPossible rules (event.Reported w k end) state
     → owed (after rules (event.Reported w k end) state) + 2 ≡ owed state + cond stays 1 0
 owed_reported rules state w k end stays is p =
     omega (
       arith,
       sum_written closing_events state.standings k standing.Reporting (standing.Reported end) (standing_given state.standings k standing.Reporting standing.Running p.2),
-      count_by-set is_live state.slots w.slot (slot_after_run rules w.generation (runs_of (slot_in state.slots w.slot))) (Empty 0) true stays (worker_within state w p.0) (live_before state w p.0) is,
+      count_by-set is_live state.slots w.slot (slot_after_run rules w.generation (run_count (slot_in state.slots w.slot))) (Empty 0) true stays (worker_within state w p.0) (live_before state w p.0) is,
     )
 
 pub reported_reported : (rules : Profile) (state : State) (w : WorkerName) (k : ℕ) (end : EndKind) → IsPossible rules (event.Reported w k end) state

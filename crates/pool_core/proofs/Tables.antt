@@ -9,8 +9,8 @@ use Rattle.std.proofs.lemmas.Bool.Decides.{nat_tests}
 use Rattle.worker_state.specs.declared.slot.Slot.{Slot}
 use Rattle.worker_state.specs.declared.slot.Slot.TheVariants.{Empty, Live}
 use Rattle.worker_state.specs.declared.job.Standing.{Standing}
-use Rattle.worker_state.specs.Slots.{is_live, ticket_of}
-use Rattle.pool_core.specs.Machine.{has_generation, has_open, standing_in}
+use Rattle.worker_state.specs.Slots.{has_generation, is_live, held_ticket}
+use Rattle.pool_core.specs.Machine.{has_open, standing_in}
 use Rattle.pool_core.specs.Kept.{OpensAt}
 
 -- what holds of an element and of the one written holds of it afterwards
@@ -32,7 +32,7 @@ live_has (Empty last) g h = h
 live_has (Live own runs ticket) g h = refl
 
 -- a slot that was written without a ticket has none; what is open elsewhere was open
-pub opens_elsewhere : (slots : List Slot) (i : ℕ) (x : Slot) (s : ℕ) (k : ℕ) → i < length slots → ticket_of x ≡ None → OpensAt (set slots i x) s k → (s ≢ i) × OpensAt slots s k
+pub opens_elsewhere : (slots : List Slot) (i : ℕ) (x : Slot) (s : ℕ) (k : ℕ) → i < length slots → held_ticket x ≡ None → OpensAt (set slots i x) s k → (s ≢ i) × OpensAt slots s k
 opens_elsewhere [] i x s k within none h = absurd (omega arith)
 opens_elsewhere (y ∷ ys) zero x zero k within none h = absurd (cc)
 opens_elsewhere (y ∷ ys) zero x (suc s) k within none h = (λ e. omega arith, h)
@@ -41,7 +41,7 @@ opens_elsewhere (y ∷ ys) (suc i) x (suc s) k within none h =
     let t = opens_elsewhere ys i x s k (omega arith) none h in (λ e. t.0 (omega arith), t.1)
 
 -- after a write with a ticket: that one is open there, and the others where they were
-pub opens_here : (slots : List Slot) (i : ℕ) (x : Slot) (s : ℕ) (k : ℕ) → OpensAt (set slots i x) s k → ((s ≡ i) × (ticket_of x ≡ Some k)) ⊎ ((s ≢ i) × OpensAt slots s k)
+pub opens_here : (slots : List Slot) (i : ℕ) (x : Slot) (s : ℕ) (k : ℕ) → OpensAt (set slots i x) s k → ((s ≡ i) × (held_ticket x ≡ Some k)) ⊎ ((s ≢ i) × OpensAt slots s k)
 opens_here [] i x s k h = absurd (cc)
 opens_here (y ∷ ys) zero x zero k h = inl (refl, h)
 opens_here (y ∷ ys) zero x (suc s) k h = inr (λ e. omega arith, h)
@@ -67,20 +67,20 @@ open_is (Some own) k h = ap (λ (n : ℕ). let o : Option ℕ = Some n in o) (eq
 
 -- what is open in a slot stays so where another one is written
 pub opens_still : (slots : List Slot) (i : ℕ) (x : Slot) (s : ℕ) (k : ℕ) → s ≢ i → OpensAt slots s k → OpensAt (set slots i x) s k
-opens_still slots i x s k other o = ap ticket_of (get_or-set_other slots i s x (Empty 0) other) ∙ o
+opens_still slots i x s k other o = ap held_ticket (get_or-set_other slots i s x (Empty 0) other) ∙ o
 
 -- what was written in a slot that is there is open
-pub opens_written : (slots : List Slot) (i : ℕ) (x : Slot) (k : ℕ) → i < length slots → ticket_of x ≡ Some k → OpensAt (set slots i x) i k
-opens_written slots i x k within is = ap ticket_of (get_or-set_at slots i i x (Empty 0) refl within) ∙ is
+pub opens_written : (slots : List Slot) (i : ℕ) (x : Slot) (k : ℕ) → i < length slots → held_ticket x ≡ Some k → OpensAt (set slots i x) i k
+opens_written slots i x k within is = ap held_ticket (get_or-set_at slots i i x (Empty 0) refl within) ∙ is
 
 -- an empty slot has no open ticket
-pub empty_none : (x : Slot) → is_live x ≡ false → ticket_of x ≡ None
+pub empty_none : (x : Slot) → is_live x ≡ false → held_ticket x ≡ None
 empty_none (Empty last) h = refl
 empty_none (Live generation runs ticket) h = absurd (false≢true (sym h))
 
 -- a slot without an open ticket is another than one that has one
-pub holds_none : (slots : List Slot) (i s k : ℕ) → ticket_of (get_or slots i (Empty 0)) ≡ None → OpensAt slots s k → s ≢ i
-holds_none slots i s k none o e = let f = sym (ap (λ (n : ℕ). ticket_of (get_or slots n (Empty 0))) e ∙ none) ∙ o in absurd (cc)
+pub holds_none : (slots : List Slot) (i s k : ℕ) → held_ticket (get_or slots i (Empty 0)) ≡ None → OpensAt slots s k → s ≢ i
+holds_none slots i s k none o e = let f = sym (ap (λ (n : ℕ). held_ticket (get_or slots n (Empty 0))) e ∙ none) ∙ o in absurd (cc)
 
 -- the two tickets that are open in one slot are one
 pub holds_one : (slots : List Slot) (s j k : ℕ) → OpensAt slots s j → OpensAt slots s k → j ≡ k

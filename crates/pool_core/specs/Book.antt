@@ -5,9 +5,8 @@ use Rattle.worker_state.specs.declared.slot.Slot.{Slot}
 use Rattle.worker_state.specs.declared.order.Order.{Order}
 use Rattle.worker_state.specs.declared.slot.WorkerName.{WorkerName}
 use Rattle.worker_state.specs.declared.job.Standing.{Standing}
-use Rattle.worker_state.specs.declared.job.Standing.TheVariants as standing
 use Rattle.worker_state.specs.Limits.{max_generation, max_rounds, max_chapters, max_tickets}
-use Rattle.worker_state.specs.Slots.{is_live, last_generation, runs_of, is_open, is_reported, is_lost}
+use Rattle.worker_state.specs.Slots.{is_live, last_generation, run_count, is_running, is_reporting, is_open, is_reported, is_lost}
 use Rattle.pool_core.specs.declared.event.Event.{Event}
 use Rattle.pool_core.specs.declared.error.JoinError.{JoinError}
 use Rattle.pool_core.specs.declared.error.JoinError.TheVariants as join
@@ -78,25 +77,16 @@ grab_refusal book worker =
     else Some grab.HistoryFull)
     else Some grab.Gone
 
-abbrev pub is_running : Option Standing → Bool
-is_running None = false
-is_running (Some standing.Running) = true
-is_running (Some standing.Reporting) = false
-is_running (Some (standing.Reported end)) = false
-is_running (Some (standing.Lost worker cause)) = false
-
-abbrev pub is_reporting : Option Standing → Bool
-is_reporting None = false
-is_reporting (Some standing.Running) = false
-is_reporting (Some standing.Reporting) = true
-is_reporting (Some (standing.Reported end)) = false
-is_reporting (Some (standing.Lost worker cause)) = false
+-- the ticket was given, and its job stands so
+abbrev pub stands : (Standing → Bool) → Option Standing → Bool
+stands is_so None = false
+stands is_so (Some standing) = is_so standing
 
 abbrev pub begin_refusal : Book → WorkerName → ℕ → Option BeginError
 begin_refusal book worker ticket =
     if is_live_in book.state worker
     then (if has_open (open_ticket book.state worker) ticket
-    then (if is_running (standing_in book.state.standings ticket) then None else Some begin.AlreadyReporting)
+    then (if stands is_running (standing_in book.state.standings ticket) then None else Some begin.AlreadyReporting)
     else Some begin.WrongTicket)
     else Some begin.Gone
 
@@ -104,7 +94,7 @@ abbrev pub report_refusal : Book → WorkerName → ℕ → Option ReportError
 report_refusal book worker ticket =
     if is_live_in book.state worker
     then (if has_open (open_ticket book.state worker) ticket
-    then (if is_reporting (standing_in book.state.standings ticket) then None else Some report.NotReporting)
+    then (if stands is_reporting (standing_in book.state.standings ticket) then None else Some report.NotReporting)
     else Some report.WrongTicket)
     else Some report.Gone
 
@@ -115,7 +105,7 @@ lose_refusal book worker = if is_live_in book.state worker then None else Some l
 abbrev pub late_refusal : Book → WorkerName → ℕ → Option ℕ → Option ExpireError
 late_refusal book worker now None = Some expire.NoJob
 late_refusal book worker now (Some ticket) =
-    if is_reporting (standing_in book.state.standings ticket) then Some expire.Reporting
+    if stands is_reporting (standing_in book.state.standings ticket) then Some expire.Reporting
     else if nat_le (slice_index book.state.grab_times worker.slot + book.rules.job_timeout_ms) now then None
     else Some expire.NotLate
 
@@ -128,30 +118,10 @@ expire_refusal book worker now =
 -- what a worker is told after a report
 abbrev pub stay_or_retire : Book → WorkerName → StayOrRetire
 stay_or_retire book worker =
-    if nat_lt (runs_of (slot_in book.state.slots worker.slot) + 1) book.rules.max_runs then Stay else Retire
-
--- memory is no refusal of the machine
-abbrev pub join_due : {A : Type 0} → Result A JoinError → Option JoinError
-join_due (Ok x) = None
-join_due (Err join.Memory) = None
-join_due (Err join.AlreadyLive) = Some join.AlreadyLive
-join_due (Err join.GenerationsUsed) = Some join.GenerationsUsed
-join_due (Err join.HistoryFull) = Some join.HistoryFull
-
-abbrev pub grab_due : {A : Type 0} → Result A GrabError → Option GrabError
-grab_due (Ok x) = None
-grab_due (Err grab.Memory) = None
-grab_due (Err grab.Gone) = Some grab.Gone
-grab_due (Err grab.Busy) = Some grab.Busy
-grab_due (Err grab.HistoryFull) = Some grab.HistoryFull
+    if nat_lt (run_count (slot_in book.state.slots worker.slot) + 1) book.rules.max_runs then Stay else Retire
 
 abbrev pub load_refusal : Book → Option LoadError
 load_refusal book = if has_room book 1 then None else Some load.HistoryFull
-
-abbrev pub load_due : {A : Type 0} → Result A LoadError → Option LoadError
-load_due (Ok x) = None
-load_due (Err load.Memory) = None
-load_due (Err load.HistoryFull) = Some load.HistoryFull
 
 abbrev pub totals_of : Book → Totals
 totals_of book =
@@ -186,12 +156,6 @@ round_refusal book =
     then (if has_round book then None else Some round.HistoryFull)
     else Some round.NoLoad
 
-abbrev pub round_due : {A : Type 0} → Result A RoundError → Option RoundError
-round_due (Ok x) = None
-round_due (Err round.Memory) = None
-round_due (Err round.NoLoad) = Some round.NoLoad
-round_due (Err round.HistoryFull) = Some round.HistoryFull
-
 -- the input now
 abbrev pub IsInput : Book → Instance → Type 0
 IsInput book input = (load : List Line) × (book.state.load ≡ Some load) × (input ≡ input_of book.rules book.state load)
@@ -209,31 +173,13 @@ ran_of (answers.NoPlan short) state = record { number = state.rounds + 1; backlo
 abbrev pub view_refusal : Book → Option ViewError
 view_refusal book = if is_some book.state.load then None else Some view.NoLoad
 
-abbrev pub view_due : {A : Type 0} → Result A ViewError → Option ViewError
-view_due (Ok x) = None
-view_due (Err view.Memory) = None
-view_due (Err view.NoLoad) = Some view.NoLoad
-
 -- The answer keeps the previous plan, cut to what is live and permitted now, where that plan is best and full.
 abbrev pub KeepsPlan : Book → Answer → Type 0
 KeepsPlan book answer =
     IfSome book.state.load (λ load. IfSome book.state.previous (λ plan. IsSteady (input_of book.rules book.state load) plan answer))
 
--- what each answer to an offered input says
-abbrev pub Adopts : {A : Type 0} → Book → Instance → Result A AdoptError → Type 0
-Adopts book input (Ok x) = IsInput book input × (has_round book ≡ true)
-Adopts book input (Err adopt.NoLoad) = book.state.load ≡ None
-Adopts book input (Err adopt.Stale) = (is_some book.state.load ≡ true) × (IsInput book input → ⊥)
-Adopts book input (Err adopt.HistoryFull) = IsInput book input × (has_round book ≡ false)
-Adopts book input (Err adopt.Memory) = IsInput book input × (has_round book ≡ true)
-
 abbrev pub chapter_refusal : Book → Option ChapterError
 chapter_refusal book = if nat_lt book.chapters max_chapters then None else Some chapter.ChaptersUsed
-
-abbrev pub chapter_due : {A : Type 0} → Result A ChapterError → Option ChapterError
-chapter_due (Ok x) = None
-chapter_due (Err chapter.Memory) = None
-chapter_due (Err chapter.ChaptersUsed) = Some chapter.ChaptersUsed
 
 -- the next chapter begins where the last one ended
 abbrev pub next_chapter : Book → Book

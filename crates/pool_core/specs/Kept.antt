@@ -8,13 +8,14 @@ use Rattle.worker_state.specs.declared.job.Standing.{Standing}
 use Rattle.worker_state.specs.declared.job.Standing.TheVariants.{Running}
 use Rattle.worker_state.specs.Orders.{no_order, IsOrder}
 use Rattle.worker_state.specs.Limits.{max_generation}
-use Rattle.worker_state.specs.Slots.{last_generation, runs_of, ticket_of, is_open, is_reported, is_lost, closing_events}
+use Rattle.worker_state.specs.Slots.{last_generation, run_count, held_ticket, is_open, is_reported, is_lost, closing_events}
 use Rattle.pool_core.specs.declared.event.Event.{Event}
 use Rattle.pool_core.specs.Machine.{State, first, Replays, owed}
+use Rattle.pool_core.specs.Book.{Book}
 
 -- the ticket is open in the slot of that number
 abbrev pub OpensAt : List Slot → ℕ → ℕ → Type 0
-OpensAt slots slot ticket = ticket_of (slice_index_or slots slot (Empty 0)) ≡ Some ticket
+OpensAt slots slot ticket = held_ticket (slice_index_or slots slot (Empty 0)) ≡ Some ticket
 
 -- the ticket was given, and its job is running or being reported
 pub record IsOpen (standings : List Standing) (ticket : ℕ) : Type 0 where
@@ -27,10 +28,10 @@ pub record IsSound (rules : Profile) (state : State) : Type 0 where
   pub slots : length state.slots ≡ slot_count rules
   pub grab_times : length state.grab_times ≡ slot_count rules
   pub orders : length state.orders ≡ slot_count rules
-  pub assignments : length state.assignments ≡ length state.standings
+  pub jobs : length state.jobs ≡ length state.standings
   pub generations : (s : ℕ) → last_generation (slice_index_or state.slots s (Empty 0)) ≤ max_generation
   pub ranges : (s : ℕ) → IsOrder (slice_index_or state.orders s no_order)
-  pub runs : (s : ℕ) → runs_of (slice_index_or state.slots s (Empty 0)) < rules.max_runs
+  pub runs : (s : ℕ) → run_count (slice_index_or state.slots s (Empty 0)) < rules.max_runs
   pub tickets : (s : ℕ) (k : ℕ) → OpensAt state.slots s k → IsOpen state.standings k
   pub alone : (s t : ℕ) (k : ℕ) → OpensAt state.slots s k → OpensAt state.slots t k → s ≡ t
   pub held : (k : ℕ) → IsOpen state.standings k → (s : ℕ) × OpensAt state.slots s k
@@ -45,19 +46,25 @@ abbrev pub lost_of : Option ℕ → ℕ
 lost_of None = 0
 lost_of (Some ticket) = 1
 
--- The events of the chapters that have ended, and then those of this one, lead from the first state to the state
-pub record IsChapter (rules : Profile) (chapters : ℕ) (events : List Event) (state : State) : Type 0 where
+-- The base of a chapter, where so many have ended: the events of those lead to it from the first state
+pub record IsBase (rules : Profile) (chapters : ℕ) (base : State) : Type 0 where
   pub before : List Event
   pub none_before : chapters ≡ 0 → before ≡ []
-  pub replays : Replays rules (first rules) (before ++ events) state
+  pub replays : Replays rules (first rules) before base
+
+-- The events of a chapter lead from its base to the state
+pub record IsChapter (rules : Profile) (chapters : ℕ) (events : List Event) (state : State) : Type 0 where
+  pub base : State
+  pub begins : IsBase rules chapters base
+  pub replays : Replays rules base events state
 
 -- the running counts and the room that a pool keeps
-pub record IsKept (rules : Profile) (chapters : ℕ) (events : List Event) (state : State) (owes reported lost capacity : ℕ) : Type 0 where
-  pub in_range : IsProfile rules
-  pub history : IsChapter rules chapters events state
-  pub sound : IsSound rules state
-  pub owes_is : owes ≡ owed state
-  pub reported_is : reported ≡ count_by is_reported state.standings
-  pub lost_is : lost ≡ count_by is_lost state.standings
-  pub within : length events + owes ≤ rules.history
-  pub reserved : length events + owes ≤ capacity
+pub record IsKept (book : Book) (owes reported lost capacity : ℕ) : Type 0 where
+  pub in_range : IsProfile book.rules
+  pub history : IsChapter book.rules book.chapters book.events book.state
+  pub sound : IsSound book.rules book.state
+  pub owes_is : owes ≡ owed book.state
+  pub reported_is : reported ≡ count_by is_reported book.state.standings
+  pub lost_is : lost ≡ count_by is_lost book.state.standings
+  pub within : length book.events + owes ≤ book.rules.history
+  pub reserved : length book.events + owes ≤ capacity

@@ -7,6 +7,7 @@ use Rattle.plan_model.specs.declared.answer.Answer.{Answer}
 use Rattle.plan_model.specs.declared.answer.Answer.TheVariants as answers
 use Rattle.plan_model.specs.Planning.{assigned}
 use Rattle.plan_model.specs.Shown.{Shown, Best}
+use Rattle.worker_state.specs.declared.job.EndKind.{EndKind}
 use Rattle.worker_state.specs.declared.job.Standing.{Standing}
 use Rattle.worker_state.specs.declared.job.Standing.TheVariants as standing
 use Rattle.worker_state.specs.declared.slot.Slot.{Slot}
@@ -15,12 +16,12 @@ use Rattle.worker_state.specs.declared.order.Order.{Order}
 use Rattle.worker_state.specs.declared.cause.Cause.{Cause}
 use Rattle.worker_state.specs.Slots.{is_live, last_generation, is_open, is_reported, is_lost}
 use Rattle.worker_state.specs.Orders.{no_order}
-use Rattle.pool_core.specs.declared.event.Assignment.{Assignment}
+use Rattle.pool_core.specs.declared.event.Job.{Job}
 use Rattle.pool_core.specs.declared.event.Event.{Event}
 use Rattle.pool_core.specs.declared.event.Event.TheVariants as event
-use Rattle.pool_core.specs.Kept.{IsSound}
+use Rattle.pool_core.specs.Kept.{IsBase, IsSound}
 use Rattle.pool_core.specs.Machine.{State, first, slot_in, standing_in, is_live_in, open_ticket, what_of, input_of, after_round, replay, IsHistory, Replays}
-use Rattle.pool_core.specs.Book.{Book, IsStep, next_chapter}
+use Rattle.pool_core.specs.Book.{Book, IsStep, next_chapter, totals_of}
 
 -- the generation of the next worker of a slot
 abbrev pub next_generation : State → ℕ → ℕ
@@ -32,7 +33,7 @@ order_in orders slot = slice_index_or orders slot no_order
 
 -- The jobs have only grown, one that is reported or lost stands as it did, and no slot's last generation is smaller
 pub record Extends (old new : State) : Type 0 where
-  pub jobs : (more : List Assignment) × (new.assignments ≡ old.assignments ++ more)
+  pub jobs : (more : List Job) × (new.jobs ≡ old.jobs ++ more)
   pub closed : (k : ℕ) (x : Standing) → standing_in old.standings k ≡ Some x → is_open x ≡ false → standing_in new.standings k ≡ Some x
   pub generations : (s : ℕ) → last_generation (slot_in old.slots s) ≤ last_generation (slot_in new.slots s)
 
@@ -55,7 +56,7 @@ is_report (event.Reported worker ticket end) = true
 is_report (event.Lost worker cause) = false
 
 -- the job that an event grabs, and the worker that grabs it
-abbrev pub job_of : Event → Option Assignment
+abbrev pub job_of : Event → Option Job
 job_of (event.Join slot) = None
 job_of (event.Load load) = None
 job_of (event.Round answer) = None
@@ -74,7 +75,7 @@ grabber_of (event.Reported worker ticket end) = None
 grabber_of (event.Lost worker cause) = None
 
 -- the jobs that events grab, and the workers that grab them, in the order of the tickets
-abbrev pub grabbed_jobs : List Event → List Assignment
+abbrev pub grabbed_jobs : List Event → List Job
 grabbed_jobs events = filter_map job_of events
 
 abbrev pub grabbers : List Event → List WorkerName
@@ -103,7 +104,8 @@ HistoriesExtend =
 
 -- Each job is running, reported or lost, and each was grabbed by one event and reported by at most one
 pub record IsCounted (events : List Event) (state : State) : Type 0 where
-  pub sum : length state.standings ≡ count_by is_open state.standings + count_by is_reported state.standings + count_by is_lost state.standings
+  pub sum : length state.standings
+      ≡ count_by is_open state.standings + count_by is_reported state.standings + count_by is_lost state.standings
   pub grabs : length state.standings ≡ count_by is_grab events
   pub reports : count_by is_reported state.standings ≡ count_by is_report events
 
@@ -114,7 +116,8 @@ HistoriesCount =
 
 -- The same from any sound base: the base's numbers, and those of the chapter's events
 pub record IsCountedFrom (base : State) (events : List Event) (state : State) : Type 0 where
-  pub sum : length state.standings ≡ count_by is_open state.standings + count_by is_reported state.standings + count_by is_lost state.standings
+  pub sum : length state.standings
+      ≡ count_by is_open state.standings + count_by is_reported state.standings + count_by is_lost state.standings
   pub grabs : length state.standings ≡ length base.standings + count_by is_grab events
   pub reports : count_by is_reported state.standings ≡ count_by is_reported base.standings + count_by is_report events
 
@@ -131,7 +134,7 @@ HistoriesAreSound =
 
 -- The jobs are those that were grabbed; a job that is reported was so by one event, and every other by none
 pub record IsBooked (events : List Event) (state : State) : Type 0 where
-  pub jobs : state.assignments ≡ grabbed_jobs events
+  pub jobs : state.jobs ≡ grabbed_jobs events
   pub reports : (k : ℕ) → count_by (is_report_of k) events ≡ times_reported (standing_in state.standings k)
 
 abbrev pub JobsAreBookedOnce : Type 0
@@ -147,20 +150,32 @@ JobsAreLostWithTheirWorkers =
     → standing_in (replay rules (first rules) events).standings k ≡ Some (standing.Lost worker cause)
     → slice_get (grabbers events) (k - 1) ≡ Some worker
 
+-- the event is one of these
+abbrev pub Happened : Event → List Event → Type 0
+Happened e events = (earlier : List Event) × (later : List Event) × (events ≡ earlier ++ e ∷ later)
+
+-- the worker that grabbed the job of this ticket has reported it, with this end
+abbrev pub IsReportedByGrabber : List Event → ℕ → EndKind → Type 0
+IsReportedByGrabber events k end =
+    (worker : WorkerName) × (slice_get (grabbers events) (k - 1) ≡ Some worker)
+    × Happened (event.Reported worker k end) events
+
 -- the live worker that has the job of this ticket is the one that grabbed it
 abbrev pub IsHeldByGrabber : List Event → State → ℕ → Type 0
 IsHeldByGrabber events state k =
     (worker : WorkerName) × (slice_get (grabbers events) (k - 1) ≡ Some worker)
     × IsTrue (is_live_in state worker) × (open_ticket state worker ≡ Some k)
 
--- What a history says of a job, by how it stands: it goes on with the worker that grabbed it, it was reported by one event, or it is
--- lost with the worker that grabbed it; and but for the second no event reported it
+-- What a history says of a job, by how it stands: it goes on with the worker that grabbed it; it was reported by one event, of that
+-- worker and with that end; or it is lost with that worker by an event of that cause. But for the second no event reported it
 abbrev pub IsAccountedFor : List Event → State → ℕ → Standing → Type 0
 IsAccountedFor events state k standing.Running = IsHeldByGrabber events state k × (count_by (is_report_of k) events ≡ 0)
 IsAccountedFor events state k standing.Reporting = IsHeldByGrabber events state k × (count_by (is_report_of k) events ≡ 0)
-IsAccountedFor events state k (standing.Reported end) = count_by (is_report_of k) events ≡ 1
+IsAccountedFor events state k (standing.Reported end) =
+    IsReportedByGrabber events k end × (count_by (is_report_of k) events ≡ 1)
 IsAccountedFor events state k (standing.Lost worker cause) =
-    (slice_get (grabbers events) (k - 1) ≡ Some worker) × (count_by (is_report_of k) events ≡ 0)
+    (slice_get (grabbers events) (k - 1) ≡ Some worker) × Happened (event.Lost worker cause) events
+    × (count_by (is_report_of k) events ≡ 0)
 
 -- Each grabbed job is running, reported once, or lost with its named worker
 abbrev pub JobsAreAccountedFor : Type 0
@@ -178,29 +193,56 @@ WorkersAreNew =
     → next_generation (replay rules (first rules) earlier) slot
     < next_generation (replay rules (first rules) (earlier ++ event.Join slot ∷ between)) slot
 
--- After a round with a plan the order of each live worker is its function by the plan, and the order of an empty slot is as it was
-pub record FollowsPlan (plan : List (ℕ × Option ℕ)) (slots : List Slot) (old new : List Order) : Type 0 where
+-- After a round with a plan the order of each live worker is its function by the plan, for its generation. Where that was its order
+-- before, the order stays, its number too; where not, it has the number of this round. The order of an empty slot is as it was
+pub record FollowsPlan (plan : List (ℕ × Option ℕ)) (round : ℕ) (slots : List Slot) (old new : List Order) : Type 0 where
   pub live : (s : ℕ) → IsTrue (is_live (slot_in slots s))
       → ((order_in new s).generation ≡ last_generation (slot_in slots s)) × ((order_in new s).what ≡ what_of (assigned plan s))
+  pub stays : (s : ℕ) → IsTrue (is_live (slot_in slots s)) → (order_in old s).generation ≡ last_generation (slot_in slots s)
+      → (order_in old s).what ≡ what_of (assigned plan s) → order_in new s ≡ order_in old s
+  pub numbered : (s : ℕ) → IsTrue (is_live (slot_in slots s)) → (order_in new s ≡ order_in old s) ⊎ ((order_in new s).round ≡ round)
   pub empty : (s : ℕ) → is_live (slot_in slots s) ≡ false → order_in new s ≡ order_in old s
 
 abbrev pub RoundsOrder : Type 0
 RoundsOrder =
     (rules : Profile) (state : State) → IsSound rules state → (plan : List (ℕ × Option ℕ)) (backlog : ℕ) (short : Option (List ℕ))
-    → FollowsPlan plan state.slots state.orders (after_round (answers.Planned plan backlog short) state).orders
+    → FollowsPlan plan (state.rounds + 1) state.slots state.orders (after_round (answers.Planned plan backlog short) state).orders
 
 -- Each round of a history holds an answer that is shown for the input of the state before it, and so is best of all plans
 abbrev pub RoundsAreShown : Type 0
 RoundsAreShown =
-    (rules : Profile) (base : State) (earlier later : List Event) (answer : Answer) → IsHistory rules base (earlier ++ event.Round answer ∷ later)
+    (rules : Profile) (base : State) (earlier later : List Event) (answer : Answer)
+    → IsHistory rules base (earlier ++ event.Round answer ∷ later)
     → (load : List Line) × ((replay rules base earlier).load ≡ Some load)
     × Shown (input_of rules (replay rules base earlier) load) answer × Best (input_of rules (replay rules base earlier) load) answer
 
 -- Joined lists of events replay one after the other
 abbrev pub HistoriesJoin : Type 0
 HistoriesJoin =
-    (rules : Profile) (base : State) (earlier later : List Event) → IsHistory rules base earlier → IsHistory rules (replay rules base earlier) later
+    (rules : Profile) (base : State) (earlier later : List Event)
+    → IsHistory rules base earlier → IsHistory rules (replay rules base earlier) later
     → IsHistory rules base (earlier ++ later) × (replay rules base (earlier ++ later) ≡ replay rules (replay rules base earlier) later)
+
+-- A history that is cut anywhere, as at the end of a chapter, is two: the first leads to a base, and the second goes on from it
+abbrev pub HistoriesCut : Type 0
+HistoriesCut =
+    (rules : Profile) (base : State) (earlier later : List Event) → IsHistory rules base (earlier ++ later)
+    → IsHistory rules base earlier × IsHistory rules (replay rules base earlier) later
+    × (replay rules base (earlier ++ later) ≡ replay rules (replay rules base earlier) later)
+
+-- The base of each chapter of a pool is sound
+abbrev pub BasesAreSound : Type 0
+BasesAreSound = (rules : Profile) → IsProfile rules → (chapters : ℕ) (base : State) → IsBase rules chapters base → IsSound rules base
+
+abbrev pub one_if : Bool → ℕ
+one_if holds = if holds then 1 else 0
+
+-- Each event that may come next counts as one grab, as one report, or as neither
+abbrev pub EventsCount : Book → Type 0
+EventsCount book =
+    (e : Event) (new : Book) → IsStep e book new
+    → ((totals_of new).grabbed ≡ (totals_of book).grabbed + one_if (is_grab e))
+    × ((totals_of new).reported ≡ (totals_of book).reported + one_if (is_report e))
 
 -- One call: nothing, or one event
 abbrev pub Called : Book → Book → Type 0

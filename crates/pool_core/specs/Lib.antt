@@ -3,5 +3,6 @@ pub mod Walk
 pub mod Refusal
 pub mod Book
 pub mod Kept
+pub mod Calls
 pub mod View
 pub mod Laws

@@ -18,9 +18,9 @@ use Rattle.worker_state.specs.declared.cause.Cause.{Cause}
 use Rattle.worker_state.specs.declared.job.Standing.{Standing}
 use Rattle.worker_state.specs.declared.job.Standing.TheVariants as standing
 use Rattle.worker_state.specs.Limits.{max_generation}
-use Rattle.worker_state.specs.Slots.{is_live, last_generation, runs_of, ticket_of, closing_events}
+use Rattle.worker_state.specs.Slots.{has_generation, is_live, last_generation, run_count, held_ticket, closing_events}
 use Rattle.worker_state.specs.Orders.{no_order}
-use Rattle.pool_core.specs.declared.event.Assignment.{Assignment}
+use Rattle.pool_core.specs.declared.event.Job.{Job}
 use Rattle.pool_core.specs.declared.event.Event.{Event}
 use Rattle.pool_core.specs.declared.event.Event.TheVariants as event
 
@@ -30,7 +30,7 @@ pub record State : Type 0 where
   pub grab_times : List ℕ
   pub orders : List Order
   pub load : Option (List Line)
-  pub assignments : List Assignment
+  pub jobs : List Job
   pub standings : List Standing
   pub previous : Option (List (ℕ × Option ℕ))
   pub rounds : ℕ
@@ -42,7 +42,7 @@ first rules =
       grab_times = replicate (slot_count rules) 0;
       orders = replicate (slot_count rules) no_order;
       load = None;
-      assignments = [];
+      jobs = [];
       standings = [];
       previous = None;
       rounds = 0;
@@ -51,11 +51,6 @@ first rules =
 -- what the slot holds; a slot that is not there holds nothing
 abbrev pub slot_in : List Slot → ℕ → Slot
 slot_in slots slot = slice_index_or slots slot (Empty 0)
-
--- the worker of that generation is in the slot
-abbrev pub has_generation : Slot → ℕ → Bool
-has_generation (Empty last) generation = false
-has_generation (Live own runs ticket) generation = own == generation
 
 -- the ticket is open in the slot
 abbrev pub has_open : Option ℕ → ℕ → Bool
@@ -66,14 +61,14 @@ has_open (Some own) ticket = own == ticket
 abbrev pub standing_in : List Standing → ℕ → Option Standing
 standing_in standings ticket = if ticket == 0 then None else slice_get standings (ticket - 1)
 
-abbrev pub assignment_in : List Assignment → ℕ → Option Assignment
-assignment_in assignments ticket = if ticket == 0 then None else slice_get assignments (ticket - 1)
+abbrev pub job_in : List Job → ℕ → Option Job
+job_in jobs ticket = if ticket == 0 then None else slice_get jobs (ticket - 1)
 
 abbrev pub is_live_in : State → WorkerName → Bool
 is_live_in state worker = has_generation (slot_in state.slots worker.slot) worker.generation
 
 abbrev pub open_ticket : State → WorkerName → Option ℕ
-open_ticket state worker = ticket_of (slot_in state.slots worker.slot)
+open_ticket state worker = held_ticket (slot_in state.slots worker.slot)
 
 abbrev pub next_ticket : State → ℕ
 next_ticket state = length state.standings + 1
@@ -168,16 +163,16 @@ after rules (event.Load load) state = record state { load = Some load }
 after rules (event.Round answer) state = after_round answer state
 after rules (event.Grab worker handle function now) state =
     record state {
-      slots = with_slot state worker.slot (Live worker.generation (runs_of (slot_in state.slots worker.slot)) (Some (next_ticket state)));
+      slots = with_slot state worker.slot (Live worker.generation (run_count (slot_in state.slots worker.slot)) (Some (next_ticket state)));
       grab_times = slice_set state.grab_times worker.slot now;
-      assignments = state.assignments ++ record { handle = handle; function = function } ∷ [];
+      jobs = state.jobs ++ record { handle = handle; function = function } ∷ [];
       standings = state.standings ++ standing.Running ∷ [];
     }
 after rules (event.Begin worker ticket) state =
     record state { standings = with_standing state.standings ticket standing.Reporting }
 after rules (event.Reported worker ticket end) state =
     record state {
-      slots = with_slot state worker.slot (slot_after_run rules worker.generation (runs_of (slot_in state.slots worker.slot)));
+      slots = with_slot state worker.slot (slot_after_run rules worker.generation (run_count (slot_in state.slots worker.slot)));
       standings = with_standing state.standings ticket (standing.Reported end);
     }
 after rules (event.Lost worker cause) state =

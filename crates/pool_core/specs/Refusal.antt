@@ -1,5 +1,7 @@
--- The numbers and names of refusals, as lines print them: the place of each in the order in which its call looks, from 1.
-use Rattle.std.specs.Prelude.{ℕ, List, codes}
+-- The labels of refusals, as lines print them, each with its place in the order in which its call looks, from 1; and which one is
+-- want of memory.
+use Rattle.std.specs.Prelude.{Bool, true, false, codes}
+use Rattle.refusal.specs.Label.{Label, label}
 use Rattle.pool_core.specs.declared.error.JoinError.{JoinError}
 use Rattle.pool_core.specs.declared.error.JoinError.TheVariants as join
 use Rattle.pool_core.specs.declared.error.LoadError.{LoadError}
@@ -23,110 +25,91 @@ use Rattle.pool_core.specs.declared.error.ExpireError.TheVariants as expire
 use Rattle.pool_core.specs.declared.error.ChapterError.{ChapterError}
 use Rattle.pool_core.specs.declared.error.ChapterError.TheVariants as chapter
 
-abbrev pub join_number : JoinError → ℕ
-join_number join.AlreadyLive = 1
-join_number join.GenerationsUsed = 2
-join_number join.HistoryFull = 3
-join_number join.Memory = 4
+abbrev pub join_label : JoinError → Label
+join_label join.AlreadyLive = label 1 (codes "AlreadyLive")
+join_label join.GenerationsUsed = label 2 (codes "GenerationsUsed")
+join_label join.HistoryFull = label 3 (codes "HistoryFull")
+join_label join.Memory = label 4 (codes "Memory")
 
-abbrev pub join_name : JoinError → List ℕ
-join_name join.AlreadyLive = codes "AlreadyLive"
-join_name join.GenerationsUsed = codes "GenerationsUsed"
-join_name join.HistoryFull = codes "HistoryFull"
-join_name join.Memory = codes "Memory"
+abbrev pub is_join_memory : JoinError → Bool
+is_join_memory join.AlreadyLive = false
+is_join_memory join.GenerationsUsed = false
+is_join_memory join.HistoryFull = false
+is_join_memory join.Memory = true
 
-abbrev pub load_number : LoadError → ℕ
-load_number load.HistoryFull = 1
-load_number load.Memory = 2
+abbrev pub load_label : LoadError → Label
+load_label load.HistoryFull = label 1 (codes "HistoryFull")
+load_label load.Memory = label 2 (codes "Memory")
 
-abbrev pub load_name : LoadError → List ℕ
-load_name load.HistoryFull = codes "HistoryFull"
-load_name load.Memory = codes "Memory"
+abbrev pub is_load_memory : LoadError → Bool
+is_load_memory load.HistoryFull = false
+is_load_memory load.Memory = true
 
-abbrev pub round_number : RoundError → ℕ
-round_number round.NoLoad = 1
-round_number round.HistoryFull = 2
-round_number round.Memory = 3
+abbrev pub round_label : RoundError → Label
+round_label round.NoLoad = label 1 (codes "NoLoad")
+round_label round.HistoryFull = label 2 (codes "HistoryFull")
+round_label round.Memory = label 3 (codes "Memory")
 
-abbrev pub round_name : RoundError → List ℕ
-round_name round.NoLoad = codes "NoLoad"
-round_name round.HistoryFull = codes "HistoryFull"
-round_name round.Memory = codes "Memory"
+abbrev pub is_round_memory : RoundError → Bool
+is_round_memory round.NoLoad = false
+is_round_memory round.HistoryFull = false
+is_round_memory round.Memory = true
 
-abbrev pub view_number : ViewError → ℕ
-view_number view.NoLoad = 1
-view_number view.Memory = 2
+abbrev pub view_label : ViewError → Label
+view_label view.NoLoad = label 1 (codes "NoLoad")
+view_label view.Memory = label 2 (codes "Memory")
 
-abbrev pub view_name : ViewError → List ℕ
-view_name view.NoLoad = codes "NoLoad"
-view_name view.Memory = codes "Memory"
+abbrev pub is_view_memory : ViewError → Bool
+is_view_memory view.NoLoad = false
+is_view_memory view.Memory = true
 
-abbrev pub adopt_number : AdoptError → ℕ
-adopt_number adopt.NoLoad = 1
-adopt_number adopt.Stale = 2
-adopt_number adopt.HistoryFull = 3
-adopt_number adopt.Memory = 4
+abbrev pub adopt_label : AdoptError → Label
+adopt_label adopt.NoLoad = label 1 (codes "NoLoad")
+adopt_label adopt.Stale = label 2 (codes "Stale")
+adopt_label adopt.HistoryFull = label 3 (codes "HistoryFull")
+adopt_label adopt.Memory = label 4 (codes "Memory")
 
-abbrev pub adopt_name : AdoptError → List ℕ
-adopt_name adopt.NoLoad = codes "NoLoad"
-adopt_name adopt.Stale = codes "Stale"
-adopt_name adopt.HistoryFull = codes "HistoryFull"
-adopt_name adopt.Memory = codes "Memory"
+abbrev pub is_adopt_memory : AdoptError → Bool
+is_adopt_memory adopt.NoLoad = false
+is_adopt_memory adopt.Stale = false
+is_adopt_memory adopt.HistoryFull = false
+is_adopt_memory adopt.Memory = true
 
-abbrev pub grab_number : GrabError → ℕ
-grab_number grab.Gone = 1
-grab_number grab.Busy = 2
-grab_number grab.HistoryFull = 3
-grab_number grab.Memory = 4
+abbrev pub grab_label : GrabError → Label
+grab_label grab.Gone = label 1 (codes "Gone")
+grab_label grab.Busy = label 2 (codes "Busy")
+grab_label grab.HistoryFull = label 3 (codes "HistoryFull")
+grab_label grab.Memory = label 4 (codes "Memory")
 
-abbrev pub grab_name : GrabError → List ℕ
-grab_name grab.Gone = codes "Gone"
-grab_name grab.Busy = codes "Busy"
-grab_name grab.HistoryFull = codes "HistoryFull"
-grab_name grab.Memory = codes "Memory"
+abbrev pub is_grab_memory : GrabError → Bool
+is_grab_memory grab.Gone = false
+is_grab_memory grab.Busy = false
+is_grab_memory grab.HistoryFull = false
+is_grab_memory grab.Memory = true
 
-abbrev pub begin_number : BeginError → ℕ
-begin_number begin.Gone = 1
-begin_number begin.WrongTicket = 2
-begin_number begin.AlreadyReporting = 3
+abbrev pub begin_label : BeginError → Label
+begin_label begin.Gone = label 1 (codes "Gone")
+begin_label begin.WrongTicket = label 2 (codes "WrongTicket")
+begin_label begin.AlreadyReporting = label 3 (codes "AlreadyReporting")
 
-abbrev pub begin_name : BeginError → List ℕ
-begin_name begin.Gone = codes "Gone"
-begin_name begin.WrongTicket = codes "WrongTicket"
-begin_name begin.AlreadyReporting = codes "AlreadyReporting"
+abbrev pub report_label : ReportError → Label
+report_label report.Gone = label 1 (codes "Gone")
+report_label report.WrongTicket = label 2 (codes "WrongTicket")
+report_label report.NotReporting = label 3 (codes "NotReporting")
 
-abbrev pub report_number : ReportError → ℕ
-report_number report.Gone = 1
-report_number report.WrongTicket = 2
-report_number report.NotReporting = 3
+abbrev pub lose_label : LoseError → Label
+lose_label lose.Gone = label 1 (codes "Gone")
 
-abbrev pub report_name : ReportError → List ℕ
-report_name report.Gone = codes "Gone"
-report_name report.WrongTicket = codes "WrongTicket"
-report_name report.NotReporting = codes "NotReporting"
+abbrev pub expire_label : ExpireError → Label
+expire_label expire.Gone = label 1 (codes "Gone")
+expire_label expire.NoJob = label 2 (codes "NoJob")
+expire_label expire.Reporting = label 3 (codes "Reporting")
+expire_label expire.NotLate = label 4 (codes "NotLate")
 
-abbrev pub lose_number : LoseError → ℕ
-lose_number lose.Gone = 1
+abbrev pub chapter_label : ChapterError → Label
+chapter_label chapter.ChaptersUsed = label 1 (codes "ChaptersUsed")
+chapter_label chapter.Memory = label 2 (codes "Memory")
 
-abbrev pub lose_name : LoseError → List ℕ
-lose_name lose.Gone = codes "Gone"
-
-abbrev pub expire_number : ExpireError → ℕ
-expire_number expire.Gone = 1
-expire_number expire.NoJob = 2
-expire_number expire.Reporting = 3
-expire_number expire.NotLate = 4
-
-abbrev pub expire_name : ExpireError → List ℕ
-expire_name expire.Gone = codes "Gone"
-expire_name expire.NoJob = codes "NoJob"
-expire_name expire.Reporting = codes "Reporting"
-expire_name expire.NotLate = codes "NotLate"
-
-abbrev pub chapter_number : ChapterError → ℕ
-chapter_number chapter.ChaptersUsed = 1
-chapter_number chapter.Memory = 2
-
-abbrev pub chapter_name : ChapterError → List ℕ
-chapter_name chapter.ChaptersUsed = codes "ChaptersUsed"
-chapter_name chapter.Memory = codes "Memory"
+abbrev pub is_chapter_memory : ChapterError → Bool
+is_chapter_memory chapter.ChaptersUsed = false
+is_chapter_memory chapter.Memory = true

@@ -2,8 +2,8 @@
 //! is true, the first is answered, and nothing has changed.
 
 ghost use Rattle.std.specs.Prelude.{◌≡◌};
-ghost use Rattle.pool_core.specs.Refusal.{join_number, join_name, load_number, load_name, round_number, round_name, view_number, view_name, adopt_number, adopt_name, grab_number, grab_name, begin_number, begin_name, report_number, report_name, lose_number, lose_name, expire_number, expire_name, chapter_number, chapter_name};
 
+use refusal::{Label, Labelled, Refusal};
 use std::alloc::AllocError;
 use thiserror::Error;
 
@@ -24,30 +24,25 @@ pub enum JoinError {
     Memory,
 }
 
-impl JoinError {
-    /// The number of this refusal, from 1 for [`AlreadyLive`](JoinError::AlreadyLive) to 4 for [`Memory`](JoinError::Memory).
-    pub fn number(self) -> u32
-        ensures { result ≡ join_number self }
-    {
-        match self {
-            JoinError::AlreadyLive => 1,
-            JoinError::GenerationsUsed => 2,
-            JoinError::HistoryFull => 3,
-            JoinError::Memory => 4,
-        }
-    }
+impl Labelled for JoinError {
+    ghost use Rattle.pool_core.specs.Refusal.{join_label};
 
-    /// The name of this refusal, as lines print it: that of its variant.
-    pub fn name(self) -> &'static str
-        ensures { result.now ≡ join_name self }
-    {
+    ghost label = { join_label };
+
+    fn label(&self) -> Label {
         match self {
-            JoinError::AlreadyLive => "AlreadyLive",
-            JoinError::GenerationsUsed => "GenerationsUsed",
-            JoinError::HistoryFull => "HistoryFull",
-            JoinError::Memory => "Memory",
+            JoinError::AlreadyLive => Label::new(1, "AlreadyLive"),
+            JoinError::GenerationsUsed => Label::new(2, "GenerationsUsed"),
+            JoinError::HistoryFull => Label::new(3, "HistoryFull"),
+            JoinError::Memory => Label::new(4, "Memory"),
         }
     }
+}
+
+impl Refusal for JoinError {
+    ghost use Rattle.pool_core.specs.Refusal.{is_join_memory};
+
+    ghost is_memory = { is_join_memory };
 }
 
 /// Why a load was not taken.
@@ -61,26 +56,23 @@ pub enum LoadError {
     Memory,
 }
 
-impl LoadError {
-    /// The number of this refusal, from 1 for [`HistoryFull`](LoadError::HistoryFull) to 2 for [`Memory`](LoadError::Memory).
-    pub fn number(self) -> u32
-        ensures { result ≡ load_number self }
-    {
-        match self {
-            LoadError::HistoryFull => 1,
-            LoadError::Memory => 2,
-        }
-    }
+impl Labelled for LoadError {
+    ghost use Rattle.pool_core.specs.Refusal.{load_label};
 
-    /// The name of this refusal, as lines print it: that of its variant.
-    pub fn name(self) -> &'static str
-        ensures { result.now ≡ load_name self }
-    {
+    ghost label = { load_label };
+
+    fn label(&self) -> Label {
         match self {
-            LoadError::HistoryFull => "HistoryFull",
-            LoadError::Memory => "Memory",
+            LoadError::HistoryFull => Label::new(1, "HistoryFull"),
+            LoadError::Memory => Label::new(2, "Memory"),
         }
     }
+}
+
+impl Refusal for LoadError {
+    ghost use Rattle.pool_core.specs.Refusal.{is_load_memory};
+
+    ghost is_memory = { is_load_memory };
 }
 
 /// Why no round was made.
@@ -97,28 +89,24 @@ pub enum RoundError {
     Memory,
 }
 
-impl RoundError {
-    /// The number of this refusal, from 1 for [`NoLoad`](RoundError::NoLoad) to 3 for [`Memory`](RoundError::Memory).
-    pub fn number(self) -> u32
-        ensures { result ≡ round_number self }
-    {
-        match self {
-            RoundError::NoLoad => 1,
-            RoundError::HistoryFull => 2,
-            RoundError::Memory => 3,
-        }
-    }
+impl Labelled for RoundError {
+    ghost use Rattle.pool_core.specs.Refusal.{round_label};
 
-    /// The name of this refusal, as lines print it: that of its variant.
-    pub fn name(self) -> &'static str
-        ensures { result.now ≡ round_name self }
-    {
+    ghost label = { round_label };
+
+    fn label(&self) -> Label {
         match self {
-            RoundError::NoLoad => "NoLoad",
-            RoundError::HistoryFull => "HistoryFull",
-            RoundError::Memory => "Memory",
+            RoundError::NoLoad => Label::new(1, "NoLoad"),
+            RoundError::HistoryFull => Label::new(2, "HistoryFull"),
+            RoundError::Memory => Label::new(3, "Memory"),
         }
     }
+}
+
+impl Refusal for RoundError {
+    ghost use Rattle.pool_core.specs.Refusal.{is_round_memory};
+
+    ghost is_memory = { is_round_memory };
 }
 
 /// Why there is nothing to plan for.
@@ -132,26 +120,23 @@ pub enum ViewError {
     Memory,
 }
 
-impl ViewError {
-    /// The number of this refusal, from 1 for [`NoLoad`](ViewError::NoLoad) to 2 for [`Memory`](ViewError::Memory).
-    pub fn number(self) -> u32
-        ensures { result ≡ view_number self }
-    {
-        match self {
-            ViewError::NoLoad => 1,
-            ViewError::Memory => 2,
-        }
-    }
+impl Labelled for ViewError {
+    ghost use Rattle.pool_core.specs.Refusal.{view_label};
 
-    /// The name of this refusal, as lines print it: that of its variant.
-    pub fn name(self) -> &'static str
-        ensures { result.now ≡ view_name self }
-    {
+    ghost label = { view_label };
+
+    fn label(&self) -> Label {
         match self {
-            ViewError::NoLoad => "NoLoad",
-            ViewError::Memory => "Memory",
+            ViewError::NoLoad => Label::new(1, "NoLoad"),
+            ViewError::Memory => Label::new(2, "Memory"),
         }
     }
+}
+
+impl Refusal for ViewError {
+    ghost use Rattle.pool_core.specs.Refusal.{is_view_memory};
+
+    ghost is_memory = { is_view_memory };
 }
 
 /// Why an answer was not adopted.
@@ -171,30 +156,25 @@ pub enum AdoptError {
     Memory,
 }
 
-impl AdoptError {
-    /// The number of this refusal, from 1 for [`NoLoad`](AdoptError::NoLoad) to 4 for [`Memory`](AdoptError::Memory).
-    pub fn number(self) -> u32
-        ensures { result ≡ adopt_number self }
-    {
-        match self {
-            AdoptError::NoLoad => 1,
-            AdoptError::Stale => 2,
-            AdoptError::HistoryFull => 3,
-            AdoptError::Memory => 4,
-        }
-    }
+impl Labelled for AdoptError {
+    ghost use Rattle.pool_core.specs.Refusal.{adopt_label};
 
-    /// The name of this refusal, as lines print it: that of its variant.
-    pub fn name(self) -> &'static str
-        ensures { result.now ≡ adopt_name self }
-    {
+    ghost label = { adopt_label };
+
+    fn label(&self) -> Label {
         match self {
-            AdoptError::NoLoad => "NoLoad",
-            AdoptError::Stale => "Stale",
-            AdoptError::HistoryFull => "HistoryFull",
-            AdoptError::Memory => "Memory",
+            AdoptError::NoLoad => Label::new(1, "NoLoad"),
+            AdoptError::Stale => Label::new(2, "Stale"),
+            AdoptError::HistoryFull => Label::new(3, "HistoryFull"),
+            AdoptError::Memory => Label::new(4, "Memory"),
         }
     }
+}
+
+impl Refusal for AdoptError {
+    ghost use Rattle.pool_core.specs.Refusal.{is_adopt_memory};
+
+    ghost is_memory = { is_adopt_memory };
 }
 
 /// Why a job was not booked.
@@ -214,30 +194,25 @@ pub enum GrabError {
     Memory,
 }
 
-impl GrabError {
-    /// The number of this refusal, from 1 for [`Gone`](GrabError::Gone) to 4 for [`Memory`](GrabError::Memory).
-    pub fn number(self) -> u32
-        ensures { result ≡ grab_number self }
-    {
-        match self {
-            GrabError::Gone => 1,
-            GrabError::Busy => 2,
-            GrabError::HistoryFull => 3,
-            GrabError::Memory => 4,
-        }
-    }
+impl Labelled for GrabError {
+    ghost use Rattle.pool_core.specs.Refusal.{grab_label};
 
-    /// The name of this refusal, as lines print it: that of its variant.
-    pub fn name(self) -> &'static str
-        ensures { result.now ≡ grab_name self }
-    {
+    ghost label = { grab_label };
+
+    fn label(&self) -> Label {
         match self {
-            GrabError::Gone => "Gone",
-            GrabError::Busy => "Busy",
-            GrabError::HistoryFull => "HistoryFull",
-            GrabError::Memory => "Memory",
+            GrabError::Gone => Label::new(1, "Gone"),
+            GrabError::Busy => Label::new(2, "Busy"),
+            GrabError::HistoryFull => Label::new(3, "HistoryFull"),
+            GrabError::Memory => Label::new(4, "Memory"),
         }
     }
+}
+
+impl Refusal for GrabError {
+    ghost use Rattle.pool_core.specs.Refusal.{is_grab_memory};
+
+    ghost is_memory = { is_grab_memory };
 }
 
 /// Why a report may not begin.
@@ -254,28 +229,24 @@ pub enum BeginError {
     AlreadyReporting,
 }
 
-impl BeginError {
-    /// The number of this refusal, from 1 for [`Gone`](BeginError::Gone) to 3 for [`AlreadyReporting`](BeginError::AlreadyReporting).
-    pub fn number(self) -> u32
-        ensures { result ≡ begin_number self }
-    {
-        match self {
-            BeginError::Gone => 1,
-            BeginError::WrongTicket => 2,
-            BeginError::AlreadyReporting => 3,
-        }
-    }
+impl Labelled for BeginError {
+    ghost use Rattle.pool_core.specs.Refusal.{begin_label};
 
-    /// The name of this refusal, as lines print it: that of its variant.
-    pub fn name(self) -> &'static str
-        ensures { result.now ≡ begin_name self }
-    {
+    ghost label = { begin_label };
+
+    fn label(&self) -> Label {
         match self {
-            BeginError::Gone => "Gone",
-            BeginError::WrongTicket => "WrongTicket",
-            BeginError::AlreadyReporting => "AlreadyReporting",
+            BeginError::Gone => Label::new(1, "Gone"),
+            BeginError::WrongTicket => Label::new(2, "WrongTicket"),
+            BeginError::AlreadyReporting => Label::new(3, "AlreadyReporting"),
         }
     }
+}
+
+impl Refusal for BeginError {
+    ghost use Rattle.refusal.specs.Label.{never};
+
+    ghost is_memory = { never };
 }
 
 /// Why a report was not taken.
@@ -292,28 +263,24 @@ pub enum ReportError {
     NotReporting,
 }
 
-impl ReportError {
-    /// The number of this refusal, from 1 for [`Gone`](ReportError::Gone) to 3 for [`NotReporting`](ReportError::NotReporting).
-    pub fn number(self) -> u32
-        ensures { result ≡ report_number self }
-    {
-        match self {
-            ReportError::Gone => 1,
-            ReportError::WrongTicket => 2,
-            ReportError::NotReporting => 3,
-        }
-    }
+impl Labelled for ReportError {
+    ghost use Rattle.pool_core.specs.Refusal.{report_label};
 
-    /// The name of this refusal, as lines print it: that of its variant.
-    pub fn name(self) -> &'static str
-        ensures { result.now ≡ report_name self }
-    {
+    ghost label = { report_label };
+
+    fn label(&self) -> Label {
         match self {
-            ReportError::Gone => "Gone",
-            ReportError::WrongTicket => "WrongTicket",
-            ReportError::NotReporting => "NotReporting",
+            ReportError::Gone => Label::new(1, "Gone"),
+            ReportError::WrongTicket => Label::new(2, "WrongTicket"),
+            ReportError::NotReporting => Label::new(3, "NotReporting"),
         }
     }
+}
+
+impl Refusal for ReportError {
+    ghost use Rattle.refusal.specs.Label.{never};
+
+    ghost is_memory = { never };
 }
 
 /// Why a worker was not lost.
@@ -324,24 +291,22 @@ pub enum LoseError {
     Gone,
 }
 
-impl LoseError {
-    /// The number of this refusal: 1 for [`Gone`](LoseError::Gone), the only one.
-    pub fn number(self) -> u32
-        ensures { result ≡ lose_number self }
-    {
-        match self {
-            LoseError::Gone => 1,
-        }
-    }
+impl Labelled for LoseError {
+    ghost use Rattle.pool_core.specs.Refusal.{lose_label};
 
-    /// The name of this refusal, as lines print it: that of its variant.
-    pub fn name(self) -> &'static str
-        ensures { result.now ≡ lose_name self }
-    {
+    ghost label = { lose_label };
+
+    fn label(&self) -> Label {
         match self {
-            LoseError::Gone => "Gone",
+            LoseError::Gone => Label::new(1, "Gone"),
         }
     }
+}
+
+impl Refusal for LoseError {
+    ghost use Rattle.refusal.specs.Label.{never};
+
+    ghost is_memory = { never };
 }
 
 /// Why a worker was not expired.
@@ -361,30 +326,25 @@ pub enum ExpireError {
     NotLate,
 }
 
-impl ExpireError {
-    /// The number of this refusal, from 1 for [`Gone`](ExpireError::Gone) to 4 for [`NotLate`](ExpireError::NotLate).
-    pub fn number(self) -> u32
-        ensures { result ≡ expire_number self }
-    {
-        match self {
-            ExpireError::Gone => 1,
-            ExpireError::NoJob => 2,
-            ExpireError::Reporting => 3,
-            ExpireError::NotLate => 4,
-        }
-    }
+impl Labelled for ExpireError {
+    ghost use Rattle.pool_core.specs.Refusal.{expire_label};
 
-    /// The name of this refusal, as lines print it: that of its variant.
-    pub fn name(self) -> &'static str
-        ensures { result.now ≡ expire_name self }
-    {
+    ghost label = { expire_label };
+
+    fn label(&self) -> Label {
         match self {
-            ExpireError::Gone => "Gone",
-            ExpireError::NoJob => "NoJob",
-            ExpireError::Reporting => "Reporting",
-            ExpireError::NotLate => "NotLate",
+            ExpireError::Gone => Label::new(1, "Gone"),
+            ExpireError::NoJob => Label::new(2, "NoJob"),
+            ExpireError::Reporting => Label::new(3, "Reporting"),
+            ExpireError::NotLate => Label::new(4, "NotLate"),
         }
     }
+}
+
+impl Refusal for ExpireError {
+    ghost use Rattle.refusal.specs.Label.{never};
+
+    ghost is_memory = { never };
 }
 
 /// Why no chapter ended.
@@ -398,26 +358,23 @@ pub enum ChapterError {
     Memory,
 }
 
-impl ChapterError {
-    /// The number of this refusal, from 1 for [`ChaptersUsed`](ChapterError::ChaptersUsed) to 2 for [`Memory`](ChapterError::Memory).
-    pub fn number(self) -> u32
-        ensures { result ≡ chapter_number self }
-    {
-        match self {
-            ChapterError::ChaptersUsed => 1,
-            ChapterError::Memory => 2,
-        }
-    }
+impl Labelled for ChapterError {
+    ghost use Rattle.pool_core.specs.Refusal.{chapter_label};
 
-    /// The name of this refusal, as lines print it: that of its variant.
-    pub fn name(self) -> &'static str
-        ensures { result.now ≡ chapter_name self }
-    {
+    ghost label = { chapter_label };
+
+    fn label(&self) -> Label {
         match self {
-            ChapterError::ChaptersUsed => "ChaptersUsed",
-            ChapterError::Memory => "Memory",
+            ChapterError::ChaptersUsed => Label::new(1, "ChaptersUsed"),
+            ChapterError::Memory => Label::new(2, "Memory"),
         }
     }
+}
+
+impl Refusal for ChapterError {
+    ghost use Rattle.pool_core.specs.Refusal.{is_chapter_memory};
+
+    ghost is_memory = { is_chapter_memory };
 }
 
 impl From<AllocError> for JoinError {

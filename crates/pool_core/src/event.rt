@@ -41,7 +41,7 @@ impl FunctionName {
 
 /// A job as the server assigned it: its handle, and the function that it asks for.
 #[derive(Drop)]
-pub struct Assignment {
+pub struct Job {
     /// The job's handle.
     pub handle: Handle,
     /// The function that it asks for.

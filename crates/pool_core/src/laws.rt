@@ -1,5 +1,7 @@
 //! Laws over every history: contracts of functions that do nothing.
-ghost use Rattle.pool_core.specs.Laws.{HistoriesExtend, HistoriesAreSound, HistoriesCount, ChaptersCount, JobsAreBookedOnce, JobsAreLostWithTheirWorkers, JobsAreAccountedFor, WorkersAreNew, RoundsAreShown, RoundsOrder, HistoriesJoin, CallsReplay};
+ghost use Rattle.pool_core.specs.Laws.{HistoriesExtend, HistoriesAreSound, HistoriesCount, ChaptersCount, JobsAreBookedOnce, JobsAreLostWithTheirWorkers, JobsAreAccountedFor, WorkersAreNew, RoundsAreShown, RoundsOrder, HistoriesJoin, HistoriesCut, BasesAreSound, EventsCount, CallsReplay};
+
+use crate::pool::Pool;
 
 /// Jobs are never dropped, a report or a loss is never taken back, and generations never fall.
 pub fn histories_extend()
@@ -55,6 +57,24 @@ pub fn rounds_order()
 pub fn histories_join()
     ensures { HistoriesJoin }
 {}
+
+/// A history that is cut anywhere is two: so whoever drops the chapters that have ended has a history from the base of this one.
+pub fn histories_cut()
+    ensures { HistoriesCut }
+{}
+
+/// The base of each chapter is sound, so what holds from any sound base, as `chapters_count`, holds of it.
+pub fn bases_are_sound()
+    ensures { BasesAreSound }
+{}
+
+/// Each event that may come next counts in the totals as one grab, as one report, or as neither.
+#[tactic(auto)]
+pub fn events_count(pool: &Pool)
+    ensures { EventsCount pool.now }
+{
+    let _events = pool.history();
+}
 
 /// After any list of calls the state is the replay of the events, those that were handed out among them.
 pub fn calls_replay()

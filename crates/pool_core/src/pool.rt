@@ -1,6 +1,6 @@
 //! The pool and what it answers without a change. Its calls stand in the files below it, each of one subject.
 ghost use Rattle.std.specs.Prelude.{◌≡◌, ◌+◌, ◌<◌, ◌≤◌, slice_get, IfSome, IfNone, [], Some, None, length, IfOk};
-ghost use Rattle.pool_core.specs.Machine.{first, slot_in, standing_in, assignment_in, owed};
+ghost use Rattle.pool_core.specs.Machine.{first, slot_in, standing_in, job_in, owed};
 ghost use Rattle.pool_settings.specs.Profile.{IsProfile};
 ghost use Rattle.worker_state.specs.Orders.{IsOrder};
 ghost use Rattle.pool_core.specs.Kept.{IsChapter};
@@ -12,7 +12,7 @@ mod planning;
 mod workers;
 
 use crate::answer::Totals;
-use crate::event::{Assignment, Event};
+use crate::event::{Event, Job};
 use crate::table;
 use gear_packets::Handle;
 use gear_status::Load;
@@ -62,7 +62,7 @@ pub struct Pool {
     grab_times: Vec<u64>,
     orders: Vec<Order>,
     load: Option<Load>,
-    assignments: Vec<Assignment>,
+    jobs: Vec<Job>,
     standings: Vec<Standing>,
     previous: Option<Plan>,
     rounds: u32,
@@ -103,7 +103,7 @@ impl Pool {
             grab_times,
             orders,
             load: None,
-            assignments: Vec::new(alloc),
+            jobs: Vec::new(alloc),
             standings: Vec::new(alloc),
             previous: None,
             rounds: 0,
@@ -151,25 +151,23 @@ impl Pool {
 
     /// The handle and the function of the ticket's job, if it was given.
     pub fn job(&self, ticket: Ticket) -> Option<(&Handle, &[u8])>
-        ensures some { IfSome result (λ job. assignment_in self.now.state.assignments ticket ≡ Some (record { handle = job.0.now; function = job.1.now })) }
-        ensures none { IfNone result (assignment_in self.now.state.assignments ticket ≡ None) }
+        ensures some { IfSome result (λ job. job_in self.now.state.jobs ticket
+            ≡ Some (record { handle = job.0.now; function = job.1.now })) }
+        ensures none { IfNone result (job_in self.now.state.jobs ticket ≡ None) }
     {
         if ticket.number() == 0 {
             return None;
         }
-        match self
-            .assignments
-            .as_slice()
-            .get((ticket.number() - 1) as usize)
-        {
+        match self.jobs.as_slice().get((ticket.number() - 1) as usize) {
             None => None,
-            Some(assignment) => Some((&assignment.handle, assignment.function.bytes())),
+            Some(job) => Some((&job.handle, job.function.bytes())),
         }
     }
 
     /// The counts of the pool.
     pub fn totals(&self) -> Totals
-        ensures { result ≡ totals_of self.now }
+        ensures exact { result ≡ totals_of self.now }
+        ensures within { result.reported ≤ result.grabbed }
     {
         let grabbed = self.standings.len() as u64;
         Totals {

@@ -1,7 +1,8 @@
 //! What a round reads and writes.
-ghost use Rattle.std.specs.Prelude.{◌≡◌, ◌↔◌, ◌<◌, ◌≤◌, IsTrue, IfOk, Some, length, map, slice_get};
+ghost use Rattle.std.specs.Prelude.{◌≡◌, ◌↔◌, ◌<◌, ◌≤◌, ℕ, IsTrue, slice_index_or, IfOk, Some, length, map, slice_get};
 ghost use Rattle.plan_model.specs.Planning.{assigned};
 ghost use Rattle.worker_state.specs.Slots.{is_live};
+ghost use Rattle.worker_state.specs.Orders.{no_order, IsOrder};
 ghost use Rattle.pool_settings.specs.Profile.{IsProfile};
 ghost use Rattle.pool_settings.specs.Slots.{slots as slot_count, owners};
 ghost use Rattle.pool_settings.specs.Planning.{instance_of};
@@ -22,7 +23,7 @@ pub fn live_marks(alloc: Global, slots: &[Slot]) -> Result<Vec<bool>, AllocError
 {
     let mut marks = Vec::new(alloc);
     for slot in slots {
-        marks.push(table::lives(slot))?;
+        marks.push(slot.is_live())?;
     }
     Ok(marks)
 }
@@ -57,7 +58,7 @@ fn are_live(settings: &Settings, slots: &[Slot], listed: &[(SlotId, MachineId)])
     let mut next = 0usize;
     for number in 0..settings.slots() {
         let slot = SlotId::new(number);
-        if table::lives(&slots[number as usize]) {
+        if slots[number as usize].is_live() {
             if !is_listed(listed, next, slot, settings.machine_of(slot)) {
                 return false;
             }
@@ -146,6 +147,7 @@ fn is_same(one: &What, other: &What) -> bool
 
 /// A slot's order after a round.
 fn order_after(what: What, round: u32, slot: &Slot, order: Order) -> Order
+    requires { IsOrder (ordered what round slot.now order) }
     ensures { result ≡ ordered what round slot.now order }
 {
     match slot {
@@ -178,6 +180,7 @@ pub fn orders_after(
 ) -> Result<Vec<Order>, AllocError>
     requires few { length slots.now ≤ 4096 }
     requires paired { length slots.now ≡ length orders.now }
+    requires ranges { (s : ℕ) → IsOrder (slice_index_or (orders_from 0 plan.now round slots.now orders.now) s no_order) }
     ensures { IfOk result (λ made. made.items ≡ orders_from 0 plan.now round slots.now orders.now) }
 {
     let mut made = Vec::new(alloc);
@@ -193,7 +196,7 @@ pub fn orders_after(
 fn one_if_moved(slot: &Slot, old: &Order, new: &Order) -> u32
     ensures { result ≡ one_moved slot.now old.now new.now }
 {
-    if table::lives(slot) && !is_same(&old.what, &new.what) {
+    if slot.is_live() && !is_same(&old.what, &new.what) {
         1
     } else {
         0

@@ -1,15 +1,15 @@
 //! Reads and writes of the tables by slot and by ticket.
 ghost use Rattle.std.specs.Prelude.{◌≡◌, ◌+◌, ◌-◌, ◌^◌, ◌<◌, ◌≤◌, ℕ, slice_set, slice_index, length, vec_len, vec_capacity, if◌then◌else◌, IfSome, IfOk, OnOk, replicate};
-ghost use Rattle.worker_state.specs.Slots.{is_live, ticket_of, closing_events, last_generation, runs_of};
-ghost use Rattle.pool_core.specs.Machine.{slot_in, has_generation, has_open, standing_in, with_lost};
-ghost use Rattle.pool_core.specs.Book.{is_running, is_reporting};
+ghost use Rattle.worker_state.specs.Slots.{is_running, is_reporting};
+ghost use Rattle.pool_core.specs.Machine.{slot_in, has_open, standing_in, with_lost};
+ghost use Rattle.pool_core.specs.Book.{stands};
 ghost use Rattle.pool_core.specs.Kept.{closing_of, lost_of};
 ghost use Rattle.worker_state.specs.Orders.{no_order};
 ghost use Rattle.worker_state.specs.declared.slot.Slot.TheVariants.{Empty, Live};
 ghost use Rattle.pool_core.specs.declared.answer.StayOrRetire.TheVariants.{Stay, Retire};
 
 use crate::answer::StayOrRetire;
-use crate::event::{Assignment, Event};
+use crate::event::{Event, Job};
 use plan_model::SlotId;
 use std::alloc::{AllocError, Global};
 use worker_state::{Cause, Order, Slot, Standing, Ticket, WorkerName};
@@ -31,33 +31,6 @@ pub fn put_slot(slots: &mut Vec<Slot>, slot: SlotId, to: Slot)
     ensures { slots.new.items ≡ slice_set slots.old.items slot to }
 {
     slots[slot.number() as usize] = to;
-}
-
-/// Whether the worker of that generation is in the slot.
-pub fn is_of(slot: &Slot, generation: u32) -> bool
-    ensures { result ≡ has_generation slot.now generation }
-{
-    match slot {
-        Slot::Empty(_) => false,
-        Slot::Live {
-            generation: own,
-            runs: _,
-            ticket: _,
-        } => *own == generation,
-    }
-}
-
-pub fn open_in(slot: &Slot) -> Option<Ticket>
-    ensures { result ≡ ticket_of slot.now }
-{
-    match slot {
-        Slot::Empty(_) => None,
-        Slot::Live {
-            generation: _,
-            runs: _,
-            ticket,
-        } => *ticket,
-    }
 }
 
 pub fn is_open(ticket_of_slot: Option<Ticket>, ticket: Ticket) -> bool
@@ -93,71 +66,20 @@ pub fn put_standing(standings: &mut Vec<Standing>, ticket: Ticket, to: Standing)
 }
 
 pub fn runs(standing: Option<Standing>) -> bool
-    ensures { result ≡ is_running standing }
+    ensures { result ≡ stands is_running standing }
 {
     match standing {
-        Some(Standing::Running) => true,
-        _ => false,
+        None => false,
+        Some(standing) => standing.is_running(),
     }
 }
 
 pub fn reports(standing: Option<Standing>) -> bool
-    ensures { result ≡ is_reporting standing }
+    ensures { result ≡ stands is_reporting standing }
 {
     match standing {
-        Some(Standing::Reporting) => true,
-        _ => false,
-    }
-}
-
-/// How many events are owed for a job.
-pub fn closing(standing: Standing) -> u32
-    ensures { result ≡ closing_events standing }
-{
-    match standing {
-        Standing::Running => 2,
-        Standing::Reporting => 1,
-        Standing::Reported(_) => 0,
-        Standing::Lost(_, _) => 0,
-    }
-}
-
-pub fn last_of(slot: &Slot) -> u32
-    ensures { result ≡ last_generation slot.now }
-{
-    match slot {
-        Slot::Empty(last) => *last,
-        Slot::Live {
-            generation,
-            runs: _,
-            ticket: _,
-        } => *generation,
-    }
-}
-
-pub fn runs_in(slot: &Slot) -> u32
-    ensures { result ≡ runs_of slot.now }
-{
-    match slot {
-        Slot::Empty(_) => 0,
-        Slot::Live {
-            generation: _,
-            runs,
-            ticket: _,
-        } => *runs,
-    }
-}
-
-pub fn lives(slot: &Slot) -> bool
-    ensures { result ≡ is_live slot.now }
-{
-    match slot {
-        Slot::Empty(_) => false,
-        Slot::Live {
-            generation: _,
-            runs: _,
-            ticket: _,
-        } => true,
+        None => false,
+        Some(standing) => standing.is_reporting(),
     }
 }
 
@@ -238,7 +160,7 @@ pub fn put_lost(
     match ticket {
         None => 0,
         Some(ticket) => {
-            let owed = closing(standings[(ticket.number() - 1) as usize]);
+            let owed = standings[(ticket.number() - 1) as usize].closing_events();
             put_standing(standings, ticket, Standing::Lost(worker, cause));
             owed
         }
@@ -247,18 +169,18 @@ pub fn put_lost(
 
 /// Room for one more job and these events.
 pub fn reserve_job(
-    assignments: &mut Vec<Assignment>,
+    jobs: &mut Vec<Job>,
     standings: &mut Vec<Standing>,
     events: &mut Vec<Event>,
     count: usize,
 ) -> Result<(), AllocError>
-    ensures assignments { assignments.new.items ≡ assignments.old.items }
+    ensures jobs { jobs.new.items ≡ jobs.old.items }
     ensures standings { standings.new.items ≡ standings.old.items }
     ensures events { events.new.items ≡ events.old.items }
     ensures capacity { vec_capacity events.old ≤ vec_capacity events.new }
-    ensures room { OnOk result ((vec_len assignments.new < vec_capacity assignments.new) × (vec_len standings.new < vec_capacity standings.new) × (vec_len events.new + count ≤ vec_capacity events.new)) }
+    ensures room { OnOk result ((vec_len jobs.new < vec_capacity jobs.new) × (vec_len standings.new < vec_capacity standings.new) × (vec_len events.new + count ≤ vec_capacity events.new)) }
 {
-    assignments.reserve(1)?;
+    jobs.reserve(1)?;
     standings.reserve(1)?;
     events.reserve(count)?;
     Ok(())

@@ -4,6 +4,7 @@
 //! `rt try --test --fail-alloc N` may refuse the Nth request of each test.
 
 mod course;
+mod extremes;
 mod history;
 mod jobs;
 mod planning;

@@ -13,16 +13,16 @@ use Rattle.pool_replay.specs.Transcript.{IsTranscript, Answers, ended, first_des
 pub gives_up : (p : Profile) (number : ℕ) (desk : Desk) (lines : List (List ℕ)) (line : List ℕ) (rest : List (List ℕ))
     → lines ≡ line ∷ rest → IsTranscript p number desk lines [] end.Memory
 gives_up p number desk lines line rest cut =
-    subst (λ ls. IsTranscript p number desk ls [] end.Memory) (sym cut) (inl (refl, inr refl))
+    subst (λ ls. IsTranscript p number desk ls [] end.Memory) (sym cut) (desk, inl ((refl, inr refl), refl))
 
 pub all_done : (p : Profile) (number : ℕ) (desk : Desk) (lines : List (List ℕ)) → lines ≡ [] → IsTranscript p number desk lines [] end.Done
 all_done p number desk lines none =
-    subst (λ ls. IsTranscript p number desk ls [] end.Done) (sym none) (refl, refl)
+    subst (λ ls. IsTranscript p number desk ls [] end.Done) (sym none) (desk, (refl, refl, refl))
 
 pub bad_line : (p : Profile) (number : ℕ) (desk : Desk) (lines : List (List ℕ)) (line : List ℕ) (rest : List (List ℕ))
     → lines ≡ line ∷ rest → command_in p line ≡ None → IsTranscript p number desk lines [] (end.BadLine number)
 bad_line p number desk lines line rest cut none =
-    subst (λ ls. IsTranscript p number desk ls [] (end.BadLine number)) (sym cut) (inl (refl, inl (refl, none)))
+    subst (λ ls. IsTranscript p number desk ls [] (end.BadLine number)) (sym cut) (desk, inl ((refl, inl (refl, none)), refl))
 
 one_more : (p : Profile) (number : ℕ) (desk : Desk) (lines : List (List ℕ)) (line : List ℕ) (rest : List (List ℕ))
     (command : Command) (answer : List ℕ) (next : Desk) (out : List ℕ) (how : End)
@@ -30,7 +30,7 @@ one_more : (p : Profile) (number : ℕ) (desk : Desk) (lines : List (List ℕ)) 
     → IsTranscript p (number + 1) next rest out how → IsTranscript p number desk lines (ended answer ++ out) how
 one_more p number desk lines line rest command answer next out how cut is step more =
     subst (λ ls. IsTranscript p number desk ls (ended answer ++ out) how) (sym cut)
-    (inr (command, answer, out, next, is, step, refl, more))
+    (more.0, inr (command, answer, out, next, is, step, refl, more.1))
 
 -- ---- behind what was printed so far
 

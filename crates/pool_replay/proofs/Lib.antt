@@ -4,3 +4,4 @@ pub mod Slots
 pub mod Called
 pub mod Cuts
 pub mod Ends
+mod Histories

@@ -26,4 +26,5 @@ slots_replayed p state (e ∷ events) = slots_replayed p (after p e state) event
 
 pub slots_of_chapter : (p : Profile) (chapters : ℕ) (events : List Event) (state : State) → IsChapter p chapters events state → length state.slots ≡ slot_count p
 slots_of_chapter p chapters events state chapter =
-    ap (λ s. length s.slots) chapter.replays.replayed ∙ slots_replayed p (first p) (chapter.before ++ events) ∙ length-replicate _ _
+    ap (λ s. length s.slots) chapter.replays.replayed ∙ slots_replayed p chapter.base events
+    ∙ ap (λ s. length s.slots) chapter.begins.replays.replayed ∙ slots_replayed p (first p) chapter.begins.before ∙ length-replicate _ _

@@ -8,7 +8,7 @@ use Rattle.pool_settings.specs.Names.{name_at}
 use Rattle.pool_settings.specs.Profile.{Profile}
 use Rattle.pool_settings.specs.Slots.{slots}
 use Rattle.pool_commands.specs.Law.{worker_text}
-use Rattle.worker_state.specs.Causes.{cause_name}
+use Rattle.worker_state.specs.Causes.{cause_label}
 use Rattle.worker_state.specs.declared.slot.WorkerName.{WorkerName}
 use Rattle.worker_state.specs.declared.job.EndKind.TheVariants as end
 use Rattle.worker_state.specs.declared.job.Standing.{Standing}
@@ -20,7 +20,8 @@ use Rattle.pool_core.specs.declared.error.JoinError.{JoinError}
 use Rattle.pool_core.specs.declared.error.ViewError.{ViewError}
 use Rattle.pool_core.specs.declared.error.GrabError.{GrabError}
 use Rattle.pool_core.specs.declared.error.ReportError.{ReportError}
-use Rattle.pool_core.specs.Refusal.{join_number, join_name, view_number, view_name, grab_number, grab_name, report_number, report_name}
+use Rattle.refusal.specs.Label.{Label, label_words}
+use Rattle.pool_core.specs.Refusal.{join_label, view_label, grab_label, report_label}
 use Rattle.pool_core.specs.declared.answer.StayOrRetire.{StayOrRetire}
 use Rattle.pool_core.specs.declared.answer.StayOrRetire.TheVariants.{Stay, Retire}
 use Rattle.pool_core.specs.declared.answer.Totals.{Totals}
@@ -29,8 +30,8 @@ use Rattle.pool_core.specs.declared.answer.Ran.{Ran}
 -- ---- refusals
 
 -- the number of a refusal in its call, and its name
-abbrev pub refused : {E : Type 0} → (E → ℕ) → (E → List ℕ) → E → List ℕ
-refused number name e = codes "refused " ++ decimal (number e) ++ codes " " ++ name e
+abbrev pub refused : Label → List ℕ
+refused label = codes "refused " ++ label_words label
 
 -- these two are refusals of the desk, not of the pool, and have no number
 abbrev pub no_pass : List ℕ
@@ -47,22 +48,22 @@ worker_words p worker =
     if nat_lt worker.slot (slots p) then worker_text p worker.slot worker.generation else []
 
 -- `ok`, or the refusal
-abbrev pub ok_line : {A E : Type 0} → (E → ℕ) → (E → List ℕ) → Result A E → List ℕ
-ok_line number name (Ok x) = codes "ok"
-ok_line number name (Err e) = refused number name e
+abbrev pub ok_line : {A E : Type 0} → (E → Label) → Result A E → List ℕ
+ok_line label_of (Ok x) = codes "ok"
+ok_line label_of (Err e) = refused (label_of e)
 
 abbrev pub join_line : Profile → Result WorkerName JoinError → List ℕ
 join_line p (Ok worker) = codes "ok " ++ worker_words p worker
-join_line p (Err e) = refused join_number join_name e
+join_line p (Err e) = refused (join_label e)
 
 abbrev pub grab_line : Result ℕ GrabError → List ℕ
 grab_line (Ok ticket) = codes "ok " ++ decimal ticket
-grab_line (Err e) = refused grab_number grab_name e
+grab_line (Err e) = refused (grab_label e)
 
 abbrev pub report_line : Result StayOrRetire ReportError → List ℕ
 report_line (Ok Stay) = codes "ok stay"
 report_line (Ok Retire) = codes "ok retire"
-report_line (Err e) = refused report_number report_name e
+report_line (Err e) = refused (report_label e)
 
 -- a backlog above all numbers of jobs counts what nobody serves
 abbrev pub backlog_words : Option ℕ → List ℕ
@@ -74,9 +75,9 @@ backlog_words (Some backlog) =
 abbrev pub ran_line : Ran → List ℕ
 ran_line ran = codes "ok " ++ decimal ran.number ++ codes " " ++ backlog_words ran.backlog ++ codes " moved " ++ decimal ran.moved
 
-abbrev pub ran_or : {E : Type 0} → (E → ℕ) → (E → List ℕ) → Result Ran E → List ℕ
-ran_or number name (Ok ran) = ran_line ran
-ran_or number name (Err e) = refused number name e
+abbrev pub ran_or : {E : Type 0} → (E → Label) → Result Ran E → List ℕ
+ran_or label_of (Ok ran) = ran_line ran
+ran_or label_of (Err e) = refused (label_of e)
 
 abbrev pub backlog_of : Answer → Option ℕ
 backlog_of (answers.Planned plan backlog short) = Some backlog
@@ -84,7 +85,7 @@ backlog_of (answers.NoPlan short) = None
 
 abbrev pub view_line : Result Certificate ViewError → List ℕ
 view_line (Ok viewed) = codes "ok " ++ backlog_words (backlog_of viewed.answer)
-view_line (Err e) = refused view_number view_name e
+view_line (Err e) = refused (view_label e)
 
 abbrev pub job_line : Profile → Option Standing → List ℕ
 job_line p None = codes "none"
@@ -92,7 +93,7 @@ job_line p (Some standing.Running) = codes "running"
 job_line p (Some standing.Reporting) = codes "reporting"
 job_line p (Some (standing.Reported end.Complete)) = codes "reported complete"
 job_line p (Some (standing.Reported end.Fail)) = codes "reported fail"
-job_line p (Some (standing.Lost worker cause)) = codes "lost " ++ worker_words p worker ++ codes " " ++ cause_name cause
+job_line p (Some (standing.Lost worker cause)) = codes "lost " ++ worker_words p worker ++ codes " " ++ (cause_label cause).name
 
 -- the pool gives no order to stop
 abbrev pub what_line : Profile → ℕ → What → List ℕ

@@ -46,16 +46,20 @@ abbrev pub StopsAt : Profile → ℕ → List ℕ → List ℕ → End → Type 
 StopsAt p number line output how =
     (output ≡ []) × (((how ≡ end.BadLine number) × (command_in p line ≡ None)) ⊎ (how ≡ end.Memory))
 
--- The output of the lines from this number on, and how their run ends: each line is a command, and what it prints is one step
--- of the desk. The run ends after the last line, at the first line that is no command, or at a line for which there was no
--- memory.
-abbrev pub IsTranscript : Profile → ℕ → Desk → List (List ℕ) → List ℕ → End → Type 0
-IsTranscript p number desk [] output how = (output ≡ []) × (how ≡ end.Done)
-IsTranscript p number desk (line ∷ lines) output how =
-    StopsAt p number line output how
+-- The output of the lines from this number on, how their run ends, and at which desk: each line is a command, and what it prints
+-- is one step of the desk. The run ends after the last line, at the first line that is no command, or at a line for which there was
+-- no memory.
+abbrev pub LeadsTo : Profile → ℕ → Desk → List (List ℕ) → List ℕ → End → Desk → Type 0
+LeadsTo p number desk [] output how last = (output ≡ []) × (how ≡ end.Done) × (last ≡ desk)
+LeadsTo p number desk (line ∷ lines) output how last =
+    (StopsAt p number line output how × (last ≡ desk))
     ⊎ ((command : Command) × (answer : List ℕ) × (rest : List ℕ) × (next : Desk)
     × (command_in p line ≡ Some command) × StepOf p command desk answer next
-    × (output ≡ ended answer ++ rest) × IsTranscript p (number + 1) next lines rest how)
+    × (output ≡ ended answer ++ rest) × LeadsTo p (number + 1) next lines rest how last)
+
+-- the same, wherever it ends
+abbrev pub IsTranscript : Profile → ℕ → Desk → List (List ℕ) → List ℕ → End → Type 0
+IsTranscript p number desk lines output how = (last : Desk) × LeadsTo p number desk lines output how last
 
 -- A run of an input: the transcript of its lines on a pool in which nothing has happened, or nothing where there was no memory
 -- for that pool.

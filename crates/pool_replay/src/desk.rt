@@ -5,7 +5,7 @@ ghost use Rattle.pool_commands.specs.Grammar.{IsWithin};
 ghost use Rattle.pool_core.specs.Book.{totals_of};
 ghost use Rattle.pool_core.specs.Machine.{standing_in};
 ghost use Rattle.pool_replay.specs.Lines as spec;
-ghost use Rattle.pool_replay.specs.Step.{Joins, Loads, Rounds, Views, Adopting, Grabs, Begins, Reports, Loses, Expires, TellsOrder, WithPass, StepOf, CallsView, with_joined, with_viewed};
+ghost use Rattle.pool_replay.specs.Step.{Joins, Loads, Rounds, Views, Adopting, Grabs, Begins, Reports, Loses, Expires, TellsOrder, WithPass, StepOf, Sees, with_joined, with_viewed};
 ghost use Rattle.pool_replay.specs.Transcript.{first_desk};
 
 use crate::lines::{self, NO_PASS, NO_VIEW};
@@ -103,14 +103,14 @@ impl Desk {
         ensures { IfOk result (λ line. Loads load self.old (string_bytes line) self.new) }
     {
         let answer = self.pool.load(load);
-        lines::load_line(alloc, answer)
+        lines::ok_line(alloc, answer)
     }
 
     fn round(&mut self, alloc: Global) -> Result<String, AllocError>
         ensures { IfOk result (λ line. Rounds self.old (string_bytes line) self.new) }
     {
         let answer = self.pool.round();
-        lines::round_line(alloc, answer)
+        lines::ran_or(alloc, answer)
     }
 
     /// Looks at the pool and plans for what it sees. The plan is kept in the place of an older one; a refused view leaves that
@@ -132,7 +132,7 @@ impl Desk {
             return String::from_str(alloc, NO_VIEW);
         };
         let answer = self.pool.adopt(viewed);
-        lines::adopt_line(alloc, answer)
+        lines::ran_or(alloc, answer)
     }
 
     fn grab(
@@ -143,7 +143,8 @@ impl Desk {
         function: &[u8],
         now_ms: u64,
     ) -> Result<String, AllocError>
-        ensures { IfOk result (λ line. WithPass worker.now (Grabs worker.now handle function.now now_ms) self.old (string_bytes line) self.new) }
+        ensures { IfOk result (λ line.
+            WithPass worker.now (Grabs worker.now handle function.now now_ms) self.old (string_bytes line) self.new) }
     {
         let Some(pass) = self.passes.get(worker) else {
             return String::from_str(alloc, NO_PASS);
@@ -164,7 +165,7 @@ impl Desk {
             return String::from_str(alloc, NO_PASS);
         };
         let answer = self.pool.begin_report(pass, ticket);
-        lines::begin_line(alloc, answer)
+        lines::ok_line(alloc, answer)
     }
 
     fn report(
@@ -196,7 +197,7 @@ impl Desk {
             return String::from_str(alloc, NO_PASS);
         };
         let answer = self.pool.lose(pass, cause);
-        lines::lose_line(alloc, answer)
+        lines::ok_line(alloc, answer)
     }
 
     /// Loses a worker whose job is late. This needs no pass.
@@ -210,11 +211,12 @@ impl Desk {
         ensures { IfOk result (λ line. Expires worker.now now_ms self.old (string_bytes line) self.new) }
     {
         let answer = self.pool.expire(worker.slot, worker.generation, now_ms);
-        lines::expire_line(alloc, answer)
+        lines::ok_line(alloc, answer)
     }
 
     fn job(&self, alloc: Global, settings: &Settings, ticket: Ticket) -> Result<String, AllocError>
-        ensures { IfOk result (λ line. string_bytes line ≡ spec.job_line settings.now (standing_in self.now.pool.state.standings ticket)) }
+        ensures { IfOk result (λ line.
+            string_bytes line ≡ spec.job_line settings.now (standing_in self.now.pool.state.standings ticket)) }
     {
         lines::job_line(alloc, settings, &self.pool.standing(ticket))
     }
@@ -246,7 +248,7 @@ fn keep_pass(passes: &mut Passes, answer: Result<Pass, JoinError>) -> Result<(),
 
 /// A view of the pool, with the best answer for it. All tables of the search lie in one arena, which is given up here.
 fn look(alloc: Global, pool: &Pool) -> Result<Certified, ViewError>
-    ensures { CallsView pool.now result }
+    ensures { Sees pool.now result }
 {
     let (input, previous) = pool.view()?;
     let bump = Bump::new(alloc);

@@ -9,7 +9,7 @@ mod lines;
 mod passes;
 mod running;
 
-pub use law::commands_are_calls;
+pub use law::{commands_are_calls, transcripts_are_histories};
 pub use running::{End, Outcome, run};
 
 #[cfg(test)]

@@ -1,16 +1,12 @@
 //! What each command prints, without its line feed.
 
-ghost use Rattle.std.specs.Prelude.{◌≡◌, ◌++◌, IfOk, codes, string_bytes};
-ghost use Rattle.std.specs.Fmt.{decimal};
-ghost use Rattle.pool_core.specs.Refusal.{load_number, load_name, round_number, round_name, adopt_number, adopt_name, begin_number, begin_name, lose_number, lose_name, expire_number, expire_name};
+ghost use Rattle.std.specs.Prelude.{◌≡◌, IfOk, string_bytes};
 ghost use Rattle.pool_replay.specs.Lines as spec;
 
 use plan_model::{Answer, Certified};
-use pool_core::{
-    AdoptError, BeginError, ExpireError, GrabError, JoinError, LoadError, LoseError, Pass, Ran,
-    ReportError, RoundError, StayOrRetire, Totals, ViewError,
-};
+use pool_core::{GrabError, JoinError, Pass, Ran, ReportError, StayOrRetire, Totals, ViewError};
 use pool_settings::Settings;
+use refusal::{Label, Labelled, Refusal};
 use std::alloc::{AllocError, Global};
 use std::fmt::Write;
 use worker_state::{EndKind, Order, Standing, Ticket, What, WorkerName};
@@ -22,9 +18,11 @@ pub const NO_PASS: &str = "refused NoPass";
 pub const NO_VIEW: &str = "refused NoView";
 
 /// A refusal of the pool: its number in its call, and its name.
-fn refused(alloc: Global, number: u32, name: &str) -> Result<String, AllocError>
-    ensures { IfOk result (λ s. string_bytes s ≡ codes "refused " ++ decimal number ++ codes " " ++ name.now) }
+fn refused(alloc: Global, label: &Label) -> Result<String, AllocError>
+    ensures { IfOk result (λ s. string_bytes s ≡ spec.refused label.now) }
 {
+    let number = label.number();
+    let name = label.name();
     let mut line = String::new(alloc);
     write!(line, "refused {number} {name}")?;
     Ok(line)
@@ -60,43 +58,20 @@ pub fn join_line(
             let worker = worker_words(alloc, settings, &pass.name())?;
             format!(in alloc; "ok {worker}")
         }
-        Err(error) => refused(alloc, error.number(), error.name()),
+        Err(error) => refused(alloc, &error.label()),
     }
 }
 
-pub fn load_line(alloc: Global, answer: Result<(), LoadError>) -> Result<String, AllocError>
-    ensures { IfOk result (λ s. string_bytes s ≡ spec.ok_line load_number load_name answer) }
+/// `ok`, or the refusal.
+pub fn ok_line<E: Refusal + Copy>(
+    alloc: Global,
+    answer: Result<(), E>,
+) -> Result<String, AllocError>
+    ensures { IfOk result (λ s. string_bytes s ≡ spec.ok_line E.Labelled.label answer) }
 {
     match answer {
         Ok(()) => String::from_str(alloc, "ok"),
-        Err(error) => refused(alloc, error.number(), error.name()),
-    }
-}
-
-pub fn begin_line(alloc: Global, answer: Result<(), BeginError>) -> Result<String, AllocError>
-    ensures { IfOk result (λ s. string_bytes s ≡ spec.ok_line begin_number begin_name answer) }
-{
-    match answer {
-        Ok(()) => String::from_str(alloc, "ok"),
-        Err(error) => refused(alloc, error.number(), error.name()),
-    }
-}
-
-pub fn lose_line(alloc: Global, answer: Result<(), LoseError>) -> Result<String, AllocError>
-    ensures { IfOk result (λ s. string_bytes s ≡ spec.ok_line lose_number lose_name answer) }
-{
-    match answer {
-        Ok(()) => String::from_str(alloc, "ok"),
-        Err(error) => refused(alloc, error.number(), error.name()),
-    }
-}
-
-pub fn expire_line(alloc: Global, answer: Result<(), ExpireError>) -> Result<String, AllocError>
-    ensures { IfOk result (λ s. string_bytes s ≡ spec.ok_line expire_number expire_name answer) }
-{
-    match answer {
-        Ok(()) => String::from_str(alloc, "ok"),
-        Err(error) => refused(alloc, error.number(), error.name()),
+        Err(error) => refused(alloc, &error.label()),
     }
 }
 
@@ -108,7 +83,7 @@ pub fn grab_line(alloc: Global, answer: Result<Ticket, GrabError>) -> Result<Str
             let number = ticket.number();
             format!(in alloc; "ok {number}")
         }
-        Err(error) => refused(alloc, error.number(), error.name()),
+        Err(error) => refused(alloc, &error.label()),
     }
 }
 
@@ -121,7 +96,7 @@ pub fn report_line(
     match answer {
         Ok(StayOrRetire::Stay) => String::from_str(alloc, "ok stay"),
         Ok(StayOrRetire::Retire) => String::from_str(alloc, "ok retire"),
-        Err(error) => refused(alloc, error.number(), error.name()),
+        Err(error) => refused(alloc, &error.label()),
     }
 }
 
@@ -153,21 +128,16 @@ fn ran_line(alloc: Global, ran: &Ran) -> Result<String, AllocError>
     Ok(line)
 }
 
-pub fn round_line(alloc: Global, answer: Result<Ran, RoundError>) -> Result<String, AllocError>
-    ensures { IfOk result (λ s. string_bytes s ≡ spec.ran_or round_number round_name answer) }
+/// What a round tells, or the refusal.
+pub fn ran_or<E: Refusal + Copy>(
+    alloc: Global,
+    answer: Result<Ran, E>,
+) -> Result<String, AllocError>
+    ensures { IfOk result (λ s. string_bytes s ≡ spec.ran_or E.Labelled.label answer) }
 {
     match answer {
         Ok(ran) => ran_line(alloc, &ran),
-        Err(error) => refused(alloc, error.number(), error.name()),
-    }
-}
-
-pub fn adopt_line(alloc: Global, answer: Result<Ran, AdoptError>) -> Result<String, AllocError>
-    ensures { IfOk result (λ s. string_bytes s ≡ spec.ran_or adopt_number adopt_name answer) }
-{
-    match answer {
-        Ok(ran) => ran_line(alloc, &ran),
-        Err(error) => refused(alloc, error.number(), error.name()),
+        Err(error) => refused(alloc, &error.label()),
     }
 }
 
@@ -188,7 +158,7 @@ pub fn view_line(alloc: Global, answer: &Result<Certified, ViewError>) -> Result
             let backlog = backlog_words(alloc, backlog_of(viewed.answer()))?;
             format!(in alloc; "ok {backlog}")
         }
-        Err(error) => refused(alloc, error.number(), error.name()),
+        Err(error) => refused(alloc, &error.label()),
     }
 }
 
@@ -207,7 +177,8 @@ pub fn job_line(
         Some(Standing::Reported(EndKind::Fail)) => String::from_str(alloc, "reported fail"),
         Some(Standing::Lost(worker, cause)) => {
             let worker = worker_words(alloc, settings, worker)?;
-            let cause = cause.name();
+            let label = cause.label();
+            let cause = label.name();
             let mut line = String::new(alloc);
             write!(line, "lost {worker} {cause}")?;
             Ok(line)

@@ -1,7 +1,5 @@
 //! Chapters of the history.
-ghost use Rattle.std.specs.Prelude.{◌≡◌, ◌+◌, IfOk, OnOk, OnErr};
-ghost use Rattle.pool_core.specs.Kept.{IsChapter};
-ghost use Rattle.pool_core.specs.Book.{Book, chapter_due, chapter_refusal, next_chapter};
+ghost use Rattle.pool_core.specs.Calls.{EndsChapter};
 
 use super::Pool;
 use crate::error::ChapterError;
@@ -14,12 +12,7 @@ impl Pool {
     ///
     /// Refused, in this order, as `ChaptersUsed` or `Memory`.
     pub fn end_chapter(&mut self) -> Result<Chapter, ChapterError>
-        ensures events { IfOk result (λ chapter. chapter.events.items ≡ self.old.events) }
-        ensures replays { IfOk result (λ chapter. IsChapter self.old.rules self.old.chapters chapter.events.items self.new.state) }
-        ensures number { IfOk result (λ chapter. chapter.number ≡ self.old.chapters + 1) }
-        ensures next { OnOk result (self.new ≡ next_chapter self.old) }
-        ensures err { OnErr result (self.new ≡ self.old) }
-        ensures refusal { chapter_due result ≡ chapter_refusal self.old }
+        ensures { EndsChapter self.old self.new result }
     {
         if self.chapters == MAX_CHAPTERS {
             return Err(ChapterError::ChaptersUsed);

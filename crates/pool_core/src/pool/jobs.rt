@@ -1,15 +1,14 @@
 //! Jobs: how they are grabbed and reported.
-ghost use Rattle.std.specs.Prelude.{◌≡◌, ◌+◌, ◌<◌, nat_lt, ◌^◌, IfOk, OnOk, OnErr};
-ghost use Rattle.worker_state.specs.Slots.{runs_of};
-ghost use Rattle.pool_core.specs.Machine.{slot_in, next_ticket};
-ghost use Rattle.std.specs.Result.{result_err};
-ghost use Rattle.pool_core.specs.Book.{Book, IsStep, grab_due, grab_refusal, begin_refusal, report_refusal, stay_or_retire};
-ghost use Rattle.pool_core.specs.declared.event.Event.TheVariants as event;
+ghost use Rattle.std.specs.Prelude.{◌≡◌, ◌+◌, ◌<◌, nat_lt, ◌^◌};
+ghost use Rattle.worker_state.specs.Slots.{run_count};
+ghost use Rattle.pool_core.specs.Machine.{slot_in};
+ghost use Rattle.pool_core.specs.Book.{grab_refusal, begin_refusal, report_refusal};
+ghost use Rattle.pool_core.specs.Calls.{Grabs, Begins, Reports};
 
 use super::{Pass, Pool};
 use crate::answer::StayOrRetire;
 use crate::error::{BeginError, GrabError, ReportError};
-use crate::event::{Assignment, Event, FunctionName};
+use crate::event::{Event, FunctionName, Job};
 use crate::table;
 use gear_packets::Handle;
 use worker_state::{EndKind, MAX_TICKETS, Slot, Standing, Ticket, WorkerName};
@@ -19,10 +18,10 @@ impl Pool {
         ensures { result ≡ grab_refusal self.now worker.now }
     {
         let slot = self.slot_of(worker.slot);
-        if !table::is_of(&slot, worker.generation) {
+        if !slot.has_generation(worker.generation) {
             return Some(GrabError::Gone);
         }
-        if table::open_in(&slot).is_some() {
+        if slot.held_ticket().is_some() {
             return Some(GrabError::Busy);
         }
         if self.has_room(3) && (self.standings.len() as u64) < MAX_TICKETS {
@@ -45,10 +44,7 @@ impl Pool {
         function: &[u8],
         now_ms: u64,
     ) -> Result<Ticket, GrabError>
-        ensures step { OnOk result (IsStep (event.Grab pass.now handle function.now now_ms) self.old self.new) }
-        ensures ticket { IfOk result (λ ticket. ticket ≡ next_ticket self.old.state) }
-        ensures err { OnErr result (self.new ≡ self.old) }
-        ensures refusal { grab_due result ≡ grab_refusal self.old pass.now }
+        ensures { Grabs pass.now handle function.now now_ms self.old self.new result }
     {
         let worker = pass.name();
         if let Some(refusal) = self.grab_refusal(&worker) {
@@ -57,13 +53,13 @@ impl Pool {
         let noted = FunctionName::copied(self.alloc, function)?;
         let function = FunctionName::copied(self.alloc, function)?;
         table::reserve_job(
-            &mut self.assignments,
+            &mut self.jobs,
             &mut self.standings,
             &mut self.events,
             self.owed as usize + 3,
         )?;
         let ticket = Ticket::new(self.standings.len() as u64 + 1);
-        let runs = table::runs_in(&table::slot_of(self.slots.as_slice(), worker.slot));
+        let runs = table::slot_of(self.slots.as_slice(), worker.slot).run_count();
         let slot = Slot::Live {
             generation: worker.generation,
             runs,
@@ -71,7 +67,7 @@ impl Pool {
         };
         table::put_slot(&mut self.slots, worker.slot, slot);
         table::put_time(&mut self.grab_times, worker.slot, now_ms);
-        self.assignments.push_reserved(Assignment {
+        self.jobs.push_reserved(Job {
             handle: handle.copy(),
             function,
         });
@@ -90,10 +86,10 @@ impl Pool {
         ensures { result ≡ begin_refusal self.now worker.now ticket }
     {
         let slot = self.slot_of(worker.slot);
-        if !table::is_of(&slot, worker.generation) {
+        if !slot.has_generation(worker.generation) {
             return Some(BeginError::Gone);
         }
-        if !table::is_open(table::open_in(&slot), ticket) {
+        if !table::is_open(slot.held_ticket(), ticket) {
             return Some(BeginError::WrongTicket);
         }
         if !table::runs(self.standing_in(ticket)) {
@@ -107,9 +103,7 @@ impl Pool {
     ///
     /// Refused, in this order, as `Gone`, `WrongTicket` or `AlreadyReporting`.
     pub fn begin_report(&mut self, pass: &Pass, ticket: Ticket) -> Result<(), BeginError>
-        ensures step { OnOk result (IsStep (event.Begin pass.now ticket) self.old self.new) }
-        ensures err { OnErr result (self.new ≡ self.old) }
-        ensures refusal { result_err result ≡ begin_refusal self.old pass.now ticket }
+        ensures { Begins pass.now ticket self.old self.new result }
     {
         let worker = pass.name();
         if let Some(refusal) = self.begin_refusal(&worker, ticket) {
@@ -125,10 +119,10 @@ impl Pool {
         ensures { result ≡ report_refusal self.now worker.now ticket }
     {
         let slot = self.slot_of(worker.slot);
-        if !table::is_of(&slot, worker.generation) {
+        if !slot.has_generation(worker.generation) {
             return Some(ReportError::Gone);
         }
-        if !table::is_open(table::open_in(&slot), ticket) {
+        if !table::is_open(slot.held_ticket(), ticket) {
             return Some(ReportError::WrongTicket);
         }
         if !table::reports(self.standing_in(ticket)) {
@@ -139,11 +133,11 @@ impl Pool {
 
     /// Whether the worker goes on after one more run.
     fn stays(&self, worker: &WorkerName) -> bool
-        ensures stays { result ≡ nat_lt (runs_of (slot_in self.now.state.slots worker.now.slot) + 1) self.now.rules.max_runs }
-        ensures fits { runs_of (slot_in self.now.state.slots worker.now.slot) + 1 < 2 ^ 32 }
+        ensures stays { result ≡ nat_lt (run_count (slot_in self.now.state.slots worker.now.slot) + 1) self.now.rules.max_runs }
+        ensures fits { run_count (slot_in self.now.state.slots worker.now.slot) + 1 < 2 ^ 32 }
     {
         let max_runs = self.settings.max_runs();
-        let runs = table::runs_in(&table::slot_of(self.slots.as_slice(), worker.slot));
+        let runs = table::slot_of(self.slots.as_slice(), worker.slot).run_count();
         runs + 1 < max_runs
     }
 
@@ -157,17 +151,14 @@ impl Pool {
         ticket: Ticket,
         end: EndKind,
     ) -> Result<StayOrRetire, ReportError>
-        ensures step { OnOk result (IsStep (event.Reported pass.now ticket end) self.old self.new) }
-        ensures told { IfOk result (λ told. told ≡ stay_or_retire self.old pass.now) }
-        ensures err { OnErr result (self.new ≡ self.old) }
-        ensures refusal { result_err result ≡ report_refusal self.old pass.now ticket }
+        ensures { Reports pass.now ticket end self.old self.new result }
     {
         let worker = pass.name();
         if let Some(refusal) = self.report_refusal(&worker, ticket) {
             return Err(refusal);
         }
         let stays = self.stays(&worker);
-        let runs = table::runs_in(&table::slot_of(self.slots.as_slice(), worker.slot));
+        let runs = table::slot_of(self.slots.as_slice(), worker.slot).run_count();
         let slot = table::slot_after(stays, worker.generation, runs);
         table::put_slot(&mut self.slots, worker.slot, slot);
         table::put_standing(&mut self.standings, ticket, Standing::Reported(end));

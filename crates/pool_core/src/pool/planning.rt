@@ -1,13 +1,13 @@
 //! Loads and rounds.
-ghost use Rattle.std.specs.Prelude.{◌≡◌, ◌+◌, ◌<◌, IsTrue, ◌↔◌, [], ◌∷◌, ◌++◌, IfSome, IfOk, OnOk, OnErr};
+ghost use Rattle.std.specs.Prelude.{◌≡◌, ◌<◌, IsTrue, ◌↔◌, IfSome, IfOk, OnOk, OnErr};
 ghost use Rattle.worker_state.specs.Limits.{max_rounds};
-ghost use Rattle.pool_core.specs.Machine.{input_of, IsPossible};
 ghost use Rattle.plan_model.specs.Planning.{IsInstance};
 ghost use Rattle.plan_model.specs.Shown.{Shown};
-ghost use Rattle.level_search.specs.Steady.{IsSteady};
-ghost use Rattle.pool_core.specs.Book.{Book, IsStep, has_room, load_due, load_refusal, round_refusal, round_due, ran_of, IsInput, view_due, view_refusal, has_round, Adopts, KeepsPlan};
-ghost use Rattle.plan_model.specs.declared.answer.Answer.{Answer};
 ghost use Rattle.plan_model.specs.declared.answer.Answer.TheVariants.{Planned, NoPlan};
+ghost use Rattle.level_search.specs.Steady.{IsSteady};
+ghost use Rattle.pool_core.specs.Machine.{input_of, IsPossible};
+ghost use Rattle.pool_core.specs.Book.{IsStep, has_room, has_round, ran_of};
+ghost use Rattle.pool_core.specs.Calls.{Loads, Views, Rounds, Adopts};
 ghost use Rattle.pool_core.specs.declared.event.Event.TheVariants as event;
 
 use super::Pool;
@@ -26,9 +26,7 @@ impl Pool {
     /// Takes what the server says of its queues, in the place of what it said before. Refused, in this order, as `HistoryFull` or
     /// `Memory`.
     pub fn load(&mut self, load: Load) -> Result<(), LoadError>
-        ensures step { OnOk result (IsStep (event.Load load) self.old self.new) }
-        ensures err { OnErr result (self.new ≡ self.old) }
-        ensures refusal { load_due result ≡ load_refusal self.old }
+        ensures { Loads load self.old self.new result }
     {
         if !self.has_room(1) {
             return Err(LoadError::HistoryFull);
@@ -62,9 +60,7 @@ impl Pool {
     /// What a round would plan for now, and the plan before it, for a search elsewhere. Nothing changes. Refused, in this order, as
     /// `NoLoad` or `Memory`.
     pub fn view(&self) -> Result<(Input, Option<Plan>), ViewError>
-        ensures input { IfOk result (λ view. IsInput self.now view.0) }
-        ensures previous { IfOk result (λ view. view.1 ≡ self.now.state.previous) }
-        ensures refusal { view_due result ≡ view_refusal self.now }
+        ensures { Views self.now result }
     {
         let Some(load) = &self.load else {
             return Err(ViewError::NoLoad);
@@ -81,7 +77,8 @@ impl Pool {
     fn solution(&self, load: &Load) -> Result<Answer, AllocError>
         ensures valid { OnOk result (IsInstance (input_of self.now.rules self.now.state load.now)) }
         ensures shown { IfOk result (λ answer. Shown (input_of self.now.rules self.now.state load.now) answer) }
-        ensures steady { IfOk result (λ answer. IfSome self.now.state.previous (λ plan. IsSteady (input_of self.now.rules self.now.state load.now) plan answer)) }
+        ensures steady { IfOk result (λ answer. IfSome self.now.state.previous (λ plan.
+            IsSteady (input_of self.now.rules self.now.state load.now) plan answer)) }
     {
         let input = self.input(load)?;
         let bump = Bump::new(self.alloc);
@@ -98,10 +95,7 @@ impl Pool {
     ///
     /// Refused, in this order, as `NoLoad`, `HistoryFull` or `Memory`.
     pub fn round(&mut self) -> Result<Ran, RoundError>
-        ensures step { IfOk result (λ ran. (answer : Answer) × IsStep (event.Round answer) self.old self.new × (ran ≡ ran_of answer self.old.state)) }
-        ensures steady { OnOk result ((answer : Answer) × (self.new.events ≡ self.old.events ++ event.Round answer ∷ []) × KeepsPlan self.old answer) }
-        ensures err { OnErr result (self.new ≡ self.old) }
-        ensures refusal { round_due result ≡ round_refusal self.old }
+        ensures { Rounds self.old self.new result }
     {
         let Some(load) = &self.load else {
             return Err(RoundError::NoLoad);
@@ -126,10 +120,7 @@ impl Pool {
     ///
     /// Refused, in this order, as `NoLoad`, `Stale`, `HistoryFull` or `Memory`.
     pub fn adopt(&mut self, certified: Certified) -> Result<Ran, AdoptError>
-        ensures step { OnOk result (IsStep (event.Round certified.answer) self.old self.new) }
-        ensures ran { IfOk result (λ ran. ran ≡ ran_of certified.answer self.old.state) }
-        ensures err { OnErr result (self.new ≡ self.old) }
-        ensures answer { Adopts self.old certified.input result }
+        ensures { Adopts certified self.old self.new result }
     {
         let Some(load) = &self.load else {
             return Err(AdoptError::NoLoad);

@@ -1,10 +1,8 @@
 //! Workers: how they join, and how they are lost.
-ghost use Rattle.std.specs.Prelude.{◌≡◌, ◌+◌, ◌<◌, IsTrue, length, IfOk, OnOk, OnErr};
-ghost use Rattle.worker_state.specs.Slots.{last_generation};
-ghost use Rattle.pool_core.specs.Machine.{slot_in, is_live_in};
-ghost use Rattle.std.specs.Result.{result_err};
-ghost use Rattle.pool_core.specs.Book.{Book, IsStep, join_due, join_refusal, lose_refusal, expire_refusal};
-ghost use Rattle.worker_state.specs.declared.cause.Cause.TheVariants.{Late};
+ghost use Rattle.std.specs.Prelude.{◌≡◌, ◌<◌, IsTrue, length};
+ghost use Rattle.pool_core.specs.Machine.{is_live_in};
+ghost use Rattle.pool_core.specs.Book.{IsStep, join_refusal, lose_refusal, expire_refusal};
+ghost use Rattle.pool_core.specs.Calls.{Joins, Loses, Expires};
 ghost use Rattle.pool_core.specs.declared.event.Event.TheVariants as event;
 
 use super::{Pass, Pool};
@@ -19,10 +17,10 @@ impl Pool {
         ensures { result ≡ join_refusal self.now slot }
     {
         let held = self.slot_of(slot);
-        if table::lives(&held) {
+        if held.is_live() {
             return Some(JoinError::AlreadyLive);
         }
-        if table::last_of(&held) >= MAX_GENERATION {
+        if held.last_generation() >= MAX_GENERATION {
             return Some(JoinError::GenerationsUsed);
         }
         if !self.has_room(2) {
@@ -38,16 +36,13 @@ impl Pool {
     /// Refused, in this order, as `AlreadyLive`, `GenerationsUsed`, `HistoryFull` or `Memory`.
     pub fn join(&mut self, slot: SlotId) -> Result<Pass, JoinError>
         requires { slot < length self.old.state.slots }
-        ensures step { OnOk result (IsStep (event.Join slot) self.old self.new) }
-        ensures pass { IfOk result (λ pass. pass ≡ record { slot = slot; generation = last_generation (slot_in self.old.state.slots slot) + 1 }) }
-        ensures err { OnErr result (self.new ≡ self.old) }
-        ensures refusal { join_due result ≡ join_refusal self.old slot }
+        ensures { Joins slot self.old self.new result }
     {
         if let Some(refusal) = self.join_refusal(slot) {
             return Err(refusal);
         }
         self.events.reserve(self.owed as usize + 2)?;
-        let generation = table::last_of(&table::slot_of(self.slots.as_slice(), slot)) + 1;
+        let generation = table::slot_of(self.slots.as_slice(), slot).last_generation() + 1;
         let live = Slot::Live {
             generation,
             runs: 0,
@@ -70,7 +65,7 @@ impl Pool {
     fn lose_refusal(&self, worker: &WorkerName) -> Option<LoseError>
         ensures { result ≡ lose_refusal self.now worker.now }
     {
-        if table::is_of(&self.slot_of(worker.slot), worker.generation) {
+        if self.slot_of(worker.slot).has_generation(worker.generation) {
             None
         } else {
             Some(LoseError::Gone)
@@ -81,7 +76,7 @@ impl Pool {
         requires { IsTrue (is_live_in self.old.state worker) }
         ensures { IsStep (event.Lost worker cause) self.old self.new }
     {
-        let ticket = table::open_in(&table::slot_of(self.slots.as_slice(), worker.slot));
+        let ticket = table::slot_of(self.slots.as_slice(), worker.slot).held_ticket();
         table::put_slot(&mut self.slots, worker.slot, Slot::Empty(worker.generation));
         let jobs = table::lost_jobs(&ticket);
         let name = WorkerName {
@@ -97,9 +92,7 @@ impl Pool {
     /// Loses a worker, and with it the job that it had. The pass is spent, also where it is refused. It takes no memory and needs
     /// no room, and is refused as `Gone` alone.
     pub fn lose(&mut self, pass: Pass, cause: Cause) -> Result<(), LoseError>
-        ensures step { OnOk result (IsStep (event.Lost pass cause) self.old self.new) }
-        ensures err { OnErr result (self.new ≡ self.old) }
-        ensures refusal { result_err result ≡ lose_refusal self.old pass }
+        ensures { Loses pass cause self.old self.new result }
     {
         let worker = pass.name();
         if let Some(refusal) = self.lose_refusal(&worker) {
@@ -113,10 +106,10 @@ impl Pool {
         ensures { result ≡ expire_refusal self.now worker.now now_ms }
     {
         let slot = self.slot_of(worker.slot);
-        if !table::is_of(&slot, worker.generation) {
+        if !slot.has_generation(worker.generation) {
             return Some(ExpireError::Gone);
         }
-        let Some(ticket) = table::open_in(&slot) else {
+        let Some(ticket) = slot.held_ticket() else {
             return Some(ExpireError::NoJob);
         };
         if table::reports(self.standing_in(ticket)) {
@@ -137,9 +130,7 @@ impl Pool {
     /// Refused, in this order, as `Gone`, `NoJob`, `Reporting` or `NotLate`.
     pub fn expire(&mut self, slot: SlotId, generation: u32, now_ms: u64) -> Result<(), ExpireError>
         requires { slot < length self.old.state.slots }
-        ensures step { OnOk result (IsStep (event.Lost (record { slot = slot; generation = generation }) Late) self.old self.new) }
-        ensures err { OnErr result (self.new ≡ self.old) }
-        ensures refusal { result_err result ≡ expire_refusal self.old (record { slot = slot; generation = generation }) now_ms }
+        ensures { Expires (record { slot = slot; generation = generation }) now_ms self.old self.new result }
     {
         let worker = WorkerName { slot, generation };
         if let Some(refusal) = self.expire_refusal(&worker, now_ms) {

@@ -7,6 +7,7 @@ use gear_status::Load;
 use level_search::solve;
 use plan_model::{Certified, SlotId};
 use pool_settings::Settings;
+use refusal::Labelled;
 use std::alloc::Global;
 use worker_state::{Cause, EndKind, Order, Slot, Standing, Ticket, What};
 
@@ -165,14 +166,14 @@ fn grab(pool: &mut Pool, pass: &Pass) -> Told {
     match pool.grab(pass, handle, b"x", 0) {
         Ok(ticket) => Told::Job(ticket.number()),
         Err(GrabError::Memory) => Told::NoMemory,
-        Err(error) => Told::Refused(error.number()),
+        Err(error) => Told::Refused(error.label().number()),
     }
 }
 
 fn begin(pool: &mut Pool, pass: &Pass, ticket: u64) -> Told {
     match pool.begin_report(pass, Ticket::new(ticket)) {
         Ok(()) => Told::Done,
-        Err(error) => Told::Refused(error.number()),
+        Err(error) => Told::Refused(error.label().number()),
     }
 }
 
@@ -180,7 +181,7 @@ fn complete(pool: &mut Pool, pass: &Pass, ticket: u64) -> Told {
     match pool.reported(pass, Ticket::new(ticket), EndKind::Complete) {
         Ok(StayOrRetire::Stay) => Told::Stay,
         Ok(StayOrRetire::Retire) => Told::Retire,
-        Err(error) => Told::Refused(error.number()),
+        Err(error) => Told::Refused(error.label().number()),
     }
 }
 
@@ -190,7 +191,7 @@ fn expire(pool: &mut Pool, generation: u32, now_ms: u64) -> Told {
     }
     match pool.expire(SlotId::new(0), generation, now_ms) {
         Ok(()) => Told::Done,
-        Err(error) => Told::Refused(error.number()),
+        Err(error) => Told::Refused(error.label().number()),
     }
 }
 
@@ -198,7 +199,7 @@ fn round(pool: &mut Pool) -> Told {
     match pool.round() {
         Ok(made) => ran(&made),
         Err(RoundError::Memory) => Told::NoMemory,
-        Err(error) => Told::Refused(error.number()),
+        Err(error) => Told::Refused(error.label().number()),
     }
 }
 
@@ -220,7 +221,7 @@ fn end_chapter(pool: &mut Pool) -> Told {
     match pool.end_chapter() {
         Ok(chapter) => Told::Chapter(chapter.number, chapter.events.len()),
         Err(ChapterError::Memory) => Told::NoMemory,
-        Err(error) => Told::Refused(error.number()),
+        Err(error) => Told::Refused(error.label().number()),
     }
 }
 
@@ -286,7 +287,7 @@ impl Course {
         let pass = match self.pool.join(SlotId::new(slot)) {
             Ok(pass) => pass,
             Err(JoinError::Memory) => return Told::NoMemory,
-            Err(error) => return Told::Refused(error.number()),
+            Err(error) => return Told::Refused(error.label().number()),
         };
         let generation = pass.name().generation;
         if let Some(held) = self.passes.get_mut(slot as usize) {
@@ -304,7 +305,7 @@ impl Course {
             None => Told::Nothing,
             Some(pass) => match self.pool.lose(pass, cause) {
                 Ok(()) => Told::Done,
-                Err(error) => Told::Refused(error.number()),
+                Err(error) => Told::Refused(error.label().number()),
             },
         }
     }
@@ -316,7 +317,7 @@ impl Course {
         match self.pool.load(load) {
             Ok(()) => Told::Done,
             Err(LoadError::Memory) => Told::NoMemory,
-            Err(error) => Told::Refused(error.number()),
+            Err(error) => Told::Refused(error.label().number()),
         }
     }
 
@@ -327,7 +328,7 @@ impl Course {
                 Told::Done
             }
             Err(ViewError::Memory) => Told::NoMemory,
-            Err(error) => Told::Refused(error.number()),
+            Err(error) => Told::Refused(error.label().number()),
         }
     }
 
@@ -342,7 +343,7 @@ impl Course {
                 let _seen = self.view();
                 Told::NoMemory
             }
-            Err(error) => Told::Refused(error.number()),
+            Err(error) => Told::Refused(error.label().number()),
         }
     }
 

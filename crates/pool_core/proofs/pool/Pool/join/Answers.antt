@@ -13,7 +13,7 @@ use Rattle.pool_core.proofs.pool.Pool.join.Goals as goal
 pub invariant_of-self-2 : goal.invariant_of-self-2
 invariant_of-self-2 c =
     let p = c.self.inside in
-    let last : c.last_of-generation.result ≡ last_generation (slot_in p.slots.items c.args.slot) = cc in
+    let last : c.last_generation-generation.result ≡ last_generation (slot_in p.slots.items c.args.slot) = cc in
     kept_join p.settings p.chapters p.events.items (state_of p) p.owed p.reported p.lost _ c.self.invariant
     c.args.slot (subst (λ (b : Book). c.args.slot < length b.state.slots) (sym c.self.view_is) c.requires)
     (ap (λ (b : Book). join_refusal b c.args.slot) c.self.view_is ∙ (sym c.join_refusal.ensures ∙ c.in_default.is))

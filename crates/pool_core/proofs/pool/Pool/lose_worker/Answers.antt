@@ -1,6 +1,6 @@
 use Rattle.std.proofs.Common.{sym, subst, arith, ◌≡◌}
 use Rattle.std.specs.Prelude.{true}
-use Rattle.worker_state.specs.Slots.{ticket_of}
+use Rattle.worker_state.specs.Slots.{held_ticket}
 use Rattle.pool_core.specs.Machine.{slot_in, is_live_in, open_ticket}
 use Rattle.pool_core.specs.Book.{Book}
 use Rattle.pool_core.specs.Kept.{closing_of, lost_of}
@@ -11,7 +11,7 @@ use Rattle.pool_core.proofs.pool.Pool.lose_worker.Goals as goal
 pub put_lost-owed-requires : goal.put_lost-owed-requires
 put_lost-owed-requires c =
     let p = c.self.inside in
-    open_given p.settings (state_of p) c.self.invariant.sound c.args.worker c.open_in-ticket.result (cc) (Rattle.std.specs.Vec.vec_len p.standings) p.standings.ok.0
+    open_given p.settings (state_of p) c.self.invariant.sound c.args.worker c.held_ticket-ticket.result (cc) (Rattle.std.specs.Vec.vec_len p.standings) p.standings.ok.0
 
 pub overflow_sub-self : goal.overflow_sub-self
 overflow_sub-self c =
@@ -23,9 +23,9 @@ pub invariant_of-self : goal.invariant_of-self
 invariant_of-self c =
     let p = c.self.inside in
     let w = c.args.worker in
-    let ticket : c.open_in-ticket.result ≡ ticket_of (slot_in p.slots.items w.slot) = cc in
-    let owed : c.put_lost-owed.result ≡ closing_of p.standings.items (ticket_of (slot_in p.slots.items w.slot)) = cc in
-    let lost : c.lost_jobs-jobs.result ≡ lost_of (ticket_of (slot_in p.slots.items w.slot)) = cc in
+    let ticket : c.held_ticket-ticket.result ≡ held_ticket (slot_in p.slots.items w.slot) = cc in
+    let owed : c.put_lost-owed.result ≡ closing_of p.standings.items (held_ticket (slot_in p.slots.items w.slot)) = cc in
+    let lost : c.lost_jobs-jobs.result ≡ lost_of (held_ticket (slot_in p.slots.items w.slot)) = cc in
     rw (owed, lost) (kept_lost p.settings p.chapters p.events.items (state_of p) p.owed p.reported p.lost _ c.self.invariant
     w c.args.cause (subst (λ (b : Book). is_live_in b.state w ≡ true) (sym c.self.view_is) c.requires)
     c.push_reserved.new.self.items c.push_reserved.ensures.items

@@ -1,14 +1,26 @@
 use Rattle.std.proofs.Common.{◌≡◌, ◌+◌, ◌≤◌, List, ◌∷◌, [], ◌++◌, length, refl, ap, ◌∙◌, sym, subst, arith}
+use Rattle.std.specs.Prelude.{slice_index_or}
 use Rattle.std.proofs.lemmas.Bool.{leb-true}
+use Rattle.worker_state.specs.declared.order.Order.{Order}
+use Rattle.worker_state.specs.Orders.{no_order, IsOrder}
 use Rattle.plan_model.specs.declared.answer.Answer.TheVariants as answers
 use Rattle.pool_core.specs.declared.event.Event.{Event}
 use Rattle.pool_core.specs.declared.event.Event.TheVariants as event
 use Rattle.pool_core.specs.Machine.{owed, IsPossible, orders_from}
 use Rattle.pool_core.specs.Book.{Book, has_room}
 use Rattle.pool_core.specs.View.{state_of}
-use Rattle.pool_core.proofs.Sound.{length-orders_from}
+use Rattle.pool_core.proofs.Sound.{length-orders_from, sound_round}
 use Rattle.pool_core.proofs.Calls.{kept_plan, orders_same}
 use Rattle.pool_core.proofs.pool.Pool.record_plan.Goals as goal
+
+pub orders_after-requires-clause-ranges : goal.orders_after-requires-clause-ranges
+orders_after-requires-clause-ranges c =
+    let p = c.self.inside in
+    let answer = answers.Planned c.args.plan c.args.backlog c.args.short in
+    let possible = subst (λ (b : Book). IsPossible b.rules (event.Round answer) b.state) (sym c.self.view_is) c.requires.possible in
+    λ s. subst (λ (orders : List Order). IsOrder (slice_index_or orders s no_order))
+    (sym (orders_same c.args.plan c.args.plan (p.rounds + 1) p.slots.items _ p.orders.items _ refl c.as_slice.ensures.value c.as_slice-2.ensures.value))
+    ((sound_round p.settings answer (state_of p) c.self.invariant.in_range c.self.invariant.sound possible).ranges s)
 
 pub moved-moved-requires-clause-new : goal.moved-moved-requires-clause-new
 moved-moved-requires-clause-new c =
