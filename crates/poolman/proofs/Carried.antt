@@ -1,18 +1,23 @@
--- A command of which a file was not read.
-use Rattle.std.proofs.Common.{◌≡◌, ◌+◌, ℕ, [], List, Bool, Option, inl, refl, arith}
-use Rattle.gear_status.specs.Device.{and_then, counted}
-use Rattle.gear_status.proofs.Devices.{counted_nothing, told_nothing}
+-- Commands by their files.
+use Rattle.std.proofs.Common.{◌≡◌, ℕ, List, inl, inr, refl}
+use Rattle.command_line.specs.Words.{Named, plan}
+use Rattle.devices.specs.Folder.{IsRead, Known}
+use Rattle.devices.specs.declared.error.InputError.{InputError}
+use Rattle.gear_status.specs.Sides.{Input, Meets, Met, Output}
+use Rattle.plan_commands.proofs.Posing.{meets_nothing, nothing_from}
+use Rattle.plan_commands.specs.Fault.{input_fault, refused}
+use Rattle.plan_commands.specs.Plan.{Plans}
+use Rattle.plan_commands.specs.declared.ending.Exit.{Exit}
 use Rattle.poolman.specs.Carrying.{CarriesOut, IsUnreadIn}
-use Rattle.poolman.specs.Fault.{refused}
-use Rattle.poolman.specs.Folder.{Known}
-use Rattle.poolman.specs.Words.{Named}
-use Rattle.poolman.specs.declared.fault.Exit.{Exit}
-use Rattle.poolman.specs.declared.fault.Fault.{Fault}
 
 -- nothing was taken and nothing written
-pub unread : (file : List ℕ → Known) (command : Named) (given : Option (List ℕ)) (paused : Option ℕ) (failed : ℕ) (ended : Bool)
-    (got : Option (List ℕ)) (f : Fault) (exit : Exit) → exit ≡ refused f → IsUnreadIn file command f
-    → (bytes : List ℕ) × (lulls : ℕ) × (failures : ℕ) × (given ≡ and_then given bytes) × (paused ≡ counted paused lulls)
-    × (failed ≡ failed + failures) × CarriesOut file command bytes lulls failures ended got got exit.status exit.fault
-unread file command given paused failed ended got f exit ends not_read =
-    ([], 0, 0, told_nothing given, counted_nothing paused, omega arith, rw ends (inl (not_read, refl, refl, refl, refl, refl)))
+pub unread : (file : List ℕ → Known) (command : Named) (side : Input) (out : Output) (e : InputError) (exit : Exit)
+    → exit ≡ refused (input_fault e) → IsUnreadIn file command e
+    → (met : Met) × Meets side met side × CarriesOut file command met out out exit
+unread file command side out e exit ends not_read =
+    (nothing_from side, meets_nothing side, inr (e, not_read, (refl, refl, refl), (refl, ends)))
+
+-- the settings were read, and the plan was made
+pub planned : (file : List ℕ → Known) (s : List ℕ) (lost : List (List ℕ)) (text : List ℕ) (met : Met) (old new : Output) (exit : Exit)
+    → IsRead (file s) text → Plans text lost met old new exit → CarriesOut file (plan s lost) met old new exit
+planned file s lost text met old new exit read plans = inl (text, read, plans)

@@ -1,9 +1,1 @@
-pub mod Rows
-pub mod Chain
-pub mod Marks
-pub mod Posing
-pub mod Ending
-pub mod Examining
-pub mod Replaying
-pub mod Telling
 pub mod Carried

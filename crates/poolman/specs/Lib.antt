@@ -1,11 +1,2 @@
-pub mod Words
-pub mod Named
-pub mod Fault
-pub mod Folder
-pub mod Devices
-pub mod Problem
-pub mod Posing
-pub mod Plan
-pub mod Check
-pub mod Replay
 pub mod Carrying
+pub mod Program

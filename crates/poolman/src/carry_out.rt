@@ -1,19 +1,16 @@
 //! A command, carried out on files and devices.
 
-ghost use Rattle.std.specs.Prelude.{◌≡◌, ◌+◌, ◌-◌, ◌^◌, ◌<◌, ◌⊎◌, IfErr, IfOk, IfSome, List, ℕ};
-ghost use Rattle.gear_status.specs.Device.{and_then, counted};
+ghost use Rattle.std.specs.Prelude.{◌-◌, ◌^◌, ◌<◌, ◌⊎◌, IfErr, IfOk, List, ℕ};
+ghost use Rattle.command_line.specs.Named.{named};
+ghost use Rattle.devices.specs.Folder.{IsRead, IsUnread};
+ghost use Rattle.gear_status.specs.Sides.{Meets, Met};
 ghost use Rattle.poolman.specs.Carrying.{CarriesOut};
-ghost use Rattle.poolman.specs.Fault.{sink_failures};
-ghost use Rattle.poolman.specs.Folder.{IsRead, IsUnread};
-ghost use Rattle.poolman.specs.Named.{named};
 
-use crate::check::check_text;
-use crate::command_line::Command;
-use crate::fault::{Exit, Fault};
-use crate::files::{Folder, read_file};
-use crate::plan::plan_text;
-use crate::replay::run_commands;
+use command_line::Command;
+use devices::{Folder, InputError, read_file};
 use gear_status::{Sink, Source};
+use plan_commands::{Exit, Fault, check_text, plan_text};
+use replay_command::run_commands;
 use std::alloc::Global;
 
 /// Carries out a command: reads its files, and then does what `plan_text`, `check_text` or `run_commands` says of
@@ -25,19 +22,15 @@ pub fn carry_out<F: Folder, R: Source, S: Sink>(
     source: &mut R,
     sink: &mut S,
 ) -> Exit
-    requires source { R.failures source.old < 2 ^ 64 - 1 }
-    requires sink { S.failures sink.old < 2 ^ 64 - 1 }
-    ensures outcome { (bytes : List ℕ) × (lulls : ℕ) × (failures : ℕ)
-        × (R.given source.new ≡ and_then (R.given source.old) bytes)
-        × (R.lulls source.new ≡ counted (R.lulls source.old) lulls)
-        × (R.failures source.new ≡ R.failures source.old + failures)
-        × CarriesOut (F.file files.now) (named command.now) bytes lulls failures (R.has_ended source.new) (S.got sink.old) (S.got sink.new) result.status result.fault }
-    ensures sink_failures { S.failures sink.new ≡ S.failures sink.old + sink_failures result.fault }
+    requires source { (R.input source.old).failures < 2 ^ 64 - 1 }
+    requires sink { (S.output sink.old).failures < 2 ^ 64 - 1 }
+    ensures carries_out { (met : Met) × Meets (R.input source.old) met (R.input source.new)
+        × CarriesOut (F.file files.now) (named command.now) met (S.output sink.old) (S.output sink.new) result }
 {
     match command {
         Command::Plan { settings, lost } => match read_file(files, alloc, settings) {
             Ok(text) => plan_text(alloc, &text, lost, source, sink),
-            Err(fault) => Exit::refused(fault),
+            Err(error) => Exit::refused(Fault::from(error)),
         },
         Command::Check {
             settings,
@@ -45,11 +38,11 @@ pub fn carry_out<F: Folder, R: Source, S: Sink>(
             lost,
         } => match read_both(files, alloc, settings, status) {
             Ok((text, status)) => check_text(alloc, &text, &status, lost, source, sink),
-            Err(fault) => Exit::refused(fault),
+            Err(error) => Exit::refused(Fault::from(error)),
         },
         Command::Replay { settings } => match read_file(files, alloc, settings) {
             Ok(text) => run_commands(alloc, &text, source, sink),
-            Err(fault) => Exit::refused(fault),
+            Err(error) => Exit::refused(Fault::from(error)),
         },
     }
 }
@@ -60,11 +53,11 @@ fn read_both<F: Folder>(
     alloc: Global,
     first: &str,
     second: &str,
-) -> Result<(Vec<u8>, Vec<u8>), Fault>
+) -> Result<(Vec<u8>, Vec<u8>), InputError>
     ensures first { IfOk result (λ texts. IsRead (F.file files.now first.now) texts.0.items) }
     ensures second { IfOk result (λ texts. IsRead (F.file files.now second.now) texts.1.items) }
-    ensures err { IfErr result (λ f. IsUnread (F.file files.now first.now) f
-        ⊎ ((text : List ℕ) × IsRead (F.file files.now first.now) text × IsUnread (F.file files.now second.now) f)) }
+    ensures err { IfErr result (λ e. IsUnread (F.file files.now first.now) e
+        ⊎ ((text : List ℕ) × IsRead (F.file files.now first.now) text × IsUnread (F.file files.now second.now) e)) }
 {
     let first = read_file(files, alloc, first)?;
     let second = read_file(files, alloc, second)?;

@@ -1,60 +1,78 @@
-use Rattle.std.proofs.Common.{inr, subst, sym}
-use Rattle.poolman.specs.Folder.{IsRead}
-use Rattle.poolman.specs.Named.{named}
-use Rattle.poolman.proofs.Carried.{unread}
+use Rattle.std.proofs.Common.{inl, map, subst, sym, ap, ◌∙◌}
+use Rattle.command_line.specs.Named.{named}
+use Rattle.devices.specs.Folder.{IsRead}
+use Rattle.plan_commands.specs.Fault.{refused}
+use Rattle.plan_commands.specs.Plan.{Plans}
+use Rattle.poolman.specs.Carrying.{CarriesOut}
+use Rattle.poolman.proofs.Carried.{planned, unread}
 use Rattle.poolman.proofs.carry_out.carry_out.Goals as goal
 
-pub returns-in-Err-clause-outcome : goal.returns-in-Err-clause-outcome
-returns-in-Err-clause-outcome g c =
-    unread (g.F.Folder.file c.args.files.now) (named c.args.command.now) (g.R.Source.given c.args.source.now) (g.R.Source.lulls c.args.source.now)
-    (g.R.Source.failures c.args.source.now) (g.R.Source.has_ended c.args.source.now) (g.S.Sink.got c.args.sink.now) c.in-Err.fault c.refused.result
-    c.refused.ensures (rw c.in-Plan.is c.in-Err.ensures.err)
+pub returns-in-Err : goal.returns-in-Err
+returns-in-Err g c = record {
+  carries_out = unread (g.F.Folder.file c.args.files.now) (named c.args.command.now) (g.R.Device.input c.args.source.now)
+      (g.S.Device.output c.args.sink.now) c.in-Err.error c.refused.result (c.refused.ensures ∙ ap refused c.from.ensures)
+      (rw c.in-Plan.is c.in-Err.ensures.err);
+}
 
-pub returns-in-Err-read_both-clause-outcome : goal.returns-in-Err-read_both-clause-outcome
-returns-in-Err-read_both-clause-outcome g c =
-    unread (g.F.Folder.file c.args.files.now) (named c.args.command.now) (g.R.Source.given c.args.source.now) (g.R.Source.lulls c.args.source.now)
-    (g.R.Source.failures c.args.source.now) (g.R.Source.has_ended c.args.source.now) (g.S.Sink.got c.args.sink.now) c.in-Err-read_both.fault
-    c.refused-in-Err-read_both.result c.refused-in-Err-read_both.ensures (rw c.in-Check.is c.in-Err-read_both.ensures.err)
+pub returns-in-Err-read_both : goal.returns-in-Err-read_both
+returns-in-Err-read_both g c = record {
+  carries_out = unread (g.F.Folder.file c.args.files.now) (named c.args.command.now) (g.R.Device.input c.args.source.now)
+      (g.S.Device.output c.args.sink.now) c.in-Err-read_both.error c.refused-in-Err-read_both.result
+      (c.refused-in-Err-read_both.ensures ∙ ap refused c.from-in-Err-read_both.ensures) (rw c.in-Check.is c.in-Err-read_both.ensures.err);
+}
 
-pub returns-in-Err-read_file-clause-outcome : goal.returns-in-Err-read_file-clause-outcome
-returns-in-Err-read_file-clause-outcome g c =
-    unread (g.F.Folder.file c.args.files.now) (named c.args.command.now) (g.R.Source.given c.args.source.now) (g.R.Source.lulls c.args.source.now)
-    (g.R.Source.failures c.args.source.now) (g.R.Source.has_ended c.args.source.now) (g.S.Sink.got c.args.sink.now) c.in-Err-read_file.fault
-    c.refused-in-Err-read_file.result c.refused-in-Err-read_file.ensures (rw c.in-Replay.is c.in-Err-read_file.ensures.err)
+pub returns-in-Err-read_file : goal.returns-in-Err-read_file
+returns-in-Err-read_file g c = record {
+  carries_out = unread (g.F.Folder.file c.args.files.now) (named c.args.command.now) (g.R.Device.input c.args.source.now)
+      (g.S.Device.output c.args.sink.now) c.in-Err-read_file.error c.refused-in-Err-read_file.result
+      (c.refused-in-Err-read_file.ensures ∙ ap refused c.from-in-Err-read_file.ensures) (rw c.in-Replay.is c.in-Err-read_file.ensures.err);
+}
 
-pub returns-in-Ok-read_both-clause-outcome : goal.returns-in-Ok-read_both-clause-outcome
-returns-in-Ok-read_both-clause-outcome g c =
-    let told = c.check_text.ensures.outcome in
+pub returns-in-Ok-read_both : goal.returns-in-Ok-read_both
+returns-in-Ok-read_both g c =
+    let told = c.check_text.ensures.checks in
     let read = c.in-Ok-read_both in
-    let file = g.F.Folder.file c.args.files.now in (
-      told.0,
-      told.1,
-      told.2,
-      told.3,
-      told.4,
-      told.5,
-      rw (c.in-Check.is, ← c.deref-in-Ok-read_both-3.ensures.value) (inr (
-        c.deref-in-Ok-read_both.result.now,
-        c.deref-in-Ok-read_both-2.result.now,
-        subst (IsRead (file c.in-Check.settings.now)) (sym c.deref-in-Ok-read_both.ensures.value) read.ensures.first,
-        subst (IsRead (file c.in-Check.status.now)) (sym c.deref-in-Ok-read_both-2.ensures.value) read.ensures.second,
-        told.6,
-      )),
-    )
+    let file = g.F.Folder.file c.args.files.now in record {
+      carries_out = (
+        told.0,
+        told.1,
+        rw (c.in-Check.is, ← c.deref-in-Ok-read_both-3.ensures.value) (inl (
+          c.deref-in-Ok-read_both.result.now,
+          c.deref-in-Ok-read_both-2.result.now,
+          subst (IsRead (file c.in-Check.settings.now)) (sym c.deref-in-Ok-read_both.ensures.value) read.ensures.first,
+          subst (IsRead (file c.in-Check.status.now)) (sym c.deref-in-Ok-read_both-2.ensures.value) read.ensures.second,
+          told.2,
+        )),
+      );
+    }
 
-pub returns-in-Ok-read_file-clause-outcome : goal.returns-in-Ok-read_file-clause-outcome
-returns-in-Ok-read_file-clause-outcome g c =
-    let told = c.run_commands.ensures.outcome in (
-      told.0,
-      told.1,
-      told.2,
-      told.3,
-      told.4,
-      told.5,
-      rw c.in-Replay.is (inr (
-        c.deref-in-Ok-read_file.result.now,
-        subst (IsRead (g.F.Folder.file c.args.files.now c.in-Replay.settings.now)) (sym c.deref-in-Ok-read_file.ensures.value)
-            c.in-Ok-read_file.ensures.whole,
-        told.6,
-      )),
-    )
+pub returns-in-Ok-read_file : goal.returns-in-Ok-read_file
+returns-in-Ok-read_file g c =
+    let told = c.run_commands.ensures.replays in record {
+      carries_out = (
+        told.0,
+        told.1,
+        rw c.in-Replay.is (inl (
+          c.deref-in-Ok-read_file.result.now,
+          subst (IsRead (g.F.Folder.file c.args.files.now c.in-Replay.settings.now)) (sym c.deref-in-Ok-read_file.ensures.value)
+              c.in-Ok-read_file.ensures.whole,
+          told.2,
+        )),
+      );
+    }
+
+pub returns-in-Ok : goal.returns-in-Ok
+returns-in-Ok g c =
+    let told = c.plan_text.ensures.plans in
+    let file = g.F.Folder.file c.args.files.now in
+    let old = g.S.Device.output c.args.sink.now in
+    let new = g.S.Device.output c.plan_text.new.sink in
+    let read = subst (IsRead (file c.in-Plan.settings.now)) (sym c.deref.ensures.value) c.in-Ok.ensures.whole in
+    let plans = subst (λ lost. Plans c.deref.result.now (map (λ w. w.now) lost) told.0 old new c.plan_text.result) c.deref-in-Ok.ensures.value told.2 in record {
+      carries_out = (
+        told.0,
+        told.1,
+        subst (λ command. CarriesOut file (named command) told.0 old new c.plan_text.result) (sym c.in-Plan.is)
+            (planned file c.in-Plan.settings.now (map (λ w. w.now) c.in-Plan.lost.items) c.deref.result.now told.0 old new c.plan_text.result read plans),
+      );
+    }

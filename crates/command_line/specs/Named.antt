@@ -1,0 +1,25 @@
+-- A command of the code, as its texts.
+use Rattle.std.specs.Prelude.{◌≡◌, ◌≢◌, map}
+use Rattle.clap.specs.Words.{IsAmong, Kinds, kind_of}
+use Rattle.clap.specs.declared.error.Error.{Error}
+use Rattle.clap.specs.declared.error.kind.ErrorKind.TheVariants.{OutOfMemory}
+use Rattle.command_line.specs.Words.{Named, plan, check, replay}
+use Rattle.command_line.specs.declared.command.Command.{Command}
+use Rattle.command_line.specs.declared.command.Command.TheVariants.{Plan, Check, Replay}
+use Rattle.command_line.specs.declared.command.CommandError.{CommandError}
+use Rattle.command_line.specs.declared.command.CommandError.TheVariants.{Usage, Memory}
+
+abbrev pub named : Command → Named
+named (Plan settings lost) = plan settings.now (map (λ w. w.now) lost.items)
+named (Check settings status lost) = check settings.now status.now (map (λ w. w.now) lost.items)
+named (Replay settings) = replay settings.now
+
+-- this error of `clap`, or want of memory where it is one of that
+abbrev pub Tells : Error → CommandError → Type 0
+Tells error (Usage told) = (told ≡ error) × (kind_of error ≢ OutOfMemory)
+Tells error Memory = kind_of error ≡ OutOfMemory
+
+-- an error of `clap` of one of these kinds, or want of memory
+abbrev pub IsOfKinds : Kinds → CommandError → Type 0
+IsOfKinds kinds (Usage error) = IsAmong (kind_of error) kinds
+IsOfKinds kinds Memory = Unit {0}

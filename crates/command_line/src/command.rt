@@ -1,0 +1,123 @@
+//! What the words of the command line ask for.
+
+ghost use Rattle.std.specs.Prelude.{◌≡◌, IfErr, IfOk, Some, [], map};
+ghost use Rattle.clap.specs.Simple.{matches_of};
+ghost use Rattle.clap.specs.Words.{fault_of};
+ghost use Rattle.command_line.specs.Named.{IsOfKinds, Tells, named};
+ghost use Rattle.command_line.specs.Words as spec;
+
+use crate::operands::{check_words, overview, plan_words, replay_words};
+use clap::Error;
+use clap::error::ErrorKind;
+use std::alloc::{AllocError, Global};
+use std::convert::AsStr;
+
+/// What the words ask for, with the texts that they give.
+#[derive(Drop)]
+pub enum Command<'a> {
+    /// `plan SETTINGS [LOST]...`: the best plan for the status text on standard input.
+    Plan {
+        settings: &'a str,
+        lost: Vec<&'a str>,
+    },
+    /// `check SETTINGS STATUS [LOST]...`: whether the report on standard input is shown.
+    Check {
+        settings: &'a str,
+        status: &'a str,
+        lost: Vec<&'a str>,
+    },
+    /// `replay SETTINGS`: what the command lines on standard input answer.
+    Replay {
+        settings: &'a str,
+    },
+}
+
+/// Why words are not taken.
+#[derive(Drop)]
+pub enum CommandError {
+    /// They are no command's words, or ask for help. Its text is what `clap` prints of it.
+    Usage(Error),
+    /// An allocation was refused.
+    Memory,
+}
+
+impl From<AllocError> for CommandError {
+    ghost use Rattle.std.specs.Prelude.{◌≡◌};
+    ghost use Rattle.command_line.specs.declared.command.CommandError.TheVariants.{Memory};
+
+    ghost from_gives = { λ _ e. e ≡ Memory };
+
+    fn from(_: AllocError) -> CommandError {
+        CommandError::Memory
+    }
+}
+
+/// Tells want of memory from words that are not taken.
+fn refused(error: Error) -> CommandError
+    ensures { Tells error result }
+{
+    if error.kind() == ErrorKind::OutOfMemory {
+        CommandError::Memory
+    } else {
+        CommandError::Usage(error)
+    }
+}
+
+fn plan_of<'a, W: AsStr>(alloc: Global, words: &'a [W]) -> Result<Command<'a>, CommandError>
+    ensures ok { IfOk result (λ c. spec.plan_in (matches_of spec.plan_app (map W.text words.now)) ≡ Some (named c)) }
+    ensures taken { IfOk result (λ _. fault_of spec.plan_app (map W.text words.now) ≡ []) }
+    ensures usage { IfErr result (IsOfKinds (fault_of spec.plan_app (map W.text words.now))) }
+{
+    match plan_words(alloc, words) {
+        Ok((settings, lost)) => Ok(Command::Plan { settings, lost }),
+        Err(error) => Err(refused(error)),
+    }
+}
+
+fn check_of<'a, W: AsStr>(alloc: Global, words: &'a [W]) -> Result<Command<'a>, CommandError>
+    ensures ok { IfOk result (λ c. spec.check_in (matches_of spec.check_app (map W.text words.now)) ≡ Some (named c)) }
+    ensures taken { IfOk result (λ _. fault_of spec.check_app (map W.text words.now) ≡ []) }
+    ensures usage { IfErr result (IsOfKinds (fault_of spec.check_app (map W.text words.now))) }
+{
+    match check_words(alloc, words) {
+        Ok((settings, status, lost)) => Ok(Command::Check {
+            settings,
+            status,
+            lost,
+        }),
+        Err(error) => Err(refused(error)),
+    }
+}
+
+fn replay_of<'a, W: AsStr>(alloc: Global, words: &'a [W]) -> Result<Command<'a>, CommandError>
+    ensures ok { IfOk result (λ c. spec.replay_in (matches_of spec.replay_app (map W.text words.now)) ≡ Some (named c)) }
+    ensures taken { IfOk result (λ _. fault_of spec.replay_app (map W.text words.now) ≡ []) }
+    ensures usage { IfErr result (IsOfKinds (fault_of spec.replay_app (map W.text words.now))) }
+{
+    match replay_words(alloc, words) {
+        Ok(settings) => Ok(Command::Replay { settings }),
+        Err(error) => Err(refused(error)),
+    }
+}
+
+/// The command that the words ask for. The first word is the program's name and the second the
+/// command's. `Usage` comes only where `clap` finds a fault in the words, help that they ask for included: it
+/// is of the kind of the first one, and holds the text to print.
+pub fn command_of<'a, W: AsStr>(alloc: Global, words: &'a [W]) -> Result<Command<'a>, CommandError>
+    ensures ok { IfOk result (λ c. spec.command_in (map W.text words.now) ≡ Some (named c)) }
+    ensures taken { IfOk result (λ _. spec.faults_in (map W.text words.now) ≡ []) }
+    ensures usage { IfErr result (IsOfKinds (spec.faults_in (map W.text words.now))) }
+{
+    if let Some(name) = words.get(1) {
+        if name.as_str() == "plan" {
+            return plan_of(alloc, &words[1..]);
+        }
+        if name.as_str() == "check" {
+            return check_of(alloc, &words[1..]);
+        }
+        if name.as_str() == "replay" {
+            return replay_of(alloc, &words[1..]);
+        }
+    }
+    Err(refused(overview(alloc, words)?))
+}

@@ -1,0 +1,10 @@
+//! The program's command line: from its words to the command that they ask for.
+#![tactic(auto)]
+
+mod command;
+mod operands;
+
+pub use command::{Command, CommandError, command_of};
+
+#[cfg(test)]
+mod tests;

@@ -1,0 +1,227 @@
+//! The command line of each command, as a command of `clap` of its own.
+
+ghost use Rattle.std.specs.Prelude.{◌≡◌, ◌<◌, IfOk, IsSomeAnd, Some, [], false, length, map, true};
+ghost use Rattle.clap.specs.Built.{FitsChain, TakesValue};
+ghost use Rattle.clap.specs.Words.{FailsBy, HasKind, IsPlainArg, app_of, args_of, fault_of, found_of, groups_of, rows_of, rule_of};
+ghost use Rattle.clap.specs.Simple.{matches_of, new_app};
+ghost use Rattle.clap.specs.Walk.{first_of};
+ghost use Rattle.clap.specs.declared.builder.command.Command.TheViews.{out-Command as fields_of};
+ghost use Rattle.command_line.specs.Words as spec;
+
+use clap::error::ErrorKind;
+use clap::{Arg, ArgAction, ArgMatches, Command, Error};
+use std::alloc::{AllocError, Global};
+use std::convert::AsStr;
+
+/// What the help of a command says beside its operands.
+#[derive(Clone, Copy)]
+struct Help {
+    about: &'static str,
+    usage: &'static str,
+    example: &'static str,
+}
+
+const PLAN: Help = Help {
+    about: "Reads a status text and prints the best plan, with what shows it",
+    usage: "poolman plan SETTINGS [LOST]... < STATUS",
+    example: "Example: poolman plan settings.toml b/0 < status.txt",
+};
+
+const CHECK: Help = Help {
+    about: "Reads a report and says whether it is shown, by the settings and the status text alone",
+    usage: "poolman check SETTINGS STATUS [LOST]... < REPORT",
+    example: "Example: poolman check settings.toml status.txt b/0 < report.txt",
+};
+
+const REPLAY: Help = Help {
+    about: "Reads command lines and prints what each answers, on a pool in which nothing has happened yet",
+    usage: "poolman replay SETTINGS < COMMANDS",
+    example: "Example: printf 'join a/0\nload x 6 0\nround\norder a/0\n' | poolman replay settings.toml",
+};
+
+const PROGRAM: Help = Help {
+    about: "Plans which worker of a Gearman pool serves which function, and shows that no plan is better",
+    usage: "poolman COMMAND ...",
+    example: "`poolman COMMAND --help` explains a command.",
+};
+
+/// A word that has to be there.
+fn operand<'a>(alloc: Global, id: &'a str, help: &'a str) -> Arg<'a>
+    ensures rule { rule_of result ≡ spec.operand id.entry.now }
+    ensures id { result.id ≡ id.entry }
+    ensures help { result.help ≡ Some help.entry }
+    ensures plain { IsPlainArg result }
+    ensures value { TakesValue result }
+    ensures local { result.global ≡ false }
+{
+    Arg::new(alloc, id)
+        .required(true)
+        .action(ArgAction::Set)
+        .help(help)
+}
+
+/// Any number of words.
+fn operands<'a>(alloc: Global, id: &'a str, help: &'a str) -> Arg<'a>
+    ensures rule { rule_of result ≡ spec.operands id.entry.now }
+    ensures id { result.id ≡ id.entry }
+    ensures help { result.help ≡ Some help.entry }
+    ensures plain { IsPlainArg result }
+    ensures local { result.global ≡ false }
+{
+    Arg::new(alloc, id)
+        .action(ArgAction::Append)
+        .num_args(0..)
+        .help(help)
+}
+
+fn settings<'a>(alloc: Global) -> Arg<'a>
+    ensures rule { rule_of result ≡ spec.operand spec.settings }
+    ensures id { result.id.now ≡ spec.settings }
+    ensures explained { IsSomeAnd result.help (λ help. 0 < length help.now) }
+    ensures fits { FitsChain result }
+    ensures value { TakesValue result }
+{
+    operand(
+        alloc,
+        "SETTINGS",
+        "The settings file: machines, functions, least numbers",
+    )
+}
+
+fn status<'a>(alloc: Global) -> Arg<'a>
+    ensures rule { rule_of result ≡ spec.operand spec.status }
+    ensures id { result.id.now ≡ spec.status }
+    ensures explained { IsSomeAnd result.help (λ help. 0 < length help.now) }
+    ensures fits { FitsChain result }
+    ensures value { TakesValue result }
+{
+    operand(
+        alloc,
+        "STATUS",
+        "The status text that the report was made from",
+    )
+}
+
+fn lost<'a>(alloc: Global) -> Arg<'a>
+    ensures rule { rule_of result ≡ spec.operands spec.lost }
+    ensures id { result.id.now ≡ spec.lost }
+    ensures explained { IsSomeAnd result.help (λ help. 0 < length help.now) }
+    ensures fits { FitsChain result }
+{
+    operands(
+        alloc,
+        "LOST",
+        "Workers that are not live, as a/0; all others are",
+    )
+}
+
+/// A command without operands, with its help.
+fn command<'a>(alloc: Global, name: &'a str, help: Help) -> Command<'a>
+    ensures app { app_of result ≡ new_app name.entry.now }
+    ensures about { (fields_of result).about ≡ Some help.about }
+    ensures usage { (fields_of result).usage_str ≡ Some help.usage }
+    ensures example { (fields_of result).after_help ≡ Some help.example }
+    ensures arguments { args_of result ≡ [] }
+    ensures groups { groups_of result ≡ [] }
+    ensures local { (fields_of result).has_globals ≡ false }
+    ensures negates { (fields_of result).subcommand_negates_reqs ≡ false }
+{
+    Command::new(alloc, name)
+        .about(help.about)
+        .override_usage(help.usage)
+        .after_help(help.example)
+}
+
+/// The words of several operands, if any were given.
+fn lost_in<'a>(alloc: Global, matches: &ArgMatches<'a>) -> Result<Vec<&'a str>, AllocError>
+    ensures { IfOk result (λ v. map (λ w. w.now) v.items ≡ spec.lost_in (rows_of (found_of matches.now))) }
+{
+    match matches.get_strs("LOST") {
+        Some(words) => Vec::from_slice(alloc, words),
+        None => Ok(Vec::new(alloc)),
+    }
+}
+
+/// The texts of the words of `plan`: its settings and who is lost.
+pub fn plan_words<'a, W: AsStr>(
+    alloc: Global,
+    words: &'a [W],
+) -> Result<(&'a str, Vec<&'a str>), Error>
+    ensures settings { IfOk result (λ m. first_of spec.settings (matches_of spec.plan_app (map W.text words.now)) ≡ Some m.0.now) }
+    ensures lost { IfOk result (λ m. map (λ w. w.now) m.1.items ≡ spec.lost_in (matches_of spec.plan_app (map W.text words.now))) }
+    ensures kinds { FailsBy (fault_of spec.plan_app (map W.text words.now)) result }
+{
+    let settings = settings(alloc);
+    let lost = lost(alloc);
+    let command = command(alloc, "plan", PLAN);
+    let command = command.arg(settings)?.arg(lost)?;
+    let matches = command.try_get_matches_from(words)?;
+    let lost = lost_in(alloc, &matches)?;
+    let Some(settings) = matches.get_str("SETTINGS") else {
+        unreachable!()
+    };
+    Ok((settings, lost))
+}
+
+/// The texts of the words of `check`: its settings, its status text and who is lost.
+pub fn check_words<'a, W: AsStr>(
+    alloc: Global,
+    words: &'a [W],
+) -> Result<(&'a str, &'a str, Vec<&'a str>), Error>
+    ensures settings { IfOk result (λ m. first_of spec.settings (matches_of spec.check_app (map W.text words.now)) ≡ Some m.0.now) }
+    ensures status { IfOk result (λ m. first_of spec.status (matches_of spec.check_app (map W.text words.now)) ≡ Some m.1.now) }
+    ensures lost { IfOk result (λ m. map (λ w. w.now) m.2.items ≡ spec.lost_in (matches_of spec.check_app (map W.text words.now))) }
+    ensures kinds { FailsBy (fault_of spec.check_app (map W.text words.now)) result }
+{
+    let settings = settings(alloc);
+    let status = status(alloc);
+    let lost = lost(alloc);
+    let command = command(alloc, "check", CHECK);
+    let command = command.arg(settings)?.arg(status)?.arg(lost)?;
+    let matches = command.try_get_matches_from(words)?;
+    let lost = lost_in(alloc, &matches)?;
+    let Some(settings) = matches.get_str("SETTINGS") else {
+        unreachable!()
+    };
+    let Some(status) = matches.get_str("STATUS") else {
+        unreachable!()
+    };
+    Ok((settings, status, lost))
+}
+
+/// The text of the word of `replay`: its settings.
+pub fn replay_words<'a, W: AsStr>(alloc: Global, words: &'a [W]) -> Result<&'a str, Error>
+    ensures settings { IfOk result (λ m. first_of spec.settings (matches_of spec.replay_app (map W.text words.now)) ≡ Some m.now) }
+    ensures kinds { FailsBy (fault_of spec.replay_app (map W.text words.now)) result }
+{
+    let settings = settings(alloc);
+    let command = command(alloc, "replay", REPLAY);
+    let command = command.arg(settings)?;
+    let matches = command.try_get_matches_from(words)?;
+    let Some(settings) = matches.get_str("SETTINGS") else {
+        unreachable!()
+    };
+    Ok(settings)
+}
+
+/// The command line of words that name no command.
+fn program<'a>(alloc: Global) -> Result<Command<'a>, AllocError>
+    ensures app { IfOk result (λ p. app_of p ≡ spec.overview_app) }
+{
+    command(alloc, "poolman", PROGRAM)
+        .subcommand_required(true)
+        .subcommand(command(alloc, "plan", PLAN))?
+        .subcommand(command(alloc, "check", CHECK))?
+        .subcommand(command(alloc, "replay", REPLAY))
+}
+
+/// What to print where the words name no command: the help that they ask for, or what is wrong.
+pub fn overview<W: AsStr>(alloc: Global, words: &[W]) -> Result<Error, AllocError>
+    ensures kinds { IfOk result (HasKind (spec.overview_faults (map W.text words.now))) }
+{
+    let mut program = program(alloc)?;
+    match program.try_get_matches_from_mut(words) {
+        Ok(_) => program.error(ErrorKind::MissingSubcommand, "a command is wanted"),
+        Err(error) => Ok(error),
+    }
+}

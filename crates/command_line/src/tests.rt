@@ -1,0 +1,3 @@
+//! What is made of the words of a command line.
+
+mod words;

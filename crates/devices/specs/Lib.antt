@@ -1,0 +1,4 @@
+pub mod Streams
+pub mod Results
+pub mod Folder
+pub mod Whole

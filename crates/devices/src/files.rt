@@ -1,0 +1,71 @@
+//! Files, read whole and no further than their limit.
+
+ghost use Rattle.std.specs.Prelude.{◌≤◌, IfErr, IfOk, length};
+ghost use Rattle.devices.specs.Folder.{IsRead, IsTextOf, IsUnread, known_of};
+ghost use Rattle.devices.specs.Whole.{limit};
+
+use crate::error::InputError;
+use crate::input::LIMIT;
+use crate::results::failed_by;
+use std::alloc::Global;
+use std::fs::File;
+use std::io;
+use std::io::Read;
+
+/// What opens files by name: the system, or a text in a test.
+pub trait Folder {
+    ghost use Rattle.std.specs.Prelude.{ℕ, List, IfErr, IfOk};
+    ghost use Rattle.std.specs.IoError.{error_kind};
+    ghost use Rattle.devices.specs.Folder.{IsOpen, IsUnopened, Known};
+
+    /// An open file.
+    type File: Read + Drop;
+
+    /// What is known of the file of a name: nothing, that there is none, or its bytes. Of the system's files nothing is.
+    ghost file: { Self → List ℕ → Known };
+
+    /// Opens the file of exactly this name, to be read from its first byte.
+    fn open(&self, name: &str) -> io::Result<Self::File>
+        ensures bytes { IfOk result (λ opened. IsOpen (file self.now name.now) (Self.File.remaining opened)) }
+        ensures err { IfErr result (λ e. IsUnopened (file self.now name.now) (error_kind e)) };
+}
+
+impl Folder for HostRuntime {
+    ghost use Rattle.devices.specs.Folder.{unknown};
+
+    type File = File;
+
+    ghost file = { λ _ _. unknown };
+
+    fn open(&self, name: &str) -> io::Result<File> {
+        File::open(self, name)
+    }
+}
+
+/// A file's bytes. A file that is longer than `LIMIT` is not held whole.
+///
+/// `NoFile` where the file is not there or may not be opened, `ReadFault` where a read of it fails, `TooLong` above the limit,
+/// `Memory` where memory is refused.
+pub fn read_file<F: Folder>(files: &F, alloc: Global, name: &str) -> Result<Vec<u8>, InputError>
+    ensures whole { IfOk result (λ bytes. IsRead (F.file files.now name.now) bytes.items) }
+    ensures err { IfErr result (IsUnread (F.file files.now name.now)) }
+{
+    match files.open(name) {
+        Ok(file) => read_within(alloc, file),
+        Err(error) => Err(failed_by(error.kind(), InputError::NoFile)),
+    }
+}
+
+/// All that a reader has left, where that is no more than `LIMIT` bytes.
+fn read_within<R: Read + Drop>(alloc: Global, reader: R) -> Result<Vec<u8>, InputError>
+    ensures within { IfOk result (λ bytes. length bytes.items ≤ limit) }
+    ensures whole { IfOk result (λ bytes. IsTextOf (known_of (R.remaining reader)) bytes.items) }
+    ensures err { IfErr result (IsUnread (known_of (R.remaining reader))) }
+{
+    let mut bytes = Vec::new(alloc);
+    match reader.take(LIMIT + 1).read_to_end(&mut bytes) {
+        Ok(_) if bytes.len() as u64 > LIMIT => Err(InputError::TooLong),
+        Ok(_) => Ok(bytes),
+        Err(error) => Err(failed_by(error.kind(), InputError::ReadFault)),
+    }
+}

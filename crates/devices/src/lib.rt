@@ -1,0 +1,16 @@
+//! The system's devices: readers as sources, writers as sinks, and files and inputs that are read whole.
+#![tactic(auto)]
+
+mod error;
+mod files;
+mod input;
+mod results;
+mod streams;
+
+pub use error::InputError;
+pub use files::{Folder, read_file};
+pub use input::{LIMIT, read_whole};
+pub use streams::{InputSource, OutputSink};
+
+#[cfg(test)]
+mod tests;

@@ -1,0 +1,127 @@
+//! Readers as sources and writers as sinks: standard input and output, and files.
+
+ghost use Rattle.std.specs.Prelude.{◌≡◌};
+ghost use Rattle.devices.specs.Streams.{first_input, first_output};
+
+use crate::results::is_lull;
+use gear_status::{Device, DeviceFault, Sink, Source, Took};
+use std::io::{Read, Write};
+use std::marker::Model;
+use std::snapshot::Snapshot;
+
+/// A reader as a source. It counts its failures and its lulls, and tells what it gave where the reader tells what it has
+/// left. It has no time limit, so that it lulls only where a signal interrupts a read.
+#[derive(Drop)]
+pub struct InputSource<R: Read> {
+    reader: R,
+    first: Snapshot<R>,
+    failures: u64,
+    lulls: u64,
+    has_ended: bool,
+}
+
+impl<R: Read> Model for InputSource<R> {
+    ghost use Rattle.std.specs.Prelude.{Some};
+    ghost use Rattle.gear_status.specs.Sides.{Input};
+    ghost use Rattle.devices.specs.Streams.{IsLeft, given_of};
+
+    ghost Value = { Input };
+
+    ghost view = { λ s. record {
+      given = given_of (R.remaining s.first.value) (R.remaining s.reader);
+      lulls = Some s.lulls;
+      failures = s.failures;
+      has_ended = s.has_ended;
+    } };
+
+    ghost invariant = { λ s. IsLeft (R.remaining s.first.value) (R.remaining s.reader) s.has_ended };
+}
+
+impl<R: Read + Drop> InputSource<R> {
+    /// A source that has not failed, and has not found its end.
+    pub fn new(reader: R) -> InputSource<R>
+        ensures { result ≡ first_input (R.remaining reader) }
+    {
+        InputSource {
+            first: Snapshot::of(&reader),
+            reader,
+            failures: 0,
+            lulls: 0,
+            has_ended: false,
+        }
+    }
+}
+
+impl<R: Read + Drop> Device for InputSource<R> {
+    ghost input = { λ s. s };
+}
+
+impl<R: Read + Drop> Source for InputSource<R> {
+    fn take(&mut self, buffer: &mut [u8]) -> Result<Took, DeviceFault> {
+        self.has_ended = false;
+        match self.reader.read(buffer) {
+            Ok(0) => {
+                self.has_ended = true;
+                Ok(Took::Ended)
+            }
+            Ok(count) => Ok(Took::Bytes(count)),
+            Err(error) => {
+                if is_lull(error.kind(), self.lulls) {
+                    self.lulls += 1;
+                    return Ok(Took::Lull);
+                }
+                self.failures += 1;
+                Err(DeviceFault)
+            }
+        }
+    }
+}
+
+/// A writer as a sink. It counts its failures, and tells what the writer holds where the writer tells it. A write that takes
+/// nothing is a failure.
+#[derive(Drop)]
+pub struct OutputSink<W: Write> {
+    writer: W,
+    first: Snapshot<W>,
+    failures: u64,
+}
+
+impl<W: Write> Model for OutputSink<W> {
+    ghost use Rattle.gear_status.specs.Sides.{Output};
+    ghost use Rattle.devices.specs.Streams.{HasGrown, held_of};
+
+    ghost Value = { Output };
+
+    ghost view = { λ s. record { got = held_of (W.contents s.first.value) (W.contents s.writer); failures = s.failures } };
+
+    ghost invariant = { λ s. HasGrown (W.contents s.first.value) (W.contents s.writer) };
+}
+
+impl<W: Write + Drop> OutputSink<W> {
+    /// A sink that has not failed.
+    pub fn new(writer: W) -> OutputSink<W>
+        ensures { result ≡ first_output (W.contents writer) }
+    {
+        OutputSink {
+            first: Snapshot::of(&writer),
+            writer,
+            failures: 0,
+        }
+    }
+}
+
+impl<W: Write + Drop> Device for OutputSink<W> {
+    ghost output = { λ s. s };
+}
+
+impl<W: Write + Drop> Sink for OutputSink<W> {
+    fn give(&mut self, bytes: &[u8]) -> Result<usize, DeviceFault> {
+        match self.writer.write(bytes) {
+            Ok(0) | Err(_) => {
+                self.failures += 1;
+                Err(DeviceFault)
+            }
+            Ok(count) => Ok(count),
+        }
+    }
+}

@@ -1,0 +1,4 @@
+pub mod Marks
+pub mod Posing
+pub mod Written
+pub mod Examining

@@ -1,0 +1,77 @@
+-- Faults, with the exit status of each.
+use Rattle.std.specs.Prelude.{ℕ, List, [], ◌++◌, codes, Option, None, Some}
+use Rattle.std.specs.Fmt.{decimal}
+use Rattle.devices.specs.declared.error.InputError.{InputError}
+use Rattle.devices.specs.declared.error.InputError.TheVariants as input
+use Rattle.gear_status.specs.Refusal.{line_of as status_line, status_label}
+use Rattle.gear_status.specs.declared.error.StatusError.{StatusError}
+use Rattle.gear_status.specs.declared.error.StatusError.TheVariants as status
+use Rattle.pool_report.specs.Refusal.{line_of as report_line, read_label}
+use Rattle.pool_report.specs.declared.error.WriteError.{WriteError}
+use Rattle.pool_report.specs.declared.error.WriteError.TheVariants as write
+use Rattle.pool_report.specs.declared.error.ReadError.{ReadError}
+use Rattle.pool_report.specs.declared.error.ReadError.TheVariants as read
+use Rattle.pool_settings.specs.Refusal.{settings_label}
+use Rattle.pool_settings.specs.declared.error.SettingsError.{SettingsError}
+use Rattle.pool_settings.specs.declared.error.SettingsError.TheVariants as settings
+use Rattle.refusal.specs.Label.{label_words}
+use Rattle.plan_commands.specs.declared.ending.Exit.{Exit}
+use Rattle.plan_commands.specs.declared.fault.Fault.{Fault}
+use Rattle.plan_commands.specs.declared.fault.Fault.TheVariants as fault
+
+-- 3 where input is refused, 4 where memory or a device failed
+abbrev pub status_of : Fault → ℕ
+status_of fault.ReadFault = 4
+status_of fault.WriteFault = 4
+status_of fault.NoFile = 4
+status_of fault.Memory = 4
+status_of _ = 3
+
+-- ` line L`, where a fault has one line
+abbrev pub on_line : Option ℕ → List ℕ
+on_line (Some line) = codes " line " ++ decimal line
+on_line None = []
+
+-- The fault as one line for a person and a script: a word for what is at fault, a number, a name, and the line
+abbrev pub fault_line : Fault → List ℕ
+fault_line (fault.Settings e) = codes "settings " ++ label_words (settings_label e)
+fault_line fault.UnknownWorker = codes "lost 1 UnknownWorker"
+fault_line (fault.Status e) = codes "status " ++ label_words (status_label e) ++ on_line (status_line e)
+fault_line (fault.Report e) = codes "report " ++ label_words (read_label e) ++ on_line (report_line e)
+fault_line (fault.BadCommand line) = codes "events 1 BadLine line " ++ decimal line
+fault_line fault.TooLong = codes "input 1 TooLong"
+fault_line fault.ReadFault = codes "device 1 ReadFault"
+fault_line fault.WriteFault = codes "device 2 WriteFault"
+fault_line fault.NoFile = codes "device 3 NoFile"
+fault_line fault.Memory = codes "memory"
+
+-- Want of memory is one fault, whoever meets it.
+abbrev pub settings_fault : SettingsError → Fault
+settings_fault settings.Memory = fault.Memory
+settings_fault other = fault.Settings other
+
+abbrev pub status_fault : StatusError → Fault
+status_fault status.ReadFault = fault.ReadFault
+status_fault status.Memory = fault.Memory
+status_fault other = fault.Status other
+
+abbrev pub report_fault : ReadError → Fault
+report_fault read.Memory = fault.Memory
+report_fault other = fault.Report other
+
+abbrev pub write_fault : WriteError → Fault
+write_fault (write.WriteFault count) = fault.WriteFault
+write_fault write.Memory = fault.Memory
+
+abbrev pub input_fault : InputError → Fault
+input_fault input.NoFile = fault.NoFile
+input_fault input.ReadFault = fault.ReadFault
+input_fault input.TooLong = fault.TooLong
+input_fault input.Memory = fault.Memory
+
+-- how a command ends that was answered, and one that met a fault
+abbrev pub answered : ℕ → Exit
+answered status = record { status = status; fault = None }
+
+abbrev pub refused : Fault → Exit
+refused f = record { status = status_of f; fault = Some f }

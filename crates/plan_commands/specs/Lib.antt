@@ -1,0 +1,6 @@
+pub mod Fault
+pub mod Ending
+pub mod Problem
+pub mod Posing
+pub mod Plan
+pub mod Check

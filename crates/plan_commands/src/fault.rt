@@ -1,0 +1,182 @@
+//! Why a command ends without an answer.
+
+ghost use Rattle.std.specs.Prelude.{◌≡◌, Some};
+ghost use Rattle.std.specs.Fmt.{WritesOnOk};
+ghost use Rattle.plan_commands.specs.Fault as spec;
+
+use devices::InputError;
+use gear_status::StatusError;
+use pool_report::{ReadError, WriteError};
+use pool_settings::SettingsError;
+use refusal::Labelled;
+use std::alloc::AllocError;
+use std::fmt;
+
+/// Why a command ends without an answer. Each is displayed as its fault line, which is meant for a
+/// person and for a script alike: a word for what is at fault, a number, a name, and the line, where
+/// there is one.
+#[derive(Clone, Copy, Debug, PartialEq, Eq)]
+pub enum Fault {
+    /// The settings file breaks a rule.
+    Settings(SettingsError),
+    /// A lost worker is none of the settings.
+    UnknownWorker,
+    /// The status text breaks a rule.
+    Status(StatusError),
+    /// The report breaks a rule.
+    Report(ReadError),
+    /// A line of `replay` is no command. It is the line of this number, counted from 1.
+    BadCommand(u64),
+    /// A file or standard input is longer than 16,777,216 bytes.
+    TooLong,
+    /// A device that is read failed, or had nothing to give for the 65th time.
+    ReadFault,
+    /// A device that is written to failed.
+    WriteFault,
+    /// A file is not there or may not be read.
+    NoFile,
+    /// An allocation was refused.
+    Memory,
+}
+
+impl Fault {
+    /// The exit status of a command that ends with this fault: 3 where input is refused, and 4 where
+    /// memory or a device failed.
+    pub fn status(self) -> u8
+        ensures { result ≡ spec.status_of self }
+    {
+        match self {
+            Fault::Settings(_)
+            | Fault::UnknownWorker
+            | Fault::Status(_)
+            | Fault::Report(_)
+            | Fault::BadCommand(_)
+            | Fault::TooLong => 3,
+            Fault::ReadFault | Fault::WriteFault | Fault::NoFile | Fault::Memory => 4,
+        }
+    }
+}
+
+impl fmt::Display for Fault {
+    ghost output = { λ fault. Some (spec.fault_line fault) };
+
+    fn fmt<W: fmt::Write>(&self, f: &mut fmt::Formatter<W>) -> fmt::Result {
+        match self {
+            Fault::Settings(error) => {
+                let label = error.label();
+                write!(f, "settings {} {}", label.number(), label.name())
+            }
+            Fault::UnknownWorker => f.write_str("lost 1 UnknownWorker"),
+            Fault::Status(error) => {
+                let label = error.label();
+                write!(f, "status {} {}", label.number(), label.name())?;
+                on_line(f, error.line().map(u64::from))
+            }
+            Fault::Report(error) => {
+                let label = error.label();
+                write!(f, "report {} {}", label.number(), label.name())?;
+                on_line(f, error.line())
+            }
+            Fault::BadCommand(line) => write!(f, "events 1 BadLine line {line}"),
+            Fault::TooLong => f.write_str("input 1 TooLong"),
+            Fault::ReadFault => f.write_str("device 1 ReadFault"),
+            Fault::WriteFault => f.write_str("device 2 WriteFault"),
+            Fault::NoFile => f.write_str("device 3 NoFile"),
+            Fault::Memory => f.write_str("memory"),
+        }
+    }
+}
+
+/// The line that is at fault, where it is one line.
+fn on_line<W: fmt::Write>(f: &mut fmt::Formatter<W>, line: Option<u64>) -> fmt::Result
+    ensures { WritesOnOk W.write_str_gives f.old result (spec.on_line line) f.new }
+{
+    match line {
+        Some(line) => write!(f, " line {line}"),
+        None => Ok(()),
+    }
+}
+
+impl From<SettingsError> for Fault {
+    ghost use Rattle.std.specs.Prelude.{◌≡◌};
+    ghost use Rattle.plan_commands.specs.Fault.{settings_fault};
+
+    ghost from_gives = { λ error fault. fault ≡ settings_fault error };
+
+    fn from(error: SettingsError) -> Fault {
+        match error {
+            SettingsError::Memory => Fault::Memory,
+            other => Fault::Settings(other),
+        }
+    }
+}
+
+impl From<StatusError> for Fault {
+    ghost use Rattle.std.specs.Prelude.{◌≡◌};
+    ghost use Rattle.plan_commands.specs.Fault.{status_fault};
+
+    ghost from_gives = { λ error fault. fault ≡ status_fault error };
+
+    fn from(error: StatusError) -> Fault {
+        match error {
+            StatusError::ReadFault => Fault::ReadFault,
+            StatusError::Memory => Fault::Memory,
+            other => Fault::Status(other),
+        }
+    }
+}
+
+impl From<ReadError> for Fault {
+    ghost use Rattle.std.specs.Prelude.{◌≡◌};
+    ghost use Rattle.plan_commands.specs.Fault.{report_fault};
+
+    ghost from_gives = { λ error fault. fault ≡ report_fault error };
+
+    fn from(error: ReadError) -> Fault {
+        match error {
+            ReadError::Memory => Fault::Memory,
+            other => Fault::Report(other),
+        }
+    }
+}
+
+impl From<WriteError> for Fault {
+    ghost use Rattle.std.specs.Prelude.{◌≡◌};
+    ghost use Rattle.plan_commands.specs.Fault.{write_fault};
+
+    ghost from_gives = { λ error fault. fault ≡ write_fault error };
+
+    fn from(error: WriteError) -> Fault {
+        match error {
+            WriteError::WriteFault(_) => Fault::WriteFault,
+            WriteError::Memory => Fault::Memory,
+        }
+    }
+}
+
+impl From<InputError> for Fault {
+    ghost use Rattle.std.specs.Prelude.{◌≡◌};
+    ghost use Rattle.plan_commands.specs.Fault.{input_fault};
+
+    ghost from_gives = { λ error fault. fault ≡ input_fault error };
+
+    fn from(error: InputError) -> Fault {
+        match error {
+            InputError::NoFile => Fault::NoFile,
+            InputError::ReadFault => Fault::ReadFault,
+            InputError::TooLong => Fault::TooLong,
+            InputError::Memory => Fault::Memory,
+        }
+    }
+}
+
+impl From<AllocError> for Fault {
+    ghost use Rattle.std.specs.Prelude.{◌≡◌};
+    ghost use Rattle.plan_commands.specs.declared.fault.Fault.TheVariants.{Memory};
+
+    ghost from_gives = { λ _ fault. fault ≡ Memory };
+
+    fn from(_: AllocError) -> Fault {
+        Fault::Memory
+    }
+}

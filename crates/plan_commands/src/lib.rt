@@ -1,0 +1,18 @@
+//! The commands `plan` and `check` as calls over texts and devices, and what each command of the program ends with: an exit
+//! status, and a fault where it was not answered.
+#![tactic(auto)]
+
+mod check;
+mod ending;
+mod fault;
+mod plan;
+mod problem;
+
+pub use check::{Verdict, check_text};
+pub use ending::{Exit, deliver};
+pub use fault::Fault;
+pub use plan::plan_text;
+pub use problem::Problem;
+
+#[cfg(test)]
+mod tests;

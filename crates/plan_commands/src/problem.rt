@@ -1,0 +1,112 @@
+//! The planning problem that settings, lost workers and a status text pose.
+
+ghost use Rattle.std.specs.Prelude.{◌≡◌, ◌≢◌, ◌-◌, ◌^◌, ◌<◌, IfErr, IfOk, false, map, true};
+ghost use Rattle.gear_status.specs.Sides.{Meets, Met};
+ghost use Rattle.pool_settings.specs.Planning.{instance_of};
+ghost use Rattle.plan_commands.specs.Posing.{IsDue, Loads, Poses};
+ghost use Rattle.plan_commands.specs.Problem as spec;
+
+use crate::fault::Fault;
+use devices::LIMIT;
+use gear_status::{Load, Source, load_of, read_status_within};
+use plan_model::{FuncId, Input};
+use pool_settings::Settings;
+use std::alloc::{AllocError, Global};
+
+/// What there is to plan for, with the settings that name its workers and functions.
+#[derive(Drop)]
+pub struct Problem {
+    pub settings: Settings,
+    pub input: Input,
+}
+
+/// By slot, whether its worker is live: all are but the lost ones.
+fn live_marks(alloc: Global, settings: &Settings, lost: &[&str]) -> Result<Vec<bool>, Fault>
+    ensures ok { IfOk result (λ marks. marks.items ≡ spec.live_marks settings.now (map (λ w. w.now) lost.now)) }
+    ensures known { IfOk result (λ _. spec.are_workers settings.now (map (λ w. w.now) lost.now) ≡ true) }
+    ensures unknown { IfErr result (λ f. f ≢ Fault.Memory →
+        (f ≡ Fault.UnknownWorker) × (spec.are_workers settings.now (map (λ w. w.now) lost.now) ≡ false)) }
+{
+    let mut marks = vec![in alloc; true; settings.slots() as usize]?;
+    for name in lost {
+        match settings.slot_named(name.as_bytes()) {
+            Some(slot) => marks[slot.number() as usize] = false,
+            None => return Err(Fault::UnknownWorker),
+        }
+    }
+    Ok(marks)
+}
+
+/// By function, the jobs that wait for it.
+fn waiting_for(alloc: Global, settings: &Settings, load: &Load) -> Result<Vec<u32>, AllocError>
+    ensures { IfOk result (λ waiting. waiting.items ≡ spec.waiting_for settings.now load.now) }
+{
+    let mut waiting = Vec::new(alloc);
+    for number in 0..settings.functions() {
+        let name = settings.function_name(FuncId::new(number));
+        waiting.push(load.waiting(name.as_bytes()))?;
+    }
+    Ok(waiting)
+}
+
+/// Reads a status text of no more than `LIMIT` bytes, up to the piece that decides.
+fn read_load<S: Source>(alloc: Global, source: &mut S) -> Result<Load, Fault>
+    requires { (S.input source.old).failures < 2 ^ 64 - 1 }
+    ensures { (met : Met) × Meets (S.input source.old) met (S.input source.new) × Loads met result }
+{
+    match read_status_within(alloc, source, LIMIT) {
+        Ok(Some(load)) => Ok(load),
+        Ok(None) => Err(Fault::TooLong),
+        Err(error) => Err(Fault::from(error)),
+    }
+}
+
+fn input_of(
+    alloc: Global,
+    settings: &Settings,
+    live: &[bool],
+    load: &Load,
+) -> Result<Input, AllocError>
+    ensures { IfOk result (λ input. input ≡ instance_of settings.now live.now (spec.waiting_for settings.now load.now)) }
+{
+    let waiting = waiting_for(alloc, settings, load)?;
+    settings.input(alloc, live, &waiting)
+}
+
+/// The problem that the settings, the lost workers and the status text of the source pose. Faults are
+/// looked for in this order, and the source is read only where the first two are right.
+pub fn pose<S: Source>(
+    alloc: Global,
+    settings: &[u8],
+    lost: &[&str],
+    source: &mut S,
+) -> Result<Problem, Fault>
+    requires count { (S.input source.old).failures < 2 ^ 64 - 1 }
+    ensures posed { (met : Met) × Meets (S.input source.old) met (S.input source.new)
+        × Poses settings.now (map (λ w. w.now) lost.now) met result }
+    ensures of_these { IfOk result (λ p. p.input.may ≡ p.settings.may) }
+{
+    let settings = Settings::read(alloc, settings)?;
+    let live = live_marks(alloc, &settings, lost)?;
+    let load = read_load(alloc, source)?;
+    let input = input_of(alloc, &settings, &live, &load)?;
+    Ok(Problem { settings, input })
+}
+
+/// The problem that the settings, the lost workers and a status text that is there whole pose. Faults
+/// are looked for in this order.
+pub fn pose_text(
+    alloc: Global,
+    settings: &[u8],
+    lost: &[&str],
+    status: &[u8],
+) -> Result<Problem, Fault>
+    ensures posed { IsDue (spec.problem settings.now (map (λ w. w.now) lost.now) (spec.load_of status.now)) result }
+    ensures of_these { IfOk result (λ p. p.input.may ≡ p.settings.may) }
+{
+    let settings = Settings::read(alloc, settings)?;
+    let live = live_marks(alloc, &settings, lost)?;
+    let load = load_of(alloc, status)?;
+    let input = input_of(alloc, &settings, &live, &load)?;
+    Ok(Problem { settings, input })
+}

@@ -1,0 +1,6 @@
+//! The commands on texts and on devices that fail.
+
+mod failing;
+mod lines;
+mod one_worker;
+mod planning;

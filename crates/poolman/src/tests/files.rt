@@ -1,0 +1,131 @@
+//! Commands on files, of which two are there.
+
+use super::one_worker::{LIMIT, REPORT, SETTINGS, STATUS};
+use crate::carry_out::carry_out;
+use command_line::Command;
+use devices::Folder;
+use gear_status::{SliceSource, VecSink};
+use plan_commands::{Exit, Fault};
+use pool_settings::SettingsError;
+use std::alloc::{AllocError, Global};
+use std::io;
+use std::io::ErrorKind;
+
+/// A folder of a settings file and a status text.
+#[derive(Drop)]
+pub struct TwoFiles<'a> {
+    pub settings: &'a [u8],
+    pub status: &'a [u8],
+}
+
+impl<'a> Folder for TwoFiles<'a> {
+    ghost use Rattle.std.specs.Prelude.{codes, if◌then◌else◌};
+    ghost use Rattle.std.specs.Str.{bytes_eq};
+    ghost use Rattle.devices.specs.Folder.{absent, holds};
+
+    type File = &'a [u8];
+
+    ghost file = { λ o name. if bytes_eq name (codes "settings.toml") then holds o.settings.now
+        else (if bytes_eq name (codes "status.txt") then holds o.status.now else absent) };
+
+    fn open(&self, name: &str) -> io::Result<&'a [u8]> {
+        if name == "settings.toml" {
+            return Ok(self.settings);
+        }
+        if name == "status.txt" {
+            return Ok(self.status);
+        }
+        Err(io::Error::from(ErrorKind::NotFound))
+    }
+}
+
+/// Whether a command on standard input ends so and writes so much.
+fn carries_out(
+    alloc: Global,
+    command: &Command<'_>,
+    input: &[u8],
+    exit: Exit,
+    output: &[u8],
+) -> bool {
+    let files = TwoFiles {
+        settings: SETTINGS,
+        status: STATUS,
+    };
+    let mut source = SliceSource::new(input);
+    let mut sink = VecSink::new(alloc);
+    carry_out(&files, alloc, command, &mut source, &mut sink) == exit && sink.bytes() == output
+}
+
+fn plan<'a>(alloc: Global, settings: &'a str) -> Command<'a> {
+    Command::Plan {
+        settings,
+        lost: Vec::new(alloc),
+    }
+}
+
+fn check<'a>(alloc: Global, settings: &'a str, status: &'a str) -> Command<'a> {
+    Command::Check {
+        settings,
+        status,
+        lost: Vec::new(alloc),
+    }
+}
+
+#[test]
+fn commands_read_their_files(rt: HostRuntime) {
+    let alloc = rt.alloc();
+    let done = Exit::answered(0);
+    assert!(rt; carries_out(alloc, &plan(alloc, "settings.toml"), STATUS, done, REPORT));
+    let check = check(alloc, "settings.toml", "status.txt");
+    assert!(rt; carries_out(alloc, &check, REPORT, done, b"shown\n"));
+    let replay = Command::Replay {
+        settings: "settings.toml",
+    };
+    assert!(rt; carries_out(alloc, &replay, b"", done, b""));
+}
+
+#[test]
+fn files_that_are_not_there_are_told_first(rt: HostRuntime) {
+    let alloc = rt.alloc();
+    let missing = Exit::refused(Fault::NoFile);
+    assert!(rt; carries_out(alloc, &plan(alloc, "none"), b"", missing, b""));
+    assert!(rt;
+        carries_out(
+            alloc,
+            &check(alloc, "status.txt", "none"),
+            b"",
+            missing,
+            b""
+        )
+    );
+    let swapped = check(alloc, "status.txt", "settings.toml");
+    let text = Exit::refused(Fault::Settings(SettingsError::Text));
+    assert!(rt; carries_out(alloc, &swapped, REPORT, text, b""));
+}
+
+/// How `check` of these two files in their folder ends, by the names that it is given.
+fn check_ends(alloc: Global, texts: (&[u8], &[u8]), settings: &str, status: &str) -> Exit {
+    let files = TwoFiles {
+        settings: texts.0,
+        status: texts.1,
+    };
+    let mut source = SliceSource::new(REPORT);
+    let mut sink = VecSink::new(alloc);
+    let command = check(alloc, settings, status);
+    carry_out(&files, alloc, &command, &mut source, &mut sink)
+}
+
+#[test]
+fn files_are_read_in_the_order_of_the_words(rt: HostRuntime) -> Result<(), AllocError> {
+    let alloc = rt.alloc();
+    let mut long = Vec::from_slice(alloc, STATUS)?;
+    long.resize(LIMIT + 1, b'x')?;
+    let long = long.as_slice();
+    let too_long = Exit::refused(Fault::TooLong);
+    let missing = Exit::refused(Fault::NoFile);
+    assert!(rt; check_ends(alloc, (long, STATUS), "settings.toml", "none") == too_long);
+    assert!(rt; check_ends(alloc, (SETTINGS, long), "none", "status.txt") == missing);
+    assert!(rt; check_ends(alloc, (SETTINGS, long), "settings.toml", "status.txt") == too_long);
+    assert!(rt; check_ends(alloc, (b"", long), "settings.toml", "status.txt") == too_long);
+    Ok(())
+}

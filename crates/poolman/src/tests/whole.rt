@@ -1,0 +1,143 @@
+//! The whole program on words: its exit status, its output and its error output.
+
+ghost use Rattle.std.specs.Prelude.{◌≡◌};
+
+use super::files::TwoFiles;
+use super::one_worker::{REPORT, SETTINGS, STATUS};
+use crate::program::program;
+use gear_status::{Script, SliceSource, VecSink};
+use std::alloc::{AllocError, Global};
+use std::io;
+use std::io::ErrorKind;
+
+/// What the program left: its exit status, its output and its error output.
+#[derive(Drop)]
+struct Left {
+    status: u8,
+    output: Vec<u8>,
+    errors: Vec<u8>,
+}
+
+impl Left {
+    fn is(&self, status: u8, output: &[u8], errors: &[u8]) -> bool {
+        self.status == status
+            && self.output.as_slice() == output
+            && self.errors.as_slice() == errors
+    }
+}
+
+/// Runs the program on these words and this input, into an output.
+fn run_into(
+    alloc: Global,
+    words: &[&str],
+    input: &[u8],
+    mut output: Script,
+) -> Result<Left, AllocError>
+    requires { output.give_failures ≡ 0 }
+{
+    let files = TwoFiles {
+        settings: SETTINGS,
+        status: STATUS,
+    };
+    let mut list = Vec::new(alloc);
+    for word in words {
+        list.push(String::from_str(alloc, word)?)?;
+    }
+    let mut source = SliceSource::new(input);
+    let mut errors = VecSink::new(alloc);
+    let words = Ok(list);
+    let status = program(&files, words, alloc, &mut source, &mut output, &mut errors);
+    Ok(Left {
+        status,
+        output: Vec::from_slice(alloc, output.output())?,
+        errors: Vec::from_slice(alloc, errors.bytes())?,
+    })
+}
+
+fn run(alloc: Global, words: &[&str], input: &[u8]) -> Result<Left, AllocError> {
+    run_into(alloc, words, input, Script::new(alloc))
+}
+
+#[test]
+fn answers_are_on_the_output(rt: HostRuntime) -> Result<(), AllocError> {
+    let alloc = rt.alloc();
+    let plan = run(alloc, &["poolman", "plan", "settings.toml"], STATUS)?;
+    assert!(rt; plan.is(0, REPORT, b""));
+    let lost = run(
+        alloc,
+        &["poolman", "plan", "settings.toml", "a/0"],
+        b"x\t7\t0\t0\n.\n",
+    )?;
+    assert!(rt; lost.is(0, b"report 1\nbacklog 0\nstranded x 7\nend\n", b""));
+    let check = ["poolman", "check", "settings.toml", "status.txt"];
+    assert!(rt; run(alloc, &check, REPORT)?.is(0, b"shown\n", b""));
+    let other = run(alloc, &check, b"report 1\nbacklog 1\nwork a/0 x\nend\n")?;
+    assert!(rt; other.is(1, b"not shown 3 WrongBacklog\n", b""));
+    Ok(())
+}
+
+#[test]
+fn faults_are_on_error_output(rt: HostRuntime) -> Result<(), AllocError> {
+    let alloc = rt.alloc();
+    let missing = run(alloc, &["poolman", "plan", "none"], STATUS)?;
+    assert!(rt; missing.is(4, b"", b"poolman: device 3 NoFile\n"));
+    let lost = run(alloc, &["poolman", "plan", "settings.toml", "b/0"], STATUS)?;
+    assert!(rt; lost.is(3, b"", b"poolman: lost 1 UnknownWorker\n"));
+    let cut = run(alloc, &["poolman", "plan", "settings.toml"], b"x\t0\n")?;
+    assert!(rt; cut.is(3, b"", b"poolman: status 1 BadLine line 1\n"));
+    let replay = run(
+        alloc,
+        &["poolman", "replay", "settings.toml"],
+        b"join a/0\nleap\n",
+    )?;
+    assert!(rt; replay.is(3, b"ok a/0#1\n", b"poolman: events 1 BadLine line 2\n"));
+    Ok(())
+}
+
+#[test]
+fn an_output_that_fails_is_told(rt: HostRuntime) -> Result<(), AllocError> {
+    let alloc = rt.alloc();
+    let mut output = Script::new(alloc);
+    output.give_at_most(4);
+    output.fail_give(3);
+    let left = run_into(alloc, &["poolman", "plan", "settings.toml"], STATUS, output)?;
+    assert!(rt; left.is(4, b"report 1", b"poolman: device 2 WriteFault\n"));
+    Ok(())
+}
+
+#[test]
+fn words_of_no_command_are_told_on_error_output(rt: HostRuntime) -> Result<(), AllocError> {
+    let alloc = rt.alloc();
+    let none = run(alloc, &["poolman"], STATUS)?;
+    assert!(rt; none.status == 2 && none.output.is_empty() && !none.errors.is_empty());
+    let help = run(alloc, &["poolman", "plan", "--help"], STATUS)?;
+    assert!(rt; help.status == 2 && help.output.is_empty() && !help.errors.is_empty());
+    Ok(())
+}
+
+/// The exit status where the system gives no words, and what is on error output.
+fn without_words(alloc: Global, kind: ErrorKind) -> Result<Left, AllocError> {
+    let files = TwoFiles {
+        settings: SETTINGS,
+        status: STATUS,
+    };
+    let mut output = VecSink::new(alloc);
+    let mut errors = VecSink::new(alloc);
+    let words = Err(io::Error::from(kind));
+    let mut source = SliceSource::new(STATUS);
+    let status = program(&files, words, alloc, &mut source, &mut output, &mut errors);
+    Ok(Left {
+        status,
+        output: Vec::from_slice(alloc, output.bytes())?,
+        errors: Vec::from_slice(alloc, errors.bytes())?,
+    })
+}
+
+#[test]
+fn words_that_the_system_does_not_give(rt: HostRuntime) -> Result<(), AllocError> {
+    let alloc = rt.alloc();
+    let text = b"poolman: the command line is not UTF-8\n";
+    assert!(rt; without_words(alloc, ErrorKind::InvalidData)?.is(2, b"", text));
+    assert!(rt; without_words(alloc, ErrorKind::OutOfMemory)?.is(4, b"", b"poolman: memory\n"));
+    Ok(())
+}

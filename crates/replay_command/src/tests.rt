@@ -1,0 +1,3 @@
+//! The command on texts and on devices that fail.
+
+mod replaying;
