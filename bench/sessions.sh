@@ -1,0 +1,48 @@
+#!/usr/bin/env bash
+# Jobs per second of one session: bench/sessions.sh [JOBS]
+# Builds bench/sessions in a scratch copy of the repository. Over memory the link gives each job as soon as it is read, and the figures
+# are those of the session and of its pool alone; over a socket a small server in C gives a job at each request and waits for its answer.
+set -eu
+cd "$(dirname "$0")/.."
+jobs=${1:-200000}
+scratch=$(mktemp -d)
+trap 'rm -rf "$scratch"' EXIT
+mkdir -p "$scratch/crates/sessions_bench/src"
+git -C "$scratch" init -q
+cp HANDLES "$scratch/"
+for crate in refusal plan_model gear_packets gear_status round_arena augment level_search worker_state pool_settings pool_core job_runner; do
+    cp -r "crates/$crate" "$scratch/crates/"
+    grep "^$crate[ :]" crates.txt >> "$scratch/crates.txt"
+done
+cp bench/sessions/main.rt.txt "$scratch/crates/sessions_bench/src/main.rt"
+echo 'sessions_bench: job_runner pool_core pool_settings worker_state gear_status gear_packets plan_model anyhow' >> "$scratch/crates.txt"
+(cd "$scratch/crates/sessions_bench" && rt run -- memory 1 1 > "$scratch/build.log" 2>&1) || { tail -20 "$scratch/build.log"; exit 1; }
+bench="$scratch/crates/sessions_bench/out/sessions_bench"
+gcc -O2 -o "$scratch/server" bench/sessions/server.c
+# Over memory: jobs and bytes of a body.
+memory() {
+    figures=$(/usr/bin/time -f '%e %M' "$bench" memory "$1" "$2" 2>&1)
+    awk -v jobs="$1" -v body="$2" -v figures="$figures" 'BEGIN {
+        split(figures, f, /[ \n]/)
+        printf "%-8s %8d %10d %12.0f %14.1f %10d\n", "memory", body, f[1], f[1] / f[3], f[2] / f[1], f[4]
+    }'
+}
+# Over a socket: the same.
+socket() {
+    "$scratch/server" "$1" "$2" > "$scratch/told" &
+    server=$!
+    until [ -s "$scratch/told" ]; do sleep 0.05; done
+    peak=$(/usr/bin/time -f '%M' "$bench" socket "127.0.0.1:$(head -1 "$scratch/told")" 2>&1 > /dev/null)
+    wait "$server"
+    awk -v body="$2" -v told="$(tail -1 "$scratch/told")" -v peak="$peak" 'BEGIN {
+        split(told, t, " ")
+        printf "%-8s %8d %10d %12.0f %14s %10d\n", "socket", body, t[1], t[1] / t[2], "", peak
+    }'
+}
+printf '%-8s %8s %10s %12s %14s %10s\n' link body jobs 'jobs/s' 'bytes written' 'peak KiB'
+for body in 64 65536 16000000; do
+    count=$((jobs * 64 / body))
+    count=$((body == 64 ? jobs : count < 20 ? 20 : count))
+    memory "$count" "$body"
+    socket "$count" "$body"
+done

@@ -1,0 +1,12 @@
+pub mod Told
+pub mod Steps
+pub mod Counts
+pub mod Exits
+pub mod Orders
+pub mod Listening
+pub mod Turning
+pub mod Ending
+pub mod Replies
+pub mod Changes
+pub mod Tables
+pub mod Names

@@ -1,0 +1,72 @@
+-- A whole session.
+use Rattle.std.specs.Prelude.{◌≡◌, ◌≢◌, ℕ, ◌+◌, ◌<◌, ◌≤◌, ◌⊎◌, true, List, [], ◌∷◌, ◌++◌, length, take, Option, Some, None, Result}
+use Rattle.gear_packets.specs.Request.{Packet}
+use Rattle.gear_packets.specs.Response.{AssignedJob, Message, server_error}
+use Rattle.gear_packets.specs.Text.{Reading, reading, behind, assignments_in, assignments, sent, text_of, registered, work_requests}
+use Rattle.gear_packets.specs.Reading.{fault_of}
+use Rattle.gear_status.specs.Sides.{Input, Output}
+use Rattle.job_runner.specs.declared.end.EndCause.{EndCause}
+use Rattle.job_runner.specs.declared.end.EndCause.TheVariants as cause
+use Rattle.job_runner.specs.declared.end.SessionEnd.{SessionEnd}
+use Rattle.worker_state.specs.declared.cause.Cause.{Cause}
+use Rattle.job_runner.specs.declared.port.PortAnswer.{PortAnswer}
+use Rattle.job_runner.specs.declared.run.State.{State}
+use Rattle.job_runner.specs.declared.session.Tally.{Tally}
+use Rattle.job_runner.specs.Ends.{loss_of}
+use Rattle.job_runner.specs.Told.{replies}
+use Rattle.job_runner.specs.Book.{Book}
+use Rattle.job_runner.specs.Course.{Duty, asks, Wrote, Even, Ends, GoesOnOrEnds, known, IsServing, PortReason}
+
+-- Between two messages, the reader aside: each assignment so far is answered, and the counts agree.
+pub record Holds (duty : Duty) (bytes : List ℕ) (done : List AssignedJob) (s : State) (book : Book) : Type 0 where
+  pub wrote : Wrote duty bytes (known duty.functions s.registered) done
+  pub even : Even s.tally book (length done)
+  pub serving : IsServing (length duty.functions) s.phase s.registered
+
+-- what a step leaves
+abbrev pub Acts : Duty → List ℕ → List AssignedJob → State → Book → Result (Unit {0}) EndCause → Type 0
+Acts duty bytes done s book result = GoesOnOrEnds (Holds duty bytes done s book) (Ends duty bytes done s.tally book) result
+
+-- The bytes read say the messages that were given, and those that the reader still holds.
+pub record Rests (duty : Duty) (read bytes : List ℕ) (given : List Message) (reader : Reading) (s : State) (book : Book) : Type 0 where
+  pub heard : reading read ≡ behind given reader
+  pub holds : Holds duty bytes (assignments_in given) s book
+
+-- a stream names an error
+abbrev pub HasError : List Message → Type 0
+HasError ms = (code text : List ℕ) × (before after : List Message) × (ms ≡ before ++ server_error code text ∷ after)
+
+-- what a link tells of its two sides
+pub record Link : Type 0 where
+  pub input : Input
+  pub output : Output
+
+-- Each cause stands only where its reason did. `old` and `new` are what the link tells before and after.
+abbrev pub Reason : ℕ → List ℕ → ℕ → Link → Link → Option PortAnswer → EndCause → Type 0
+Reason generation read grabbed old new last cause.Closed = new.input.has_ended ≡ true
+Reason generation read grabbed old new last cause.BadPacket = (fault_of (reading read).ending ≢ None) ⊎ (grabbed < length (assignments read))
+Reason generation read grabbed old new last cause.ServerError = HasError (reading read).messages
+Reason generation read grabbed old new last cause.ReadFault = new.input.failures ≡ old.input.failures + 1
+Reason generation read grabbed old new last cause.WriteFault = new.output.failures ≡ old.output.failures + 1
+Reason generation read grabbed old new last cause.TurnsUsed = Unit {0}
+Reason generation read grabbed old new last other = PortReason generation other last
+
+-- no call of `lose`, or one with this cause
+abbrev pub Lost : Option Cause → Book → Type 0
+Lost None book = book.losses ≡ 0
+Lost (Some c) book = (book.losses ≡ 1) × (book.last_loss ≡ Some c)
+
+abbrev pub tally_of : SessionEnd → Tally
+tally_of e = record { grabbed = e.grabbed; answered = e.answered; reported = e.reported }
+
+-- What a session promises, of all that it read and wrote. But for a failed write, what it wrote is whole packets, and those that
+-- answer jobs are the replies to the first `answered` jobs that were assigned to it. After each whole packet at most one function is
+-- registered, and exactly one after a packet that asks for a job or to be woken.
+pub record Served (duty : Duty) (read bytes : List ℕ) (old new : Link) (book : Book) (e : SessionEnd) : Type 0 where
+  pub ends : Ends duty bytes (assignments read) (tally_of e) book e.cause
+  pub whole : e.cause ≢ cause.WriteFault → (sent bytes).packets ≡ ends.cut.sent
+  pub work : e.cause ≢ cause.WriteFault → work_requests bytes ≡ replies duty.told (take e.answered (assignments read))
+  pub registers : (k : ℕ) → length (registered (text_of (take k (ends.cut.sent ++ ends.cut.next)))) ≤ 1
+  pub asking : (before after : List Packet) (p : Packet) → ends.cut.sent ++ ends.cut.next ≡ before ++ p ∷ after → asks p ≡ true → length (registered (text_of (before ++ p ∷ []))) ≡ 1
+  pub reason : Reason duty.generation read e.grabbed old new book.last_answer e.cause
+  pub lost : Lost (loss_of e.cause) book

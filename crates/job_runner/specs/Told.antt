@@ -1,0 +1,76 @@
+-- What jobs tell, and the packets that answer an assignment.
+use Rattle.std.specs.Prelude.{ℕ, Bool, nat_le, if◌then◌else◌, List, [], ◌∷◌, ◌++◌, length, map, Option, Some, None}
+use Rattle.std.specs.List.{list_all, flat_map}
+use Rattle.gear_packets.specs.Frame.{body_limit}
+use Rattle.gear_packets.specs.Request.{Packet, work_status, work_complete, work_fail, work_data, work_warning, body_of}
+use Rattle.gear_packets.specs.Response.{AssignedJob}
+use Rattle.job_runner.specs.declared.job.Note.{Note}
+use Rattle.job_runner.specs.declared.job.Note.TheVariants.{Piece, Warning, Progress}
+use Rattle.job_runner.specs.declared.job.End.{End}
+use Rattle.job_runner.specs.declared.job.End.TheVariants.{Complete, Fail}
+use Rattle.job_runner.specs.declared.job.Outcome.{Outcome}
+use Rattle.worker_state.specs.declared.job.EndKind.{EndKind}
+use Rattle.worker_state.specs.declared.job.EndKind.TheVariants as kind
+
+pub data Remark : Type 0 where
+  piece : List ℕ → Remark
+  warning : List ℕ → Remark
+  progress : ℕ → ℕ → Remark
+
+pub data Finish : Type 0 where
+  complete : List ℕ → Finish
+  fail : Finish
+
+-- an outcome without where it lies in memory
+pub record Told : Type 0 where
+  pub remarks : List Remark
+  pub finish : Finish
+
+abbrev pub remark_of : Note → Remark
+remark_of (Piece bytes) = piece bytes.items
+remark_of (Warning bytes) = warning bytes.items
+remark_of (Progress part whole) = progress part whole
+
+abbrev pub finish_of : End → Finish
+finish_of (Complete bytes) = complete bytes.items
+finish_of Fail = fail
+
+-- how the pool books an end
+abbrev pub end_kind_of : Finish → EndKind
+end_kind_of (complete bytes) = kind.Complete
+end_kind_of fail = kind.Fail
+
+abbrev pub told_of : Outcome → Told
+told_of o = record { remarks = map remark_of o.notes.items; finish = finish_of o.end }
+
+abbrev pub remark_packet : List ℕ → Remark → Packet
+remark_packet handle (piece bytes) = work_data handle bytes
+remark_packet handle (warning bytes) = work_warning handle bytes
+remark_packet handle (progress part whole) = work_status handle part whole
+
+abbrev pub finish_packet : List ℕ → Finish → Packet
+finish_packet handle (complete bytes) = work_complete handle bytes
+finish_packet handle fail = work_fail handle
+
+abbrev pub told_packets : List ℕ → Told → List Packet
+told_packets handle told = map (remark_packet handle) told.remarks ++ finish_packet handle told.finish ∷ []
+
+abbrev pub has_room : Packet → Bool
+has_room p = nat_le (length (body_of p)) body_limit
+
+-- the packets that answer, for a name that is known or not
+unfoldable pub answer_to : List ℕ → Option Told → List Packet
+answer_to handle None = work_fail handle ∷ []
+answer_to handle (Some told) = if list_all has_room (told_packets handle told) then told_packets handle told else work_fail handle ∷ []
+
+-- how such an answer ends, as the pool books it
+unfoldable pub kind_of_answer : List ℕ → Option Told → EndKind
+kind_of_answer handle None = kind.Fail
+kind_of_answer handle (Some told) = if list_all has_room (told_packets handle told) then end_kind_of told.finish else kind.Fail
+
+-- the answer to an assignment, as the jobs tell it
+abbrev pub reply : (List ℕ → List ℕ → Option Told) → AssignedJob → List Packet
+reply told a = answer_to a.handle (told a.function a.payload)
+
+abbrev pub replies : (List ℕ → List ℕ → Option Told) → List AssignedJob → List Packet
+replies told jobs = flat_map (reply told) jobs

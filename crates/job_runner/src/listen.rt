@@ -1,0 +1,48 @@
+ghost use Rattle.std.specs.Prelude.{◌≡◌, ◌+◌, ◌-◌, ◌<◌, ◌≤◌, ◌^◌, ◌++◌, ℕ, List, length, IfOk, IfErr, OnOk, Option, true};
+ghost use Rattle.gear_packets.specs.Response.{Message};
+ghost use Rattle.gear_packets.specs.Text.{reading, behind};
+ghost use Rattle.gear_status.specs.Sides.{and_then};
+ghost use Rattle.job_runner.specs.Listening.{Hears, IsReadEnd};
+
+use crate::end::EndCause;
+use gear_packets::{FeedError, Reader, cut_anywhere};
+use gear_status::{Source, Took};
+
+/// What one read of a session gave.
+#[derive(Clone, Copy, Debug, PartialEq, Eq)]
+pub enum Heard {
+    /// Bytes, which went to the reader.
+    Piece,
+    /// Nothing in the time of one read.
+    Lull,
+}
+
+/// Reads once, and feeds what came to the reader. A fault of the stream is left to the reader.
+pub fn hear<L: Source>(
+    link: &mut L,
+    reader: &mut Reader,
+    buffer: &mut [u8],
+) -> Result<Heard, EndCause>
+    requires room { 0 < length buffer.old }
+    requires countable { (L.input link.old).failures < 2 ^ 64 - 1 }
+    ensures hears { (before : Option (List ℕ)) (read : List ℕ) (given : List Message) →
+        (L.input link.old).given ≡ and_then before read → reading read ≡ behind given reader.old →
+        (more : List ℕ) × ((L.input link.new).given ≡ and_then before more) × (length more ≤ length read + length buffer.old) × Hears more given reader.new result }
+    ensures output { L.output link.new ≡ L.output link.old }
+    ensures failures { OnOk result ((L.input link.new).failures ≡ (L.input link.old).failures) }
+    ensures closed { result ≡ Err EndCause.Closed → (L.input link.new).has_ended ≡ true }
+    ensures causes { IfErr result IsReadEnd }
+    ensures read_fault { result ≡ Err EndCause.ReadFault → (L.input link.new).failures ≡ (L.input link.old).failures + 1 }
+{
+    cut_anywhere();
+    match link.take(buffer) {
+        Err(_) => Err(EndCause::ReadFault),
+        Ok(Took::Ended) => Err(EndCause::Closed),
+        Ok(Took::Lull) => Ok(Heard::Lull),
+        Ok(Took::Bytes(count)) => match reader.feed(&buffer[..count]) {
+            Ok(()) => Ok(Heard::Piece),
+            Err(FeedError::Fault(_)) => Ok(Heard::Piece),
+            Err(FeedError::Memory) => Err(EndCause::Memory),
+        },
+    }
+}

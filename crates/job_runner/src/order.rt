@@ -1,0 +1,158 @@
+ghost use Rattle.std.specs.Prelude.{◌≡◌, ◌↔◌, ◌+◌, ◌-◌, ◌<◌, ◌≤◌, ◌^◌, ℕ, List, length, IsTrue, IfOk, IfErr, OnOk, IfSome, Option};
+ghost use Rattle.std.specs.List.{AllByRecursion};
+ghost use Rattle.gear_packets.specs.Request.{IsSent};
+ghost use Rattle.gear_packets.specs.Response.{AssignedJob};
+ghost use Rattle.std.specs.Option.{option_map, option_to_list};
+ghost use Rattle.gear_packets.specs.Requests.{packet_of};
+ghost use Rattle.gear_packets.specs.Text.{text_of};
+ghost use Rattle.gear_status.specs.Sides.{and_then};
+ghost use Rattle.worker_state.specs.Registration.{seen_name};
+ghost use Rattle.job_runner.specs.Course.{Duty, Wrote, Even, Ends, GoesOnOrEnds, IsAccepted, IsFunctionName, Sends, asking, known, name_of, obeying, IsStop, PortReason, IsServing};
+ghost use Rattle.job_runner.specs.declared.session.Tally.{Tally};
+
+use crate::end::EndCause;
+use crate::port::PoolPort;
+use crate::sending::add_if;
+use crate::worker::Worker;
+use gear_packets::Request;
+use gear_status::{Sink, give_all};
+use plan_model::FuncId;
+use pool_core::Pass;
+use pool_settings::Settings;
+use std::alloc::{AllocError, Global};
+use worker_state::{Order, What, change};
+
+/// What a session does once it has obeyed an order.
+#[derive(Clone, Copy, Debug, PartialEq, Eq)]
+pub enum Phase {
+    /// It has asked for a job.
+    Waiting,
+    /// There was no job, and it is to be woken.
+    Asleep,
+    /// It has no function.
+    Idle,
+}
+
+/// Whether an order ends the session of a pass.
+pub fn stops(order: &Order, pass: &Pass) -> bool
+    ensures { IsTrue result ↔ IsStop pass.now.generation order.now }
+{
+    order.what == What::Stop && order.generation == pass.name().generation
+}
+
+/// The function that an order names for a pass, if it names one that is there.
+pub fn wanted_of(order: &Order, pass: &Pass, settings: &Settings) -> Option<u32>
+    ensures { IfSome result (λ f. f < length settings.now.functions) }
+{
+    match order.what {
+        What::Work(function)
+            if order.generation == pass.name().generation
+                && function.number() < settings.functions() => { Some(function.number()) }
+        _ => None,
+    }
+}
+
+/// The name of a function, if there is one.
+#[tactic(auto, using(crate::proofs::Names::known_named))]
+fn name_of(settings: &Settings, function: Option<u32>) -> Option<&[u8]>
+    ensures name { seen_name result ≡ name_of settings.now.functions function }
+    ensures named { IfSome (name_of settings.now.functions function) IsFunctionName }
+{
+    let count = settings.functions();
+    match function {
+        Some(function) if function < count => {
+            Some(settings.function_name(FuncId::new(function)).as_bytes())
+        }
+        _ => None,
+    }
+}
+
+/// The request for a job of a function, if there is one.
+fn asking<'n>(to: Option<&'n [u8]>) -> Option<Request<'n>>
+    ensures { option_to_list (option_map packet_of result) ≡ asking (seen_name to.entry) }
+{
+    match to {
+        Some(_) => Some(Request::GrabJobUniq),
+        None => None,
+    }
+}
+
+/// Spells the packets that lead from one function to another, and ask for a job of it. The only error is want of memory.
+fn spell_change<'n>(
+    alloc: Global,
+    from: Option<&'n [u8]>,
+    to: Option<&'n [u8]>,
+) -> Result<Vec<u8>, AllocError>
+    requires accepted { AllByRecursion IsAccepted (obeying (seen_name from) (seen_name to)) }
+    ensures text { IfOk result (λ text. text.items ≡ text_of (obeying (seen_name from.entry) (seen_name to.entry))) }
+    ensures each { IfOk result (λ _. AllByRecursion IsSent (obeying (seen_name from.entry) (seen_name to.entry))) }
+{
+    let mut text = Vec::new(alloc);
+    let requests = change(from, to);
+    let ask = asking(to);
+    add_if(alloc, &mut text, &requests[0])?;
+    add_if(alloc, &mut text, &requests[1])?;
+    add_if(alloc, &mut text, &ask)?;
+    Ok(text)
+}
+
+/// Writes the packets that lead from one function to another, and ask for a job of it.
+fn write_change<L: Sink>(
+    alloc: Global,
+    link: &mut L,
+    settings: &Settings,
+    from: Option<u32>,
+    to: Option<u32>,
+) -> Result<(), EndCause>
+    requires { (L.output link.old).failures < 2 ^ 64 - 1 }
+    ensures sends { Sends (L.output link.old).got (L.output link.new).got (obeying (name_of settings.now.functions from) (name_of settings.now.functions to)) result }
+    ensures input { L.input link.new ≡ L.input link.old }
+    ensures no_failure { OnOk result ((L.output link.new).failures ≡ (L.output link.old).failures) }
+    ensures write_fault { result ≡ Err EndCause.WriteFault → (L.output link.new).failures ≡ (L.output link.old).failures + 1 }
+{
+    let from = name_of(settings, from);
+    let to = name_of(settings, to);
+    let Ok(text) = spell_change(alloc, from, to) else {
+        return Err(EndCause::Memory);
+    };
+    let Ok(()) = give_all(link, text.as_slice()) else {
+        return Err(EndCause::WriteFault);
+    };
+    Ok(())
+}
+
+/// Reads the order, and writes what it asks for.
+pub fn obey<L: Sink, P: PoolPort, J>(
+    worker: &Worker<'_, J>,
+    link: &mut L,
+    port: &mut P,
+    registered: &mut Option<u32>,
+) -> Result<Phase, EndCause>
+    requires { (L.output link.old).failures < 2 ^ 64 - 1 }
+    ensures obeys { (duty : Duty) (before : Option (List ℕ)) (bytes : List ℕ) (done : List AssignedJob) (tally : Tally) →
+        duty.functions ≡ worker.now.settings.now.functions → (L.output link.old).got ≡ and_then before bytes
+        → Wrote duty bytes (known duty.functions registered.old) done → Even tally (P.book port.old) (length done) →
+        (more : List ℕ) × ((L.output link.new).got ≡ and_then before more)
+        × GoesOnOrEnds (Wrote duty more (known duty.functions registered.new) done × Even tally (P.book port.new) (length done)) (Ends duty more done tally (P.book port.new)) result }
+    ensures serving { IfOk result (λ phase. IsServing (length worker.now.settings.now.functions) phase registered.new) }
+    ensures reason { IfErr result (λ cause. PortReason worker.now.pass.now.generation cause (P.book port.new).last_answer) }
+    ensures input { L.input link.new ≡ L.input link.old }
+    ensures no_failure { OnOk result ((L.output link.new).failures ≡ (L.output link.old).failures) }
+    ensures write_fault { result ≡ Err EndCause.WriteFault → (L.output link.new).failures ≡ (L.output link.old).failures + 1 }
+    ensures losses { (P.book port.new).losses ≡ (P.book port.old).losses }
+{
+    let order = port.order(worker.pass);
+    if stops(&order, worker.pass) {
+        return Err(EndCause::Stopped);
+    }
+    let wanted = wanted_of(&order, worker.pass, worker.settings);
+    match write_change(worker.alloc, link, worker.settings, *registered, wanted) {
+        Ok(()) => {}
+        Err(cause) => return Err(cause),
+    }
+    *registered = wanted;
+    match wanted {
+        Some(_) => Ok(Phase::Waiting),
+        None => Ok(Phase::Idle),
+    }
+}

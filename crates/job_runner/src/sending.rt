@@ -1,0 +1,54 @@
+ghost use Rattle.std.specs.Prelude.{◌≡◌, ◌+◌, ◌-◌, ◌<◌, ◌≤◌, ◌^◌, ◌++◌, [], ◌∷◌, OnOk, IfErr};
+ghost use Rattle.gear_packets.specs.Request.{IsSent, spelling};
+ghost use Rattle.std.specs.List.{AllByRecursion};
+ghost use Rattle.std.specs.Option.{option_map, option_to_list};
+ghost use Rattle.gear_packets.specs.Requests.{packet_of};
+ghost use Rattle.gear_packets.specs.Text.{text_of};
+ghost use Rattle.job_runner.specs.Course.{IsAccepted, Sends};
+
+use crate::end::EndCause;
+use gear_packets::{EncodeError, Request, encode, encode_into};
+use gear_status::{Sink, give_all};
+use std::alloc::{AllocError, Global};
+
+/// Puts a packet behind a text, if there is one. The only error is want of memory.
+pub fn add_if(
+    alloc: Global,
+    text: &mut Vec<u8>,
+    request: &Option<Request>,
+) -> Result<(), AllocError>
+    requires accepted { AllByRecursion IsAccepted (option_to_list (option_map packet_of request.now)) }
+    ensures spelled { OnOk result (text.new.items ≡ text.old.items ++ text_of (option_to_list (option_map packet_of request.now))) }
+    ensures sent { OnOk result (AllByRecursion IsSent (option_to_list (option_map packet_of request.now))) }
+{
+    match request {
+        Some(request) => match encode_into(alloc, text, request) {
+            Ok(()) => Ok(()),
+            Err(EncodeError::Memory) => Err(AllocError),
+            Err(EncodeError::TooLarge) => unreachable!(),
+            Err(EncodeError::NulInArgument) => unreachable!(),
+        },
+        None => Ok(()),
+    }
+}
+
+/// Sends one packet.
+pub fn send<L: Sink>(alloc: Global, link: &mut L, request: &Request) -> Result<(), EndCause>
+    requires count { (L.output link.old).failures < 2 ^ 64 - 1 }
+    requires accepted { IsAccepted (packet_of request.now) }
+    ensures sends { Sends (L.output link.old).got (L.output link.new).got (packet_of request.now ∷ []) result }
+    ensures input { L.input link.new ≡ L.input link.old }
+    ensures no_failure { OnOk result ((L.output link.new).failures ≡ (L.output link.old).failures) }
+    ensures write_fault { result ≡ Err EndCause.WriteFault → (L.output link.new).failures ≡ (L.output link.old).failures + 1 }
+{
+    let text = match encode(alloc, request) {
+        Ok(text) => text,
+        Err(EncodeError::Memory) => return Err(EndCause::Memory),
+        Err(EncodeError::TooLarge) => unreachable!(),
+        Err(EncodeError::NulInArgument) => unreachable!(),
+    };
+    let Ok(()) = give_all(link, text.as_slice()) else {
+        return Err(EndCause::WriteFault);
+    };
+    Ok(())
+}

@@ -1,0 +1,233 @@
+ghost use Rattle.std.specs.Prelude.{◌≡◌, ◌+◌, ◌-◌, ◌<◌, ◌≤◌, ◌^◌, ◌++◌, [], ◌∷◌, ℕ, List, length, IfErr, IfOk, OnOk, Option, decimal, string_bytes};
+ghost use Rattle.gear_packets.specs.Request.{set_client_id};
+ghost use Rattle.gear_status.specs.Sides.{and_then};
+ghost use Rattle.pool_settings.specs.Slots.{slots};
+ghost use Rattle.job_runner.specs.Told.{Told};
+ghost use Rattle.job_runner.specs.Book.{no_calls};
+ghost use Rattle.job_runner.specs.Course.{GoesOnOrEnds, IsAccepted, PortReason};
+ghost use Rattle.job_runner.specs.Run.{Acts, Reason, Served};
+ghost use Rattle.job_runner.specs.Loop.{first_state, duty_of, worker_text, Stands, Halts, ReadReason};
+
+use crate::end::{EndCause, SessionEnd};
+use crate::listen::{Heard, hear};
+use crate::order::Phase;
+use crate::port::PoolPort;
+use crate::run::{State, follow};
+use crate::sending::send;
+use crate::session::Tally;
+use crate::step::{act, glance};
+use crate::table::Jobs;
+use crate::worker::Worker;
+use gear_packets::{Reader, Request, says_its_packets};
+use gear_status::{Sink, Source};
+use pool_core::Pass;
+use pool_settings::Settings;
+use std::alloc::{AllocError, Global};
+
+/// The text `machine/number#generation`. Both numbers have 32 bits.
+fn spell_name(
+    alloc: Global,
+    machine: &str,
+    number: u32,
+    generation: u32,
+) -> Result<String, AllocError>
+    ensures text { IfOk result (λ text. string_bytes text ≡ (machine.now ++ 47 ∷ decimal number) ++ 35 ∷ decimal generation) }
+    ensures small { generation < 2 ^ 32 }
+{
+    let text = format!(in alloc; "{machine}/{number}#{generation}")?;
+    Ok(text)
+}
+
+/// The name by which the server's lists show a worker.
+fn spell_worker<J>(worker: &Worker<'_, J>) -> Result<String, AllocError>
+    requires slot { worker.now.pass.now.slot < slots worker.now.settings.now }
+    ensures text { IfOk result (λ text. string_bytes text ≡ worker_text worker.now.settings.now worker.now.pass.now) }
+    ensures accepted { IsAccepted (set_client_id (worker_text worker.now.settings.now worker.now.pass.now)) }
+{
+    let name = worker.pass.name();
+    let settings = worker.settings;
+    let machine = settings.machine_name(settings.machine_of(name.slot));
+    let number = settings.worker_number(name.slot);
+    spell_name(worker.alloc, machine, number, name.generation)
+}
+
+/// Gives the worker's name, and obeys the first order.
+fn begin<L: Sink, P: PoolPort, J>(
+    worker: &Worker<'_, J>,
+    link: &mut L,
+    port: &mut P,
+    state: &mut State,
+) -> Result<(), EndCause>
+    requires slot { worker.now.pass.now.slot < slots worker.now.settings.now }
+    requires link { (L.output link.old).failures < 2 ^ 64 - 1 }
+    requires first { state.old ≡ first_state }
+    requires fresh { P.book port.old ≡ no_calls }
+    ensures acts { (told : List ℕ → List ℕ → Option Told) →
+        (more : List ℕ) × ((L.output link.new).got ≡ and_then (L.output link.old).got more) × Acts (duty_of told worker.now.settings.now worker.now.pass.now) more [] state.new (P.book port.new) result }
+    ensures reason { IfErr result (λ cause. PortReason worker.now.pass.now.generation cause (P.book port.new).last_answer) }
+    ensures input { L.input link.new ≡ L.input link.old }
+    ensures no_failure { OnOk result ((L.output link.new).failures ≡ (L.output link.old).failures) }
+    ensures write_fault { result ≡ Err EndCause.WriteFault → (L.output link.new).failures ≡ (L.output link.old).failures + 1 }
+    ensures losses { (P.book port.new).losses ≡ (P.book port.old).losses }
+{
+    let Ok(name) = spell_worker(worker) else {
+        return Err(EndCause::Memory);
+    };
+    match send(worker.alloc, link, &Request::SetClientId(name.as_bytes())) {
+        Ok(()) => follow(worker, link, port, state),
+        Err(cause) => Err(cause),
+    }
+}
+
+/// Acts on each message that was read, and then on the fault at which the stream ended.
+fn drain<L: Sink, P: PoolPort, J: Jobs>(
+    worker: &Worker<'_, J>,
+    link: &mut L,
+    port: &mut P,
+    reader: &mut Reader,
+    state: &mut State,
+) -> Result<(), EndCause>
+    requires link { (L.output link.old).failures < 2 ^ 64 - 1 }
+    requires stands { (before : Option (List ℕ)) × (read : List ℕ) × (length read < 2 ^ 60) × Stands (duty_of (J.told worker.now.jobs.now) worker.now.settings.now worker.now.pass.now) before read (L.output link.old).got reader.old state.old (P.book port.old) }
+    ensures leaves { (before : Option (List ℕ)) (read : List ℕ) → Stands (duty_of (J.told worker.now.jobs.now) worker.now.settings.now worker.now.pass.now) before read (L.output link.old).got reader.old state.old (P.book port.old) →
+        GoesOnOrEnds (Stands (duty_of (J.told worker.now.jobs.now) worker.now.settings.now worker.now.pass.now) before read (L.output link.new).got reader.new state.new (P.book port.new))
+        (Halts (duty_of (J.told worker.now.jobs.now) worker.now.settings.now worker.now.pass.now) before read (L.output link.new).got state.new.tally (P.book port.new)) result }
+    ensures reason { (before : Option (List ℕ)) (read : List ℕ) → Stands (duty_of (J.told worker.now.jobs.now) worker.now.settings.now worker.now.pass.now) before read (L.output link.old).got reader.old state.old (P.book port.old) →
+        IfErr result (ReadReason worker.now.pass.now.generation read state.new.tally.grabbed (P.book port.new).last_answer) }
+    ensures input { L.input link.new ≡ L.input link.old }
+    ensures no_failure { OnOk result ((L.output link.new).failures ≡ (L.output link.old).failures) }
+    ensures write_fault { result ≡ Err EndCause.WriteFault → (L.output link.new).failures ≡ (L.output link.old).failures + 1 }
+    ensures losses { (P.book port.new).losses ≡ (P.book port.old).losses }
+{
+    while let Some(message) = reader.next() {
+        match act(worker, link, port, state, &message) {
+            Ok(()) => {}
+            Err(cause) => return Err(cause),
+        }
+    }
+    match reader.fault() {
+        Some(_) => Err(EndCause::BadPacket),
+        None => Ok(()),
+    }
+}
+
+/// One read of the link, and what it brings.
+fn turn<L: Source + Sink, P: PoolPort, J: Jobs>(
+    worker: &Worker<'_, J>,
+    link: &mut L,
+    port: &mut P,
+    reader: &mut Reader,
+    state: &mut State,
+    buffer: &mut [u8],
+) -> Result<(), EndCause>
+    requires output { (L.output link.old).failures < 2 ^ 64 - 1 }
+    requires input { (L.input link.old).failures < 2 ^ 64 - 1 }
+    requires room { length buffer.old ≡ 4096 }
+    requires stands { (before start : Option (List ℕ)) × (read : List ℕ) × ((L.input link.old).given ≡ and_then start read) × (length read < 2 ^ 59) × Stands (duty_of (J.told worker.now.jobs.now) worker.now.settings.now worker.now.pass.now) before read (L.output link.old).got reader.old state.old (P.book port.old) }
+    ensures turns { (before start : Option (List ℕ)) (read : List ℕ) → (L.input link.old).given ≡ and_then start read → Stands (duty_of (J.told worker.now.jobs.now) worker.now.settings.now worker.now.pass.now) before read (L.output link.old).got reader.old state.old (P.book port.old) →
+        (more : List ℕ) × ((L.input link.new).given ≡ and_then start more) × (length more ≤ length read + 4096)
+        × GoesOnOrEnds (Stands (duty_of (J.told worker.now.jobs.now) worker.now.settings.now worker.now.pass.now) before more (L.output link.new).got reader.new state.new (P.book port.new))
+        (λ cause. Halts (duty_of (J.told worker.now.jobs.now) worker.now.settings.now worker.now.pass.now) before more (L.output link.new).got state.new.tally (P.book port.new) cause
+        × Reason worker.now.pass.now.generation more state.new.tally.grabbed (record { input = L.input link.old; output = L.output link.old }) (record { input = L.input link.new; output = L.output link.new }) (P.book port.new).last_answer cause) result }
+    ensures no_read_failure { OnOk result ((L.input link.new).failures ≡ (L.input link.old).failures) }
+    ensures no_failure { OnOk result ((L.output link.new).failures ≡ (L.output link.old).failures) }
+    ensures losses { (P.book port.new).losses ≡ (P.book port.old).losses }
+{
+    match drain(worker, link, port, reader, state) {
+        Ok(()) => {}
+        Err(cause) => return Err(cause),
+    }
+    match hear(link, reader, buffer) {
+        Ok(Heard::Piece) => Ok(()),
+        Ok(Heard::Lull) => glance(worker, link, port, state),
+        Err(cause) => Err(cause),
+    }
+}
+
+/// Goes through a session, to its end.
+fn serve<L: Source + Sink, P: PoolPort, J: Jobs>(
+    worker: &Worker<'_, J>,
+    link: &mut L,
+    port: &mut P,
+    state: &mut State,
+    turns: u32,
+) -> EndCause
+    requires slot { worker.now.pass.now.slot < slots worker.now.settings.now }
+    requires output { (L.output link.old).failures < 2 ^ 64 - 1 }
+    requires input { (L.input link.old).failures < 2 ^ 64 - 1 }
+    requires first { state.old ≡ first_state }
+    requires fresh { P.book port.old ≡ no_calls }
+    ensures ran { (read : List ℕ) × ((L.input link.new).given ≡ and_then (L.input link.old).given read)
+        × (Halts (duty_of (J.told worker.now.jobs.now) worker.now.settings.now worker.now.pass.now) (L.output link.old).got read (L.output link.new).got state.new.tally (P.book port.new) result
+        × Reason worker.now.pass.now.generation read state.new.tally.grabbed (record { input = L.input link.old; output = L.output link.old }) (record { input = L.input link.new; output = L.output link.new }) (P.book port.new).last_answer result) }
+    ensures losses { (P.book port.new).losses ≡ 0 }
+{
+    match begin(worker, link, port, state) {
+        Ok(()) => {}
+        Err(cause) => return cause,
+    }
+    let mut reader = Reader::new(worker.alloc);
+    let mut buffer = [0; 4096];
+    let mut made = 0;
+    while made < turns {
+        match turn(worker, link, port, &mut reader, state, &mut buffer) {
+            Ok(()) => made += 1,
+            Err(cause) => return cause,
+        }
+    }
+    match drain(worker, link, port, &mut reader, state) {
+        Ok(()) => EndCause::TurnsUsed,
+        Err(cause) => cause,
+    }
+}
+
+/// A worker's session over a link, to its end.
+pub fn run_session<L: Source + Sink, P: PoolPort, J: Jobs>(
+    alloc: Global,
+    link: &mut L,
+    port: &mut P,
+    jobs: &J,
+    settings: &Settings,
+    pass: Pass,
+    turns: u32,
+) -> SessionEnd
+    requires slot { pass.slot < slots settings.now }
+    requires output { (L.output link.old).failures < 2 ^ 64 - 1 }
+    requires input { (L.input link.old).failures < 2 ^ 64 - 1 }
+    requires fresh { P.book port.old ≡ no_calls }
+    ensures served { (read bytes : List ℕ)
+        × ((L.input link.new).given ≡ and_then (L.input link.old).given read)
+        × ((L.output link.new).got ≡ and_then (L.output link.old).got bytes)
+        × Served (duty_of (J.told jobs.now) settings.now pass) read bytes
+        (record { input = L.input link.old; output = L.output link.old })
+        (record { input = L.input link.new; output = L.output link.new })
+        (P.book port.new) result }
+{
+    let mut state = State {
+        registered: None,
+        phase: Phase::Idle,
+        tally: Tally {
+            grabbed: 0,
+            answered: 0,
+            reported: 0,
+        },
+    };
+    says_its_packets();
+    let worker = Worker {
+        alloc,
+        jobs,
+        settings,
+        pass: &pass,
+    };
+    let cause = serve(&worker, link, port, &mut state, turns);
+    match cause.loss() {
+        Some(loss) => port.lose(pass, loss),
+        None => drop(pass),
+    }
+    SessionEnd {
+        cause,
+        grabbed: state.tally.grabbed,
+        answered: state.tally.answered,
+        reported: state.tally.reported,
+    }
+}

@@ -1,0 +1,82 @@
+ghost use Rattle.std.specs.Prelude.{◌≡◌, ◌+◌, ◌-◌, ◌<◌, ◌≤◌, ◌^◌, ◌++◌, [], ◌∷◌, ℕ, List, length, IfErr, OnOk, Option};
+ghost use Rattle.gear_packets.specs.Response.{AssignedJob};
+ghost use Rattle.gear_status.specs.Sides.{and_then};
+ghost use Rattle.job_runner.specs.Book.{Book};
+ghost use Rattle.job_runner.specs.Course.{Duty, Wrote, Even, Ends, GoesOnOrEnds, PortReason};
+
+use crate::end::EndCause;
+use crate::port::{GrabRefusal, PoolPort};
+use crate::reply::spell;
+use crate::table::Jobs;
+use crate::worker::Worker;
+use gear_packets::Handle;
+use gear_status::{Sink, give_all};
+use pool_core::StayOrRetire;
+
+/// How many jobs a session took, answered and reported.
+#[derive(Clone, Copy, Debug, PartialEq, Eq)]
+pub struct Tally {
+    /// Jobs that the port booked.
+    pub grabbed: u64,
+    /// Answers that were written whole.
+    pub answered: u64,
+    /// Answers that the port booked.
+    pub reported: u64,
+}
+
+/// Answers an assignment: takes it at the port, runs its job, and writes what it tells once the port has let it.
+pub fn answer<L: Sink, P: PoolPort, J: Jobs>(
+    worker: &Worker<'_, J>,
+    link: &mut L,
+    port: &mut P,
+    tally: &mut Tally,
+    handle: &Handle,
+    function: &[u8],
+    payload: &[u8],
+) -> Result<(), EndCause>
+    requires link { (L.output link.old).failures < 2 ^ 64 - 1 }
+    requires tally { (tally.old.grabbed + 1 < 2 ^ 64) × (tally.old.answered + 1 < 2 ^ 64) × (tally.old.reported + 1 < 2 ^ 64) }
+    requires port { ((P.book port.old).grabs + 1 < 2 ^ 64) × ((P.book port.old).begins + 1 < 2 ^ 64) × ((P.book port.old).reports + 1 < 2 ^ 64) }
+    ensures answers { (duty : Duty) (before : Option (List ℕ)) (bytes : List ℕ) (registered : List (List ℕ)) (done : List AssignedJob) (unique : List ℕ) →
+        duty.told ≡ J.told worker.now.jobs.now → (L.output link.old).got ≡ and_then before bytes → Wrote duty bytes registered done → Even tally.old (P.book port.old) (length done) →
+        (more : List ℕ) × ((L.output link.new).got ≡ and_then before more)
+        × GoesOnOrEnds (Wrote duty more registered (done ++ record { handle = handle.now; function = function.now; unique = unique; payload = payload.now } ∷ []) × Even tally.new (P.book port.new) (length done + 1))
+        (Ends duty more (done ++ record { handle = handle.now; function = function.now; unique = unique; payload = payload.now } ∷ []) tally.new (P.book port.new)) result }
+    ensures reason { IfErr result (λ cause. PortReason worker.now.pass.now.generation cause (P.book port.new).last_answer) }
+    ensures input { L.input link.new ≡ L.input link.old }
+    ensures no_failure { OnOk result ((L.output link.new).failures ≡ (L.output link.old).failures) }
+    ensures write_fault { result ≡ Err EndCause.WriteFault → (L.output link.new).failures ≡ (L.output link.old).failures + 1 }
+    ensures losses { (P.book port.new).losses ≡ (P.book port.old).losses }
+{
+    let ticket = match port.grab(worker.pass, handle.copy(), function) {
+        Ok(ticket) => ticket,
+        Err(GrabRefusal::Gone) => return Err(EndCause::Gone),
+        Err(GrabRefusal::HistoryFull) => return Err(EndCause::HistoryFull),
+        Err(GrabRefusal::Memory) => return Err(EndCause::Memory),
+    };
+    tally.grabbed += 1;
+    let Ok(outcome) = worker.jobs.run(worker.alloc, function, payload) else {
+        return Err(EndCause::Memory);
+    };
+    let Ok(spelled) = spell(worker.alloc, handle, outcome) else {
+        return Err(EndCause::Memory);
+    };
+    let Ok(()) = port.begin_report(worker.pass, ticket) else {
+        return Err(EndCause::Gone);
+    };
+    let Ok(()) = give_all(link, spelled.text.as_slice()) else {
+        return Err(EndCause::WriteFault);
+    };
+    tally.answered += 1;
+    match port.reported(worker.pass, ticket, spelled.end) {
+        Ok(StayOrRetire::Stay) => {
+            tally.reported += 1;
+            Ok(())
+        }
+        Ok(StayOrRetire::Retire) => {
+            tally.reported += 1;
+            Err(EndCause::Retired)
+        }
+        Err(_) => Err(EndCause::Gone),
+    }
+}

@@ -1,0 +1,112 @@
+// A TCP stream as a source and a sink.
+ghost use Rattle.std.specs.Prelude.{◌≡◌, ◌≤◌, IfOk};
+ghost use Rattle.gear_status.specs.Sides.{no_input, no_output};
+
+use gear_status::{Device, DeviceFault, Sink, Source, Took};
+use std::io;
+use std::io::{ErrorKind, Read, Write};
+use std::net::{Net, TcpStream, ToSocketAddrs};
+use std::time::Duration;
+
+/// How many lulls a dial or a write may take: one more than the lulls of one status text.
+const PATIENCE: u64 = 65;
+
+/// A TCP stream to the job server, as a source and a sink with one descriptor.
+///
+/// A read that takes longer than its time limit is a lull. A write that takes longer than 65 of them is a failure, so a server that
+/// stops reading holds a session no longer than that. It tells contracts how often it failed and whether its input has ended, and no
+/// bytes: nothing can be proved of what a socket carries.
+#[derive(Drop)]
+pub struct TcpLink {
+    stream: TcpStream,
+    /// How many reads failed.
+    take_failures: u64,
+    /// How many writes failed.
+    give_failures: u64,
+    /// Whether the last read found the end.
+    has_ended: bool,
+}
+
+impl Device for TcpLink {
+    ghost use Rattle.std.specs.Prelude.{None};
+
+    ghost input = { λ s. record { given = None; lulls = None; failures = s.take_failures; has_ended = s.has_ended } };
+
+    ghost output = { λ s. record { got = None; failures = s.give_failures } };
+}
+
+impl TcpLink {
+    /// A link over a connected stream, that has not failed and has not found its end. It sets the two time limits, and turns Nagle's
+    /// algorithm off (TCP_NODELAY): an answer and the next request for a job are two writes with no read between, of which the second
+    /// would else wait for the server's delayed acknowledgement, some 40 milliseconds a job. The error is the system's, where one of
+    /// them cannot be set.
+    pub fn new(stream: TcpStream, lull_ms: u32) -> io::Result<TcpLink>
+        ensures input { IfOk result (λ link. ⟦<TcpLink as Device>⟧.input link ≡ no_input) }
+        ensures output { IfOk result (λ link. ⟦<TcpLink as Device>⟧.output link ≡ no_output) }
+    {
+        stream.set_nodelay(true)?;
+        stream.set_read_timeout(Some(Duration::from_millis(lull_ms as u64)))?;
+        stream.set_write_timeout(Some(Duration::from_millis(lull_ms as u64 * PATIENCE)))?;
+        Ok(TcpLink {
+            stream,
+            take_failures: 0,
+            give_failures: 0,
+            has_ended: false,
+        })
+    }
+
+    /// Dials `host:port`, each address of the host in turn, for 65 lulls at most each. The error is the system's answer to the last
+    /// address, or says that there is none.
+    pub fn dial<R: Net<Stream = TcpStream>>(
+        net: &R,
+        server: &str,
+        lull_ms: u32,
+    ) -> io::Result<TcpLink>
+        ensures input { IfOk result (λ link. ⟦<TcpLink as Device>⟧.input link ≡ no_input) }
+        ensures output { IfOk result (λ link. ⟦<TcpLink as Device>⟧.output link ≡ no_output) }
+    {
+        let patience = Duration::from_millis(lull_ms as u64 * PATIENCE);
+        let mut last = io::Error::from(ErrorKind::InvalidInput);
+        for address in server.to_socket_addrs(net)? {
+            match TcpStream::connect_timeout(net, &address, patience) {
+                Ok(stream) => return TcpLink::new(stream, lull_ms),
+                Err(error) => last = error,
+            }
+        }
+        Err(last)
+    }
+}
+
+impl Source for TcpLink {
+    fn take(&mut self, buffer: &mut [u8]) -> Result<Took, DeviceFault> {
+        self.has_ended = false;
+        match self.stream.read(buffer) {
+            Ok(0) => {
+                self.has_ended = true;
+                Ok(Took::Ended)
+            }
+            Ok(count) => Ok(Took::Bytes(count)),
+            Err(error) => match error.kind() {
+                ErrorKind::WouldBlock | ErrorKind::TimedOut | ErrorKind::Interrupted => {
+                    Ok(Took::Lull)
+                }
+                _ => {
+                    self.take_failures += 1;
+                    Err(DeviceFault)
+                }
+            },
+        }
+    }
+}
+
+impl Sink for TcpLink {
+    fn give(&mut self, bytes: &[u8]) -> Result<usize, DeviceFault> {
+        match self.stream.write(bytes) {
+            Ok(0) | Err(_) => {
+                self.give_failures += 1;
+                Err(DeviceFault)
+            }
+            Ok(count) => Ok(count),
+        }
+    }
+}
