@@ -1,0 +1,39 @@
+-- How a call moves the totals, and what they count, by the pool's own laws.
+use Rattle.std.proofs.Common.{◌≡◌, ◌++◌, length, false, sym, ap, subst, ◌∙◌, arith}
+use Rattle.std.specs.Prelude.{Result, Ok, Err, OnOk, OnErr, count_by}
+use Rattle.pool_settings.specs.Profile.{IsProfile}
+use Rattle.worker_state.specs.Slots.{is_reported}
+use Rattle.pool_core.specs.declared.event.Event.{Event}
+use Rattle.pool_core.specs.Machine.{State, first, replay, IsHistory}
+use Rattle.pool_core.specs.Kept.{IsChapter}
+use Rattle.pool_core.specs.Laws.{is_grab, is_report, one_if, EventsCount, HistoriesCount, HistoriesJoin}
+use Rattle.pool_core.specs.Book.{Book, IsStep, totals_of}
+use Rattle.pool_supervisor.specs.Counted.{CountsItsEvents}
+
+-- a call that is no grab and no report leaves both numbers
+pub same_totals : {A E : Type 0} (e : Event) (old new : Book) (result : Result A E) → EventsCount old → is_grab e ≡ false → is_report e ≡ false → OnOk result (IsStep e old new) → OnErr result (new ≡ old)
+    → ((totals_of new).grabbed ≡ (totals_of old).grabbed) × ((totals_of new).reported ≡ (totals_of old).reported)
+same_totals e old new (Ok x) counts no_grab no_report step same =
+    let t = counts e new step in (
+      omega (arith, t.0, ap one_if no_grab),
+      omega (arith, t.1, ap one_if no_report),
+    )
+same_totals e old new (Err x) counts no_grab no_report step same =
+    (ap (λ (b : Book). (totals_of b).grabbed) same, ap (λ (b : Book). (totals_of b).reported) same)
+
+-- the totals are the numbers of grabs and of reports of the whole history
+pub counts_its_events : (book : Book) → IsProfile book.rules → IsChapter book.rules book.chapters book.events book.state → HistoriesJoin → HistoriesCount → CountsItsEvents book (totals_of book)
+counts_its_events book valid chapter join count =
+    let base = first book.rules in
+    let before = chapter.begins.before in
+    let to_base = chapter.begins.replays in
+    let from_base : IsHistory book.rules (replay book.rules base before) book.events = subst (λ (s : State). IsHistory book.rules s book.events) to_base.replayed chapter.replays.history in
+    let joined = join book.rules base before book.events to_base.history from_base in
+    let replayed : book.state ≡ replay book.rules base (before ++ book.events) = chapter.replays.replayed ∙ (ap (λ (s : State). replay book.rules s book.events) to_base.replayed ∙ sym joined.1) in
+    let counted = count book.rules valid (before ++ book.events) joined.0 in
+    record {
+      earlier = before;
+      replays = record { history = joined.0; replayed = replayed };
+      grabs = ap (λ (s : State). length s.standings) replayed ∙ counted.grabs;
+      reports = ap (λ (s : State). count_by is_reported s.standings) replayed ∙ counted.reports;
+    }

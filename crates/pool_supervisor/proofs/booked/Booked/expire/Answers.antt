@@ -1,0 +1,11 @@
+use Rattle.std.proofs.Common.{◌∙◌, sym, refl}
+use Rattle.pool_core.specs.declared.event.Event.TheVariants as event
+use Rattle.worker_state.specs.declared.cause.Cause.TheVariants.{Late}
+use Rattle.pool_supervisor.proofs.Counts.{same_totals}
+use Rattle.pool_supervisor.proofs.booked.Booked.expire.Goals as goal
+
+pub invariant_of-self : goal.invariant_of-self
+invariant_of-self g c =
+    let h = c.expire.ensures in
+    let t = same_totals (event.Lost (record { slot = c.args.slot; generation = c.args.generation }) Late) c.self.inside.pool c.expire.new.self c.expire.result c.events_count.ensures refl refl h.0.0 h.0.1 in
+    (c.self.invariant.0 ∙ sym t.0, c.self.invariant.1 ∙ sym t.1)

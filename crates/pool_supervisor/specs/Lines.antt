@@ -1,0 +1,47 @@
+-- What an attempt of the supervisor came to, and its line.
+use Rattle.std.specs.Prelude.{ℕ, ◌-◌, ◌^◌, ◌++◌, List, [], Option, Some, None, codes, nat_lt, if◌then◌else◌}
+use Rattle.std.specs.Fmt.{decimal}
+use Rattle.refusal.specs.Label.{Label, label_words}
+use Rattle.gear_status.specs.Refusal.{line_of, status_label}
+use Rattle.gear_status.specs.declared.error.StatusError.{StatusError}
+use Rattle.pool_core.specs.Refusal.{load_label, view_label, adopt_label}
+use Rattle.pool_core.specs.declared.answer.Ran.{Ran}
+use Rattle.pool_supervisor.specs.declared.attempt.PoolRefusal.{PoolRefusal}
+use Rattle.pool_supervisor.specs.declared.attempt.PoolRefusal.TheVariants as refusal
+use Rattle.pool_supervisor.specs.declared.attempt.Attempt.{Attempt}
+use Rattle.pool_supervisor.specs.declared.attempt.Attempt.TheVariants as attempt
+
+-- the refusals of a round have the numbers and names that their calls give them
+abbrev pub refusal_label : PoolRefusal → Label
+refusal_label (refusal.Load error) = load_label error
+refusal_label (refusal.View error) = view_label error
+refusal_label (refusal.Adopt error) = adopt_label error
+
+-- a round with this backlog, or with none where there is no plan
+abbrev pub attempt_with : ℕ → Option ℕ → Attempt
+attempt_with round None = attempt.NoPlan round
+attempt_with round (Some backlog) =
+    if nat_lt backlog (2 ^ 32) then attempt.Backlog round backlog else attempt.Unserved round (backlog - 2 ^ 32)
+
+abbrev pub attempt_of : Ran → Attempt
+attempt_of ran = attempt_with ran.number ran.backlog
+
+abbrev pub line_words : Option ℕ → List ℕ
+line_words None = []
+line_words (Some line) = codes " line " ++ decimal line
+
+-- why a status text was not taken, with its line where it is one line
+abbrev pub status_words : StatusError → List ℕ
+status_words error = codes "status " ++ label_words (status_label error) ++ line_words (line_of error)
+
+abbrev pub attempt_words : Attempt → List ℕ
+attempt_words (attempt.Backlog round backlog) = codes "round " ++ decimal round ++ codes " backlog " ++ decimal backlog
+attempt_words (attempt.Unserved round waiting) = codes "round " ++ decimal round ++ codes " unserved " ++ decimal waiting
+attempt_words (attempt.NoPlan round) = codes "round " ++ decimal round ++ codes " noplan"
+attempt_words attempt.NoLink = codes "nolink"
+attempt_words (attempt.Status error) = status_words error
+attempt_words (attempt.Refused refusal) = codes "refused " ++ label_words (refusal_label refusal)
+attempt_words attempt.Memory = codes "refused Memory"
+
+abbrev pub attempt_line : ℕ → Attempt → List ℕ
+attempt_line number attempt = codes "attempt " ++ decimal number ++ codes " " ++ attempt_words attempt

@@ -1,0 +1,304 @@
+//! The sessions of a run: started as threads, and joined as they end.
+ghost use Rattle.std.specs.Prelude.{◌≡◌, ◌+◌, ◌-◌, ◌<◌, ◌≤◌, ◌^◌, IfOk, IfSome, OnOk, vec_len, vec_capacity};
+ghost use Rattle.pool_settings.specs.Slots.{slots as slot_count};
+
+use crate::place::{BoardId, Place};
+use crate::port::Watch;
+use crate::session::{Returned, Site, run_worker};
+use crate::shared::Shared;
+use gear_status::{Sink, Source};
+use job_runner::Jobs;
+use order_board::{Board, SeatSource};
+use pool_core::{Pass, Totals};
+use std::alloc::{AllocError, Global};
+use std::marker::Model;
+use std::sync::atomic::{AtomicBool, Ordering};
+use std::sync::ledger::{Ledger, Share};
+use std::sync::{Arc, Wait};
+use std::thread;
+use std::thread::{JoinHandle, Scope, Threads};
+
+/// Into how many parts the ledgers of a run are cut: one for each session that runs, and one at least for the crew.
+pub const PARTS: u64 = 1 << 40;
+
+/// The stack of a session's thread, in bytes. A session has its reader's buffer of 4,096 bytes there and little else; what a job takes
+/// is on the heap.
+const STACK: usize = 256 * 1024;
+
+/// How many reads a session may make.
+const TURNS: u32 = u32::MAX;
+
+/// A session that was started.
+#[derive(Drop)]
+struct Started<G: Ledger, D: Ledger, B: BoardId> {
+    handle: JoinHandle<Returned<G, D, B>>,
+    /// Set by the session as the last that it does.
+    has_ended: Arc<AtomicBool>,
+}
+
+/// Room for one more session: what its start needs of memory but for the thread.
+#[derive(Drop)]
+pub struct Berth {
+    has_ended: Arc<AtomicBool>,
+    of_session: Arc<AtomicBool>,
+}
+
+/// The sessions that run, and what those that ended handed back.
+///
+/// The shares that came back and those that are out are the whole ledgers, but for the two shares of each session that could not be
+/// started. What came back stands at the sums of what the sessions told.
+#[derive(Drop)]
+pub struct Crew<G: Ledger, D: Ledger, B: BoardId> {
+    running: Vec<Started<G, D, B>>,
+    grabs: Share<G>,
+    reports: Share<D>,
+    grabbed: u64,
+    reported: u64,
+    not_started: u64,
+}
+
+impl<G: Ledger, D: Ledger, B: BoardId> Model for Crew<G, D, B> {
+    ghost use Rattle.std.specs.Prelude.{◌≡◌, ◌+◌, ◌^◌, vec_len, vec_capacity};
+    ghost use Rattle.pool_supervisor.specs.Sessions.{Sessions};
+
+    ghost Value = { Sessions };
+
+    ghost view = { λ c. record { running = vec_len c.running; room = vec_capacity c.running; not_started = c.not_started } };
+
+    ghost invariant = { λ c.
+        (c.grabs.parts + vec_len c.running + c.not_started ≡ G.parts) × (G.parts ≡ 2 ^ 40) × (c.grabs.amount ≡ c.grabbed)
+        × (c.reports.parts + vec_len c.running + c.not_started ≡ D.parts) × (D.parts ≡ 2 ^ 40) × (c.reports.amount ≡ c.reported) };
+}
+
+/// What all sessions of a run came to: the pool's totals, which are the sums of what the sessions told.
+#[derive(Clone, Copy, Debug, PartialEq, Eq)]
+pub struct Sums {
+    /// The totals of the pool.
+    pub totals: Totals,
+    /// How many jobs the sessions grabbed.
+    pub grabbed: u64,
+    /// How many jobs the sessions reported.
+    pub reported: u64,
+    pub ghost grabs_agree: { totals.grabbed ≡ grabbed },
+    pub ghost reports_agree: { totals.reported ≡ reported },
+}
+
+impl<G: Ledger, D: Ledger, B: BoardId> Crew<G, D, B> {
+    /// No session yet, over the whole shares, which stand at 0.
+    pub fn new(alloc: Global, grabs: Share<G>, reports: Share<D>) -> Crew<G, D, B>
+        requires grabs { (grabs.parts ≡ G.parts) × (grabs.amount ≡ 0) × (G.parts ≡ 2 ^ 40) }
+        requires reports { (reports.parts ≡ D.parts) × (reports.amount ≡ 0) × (D.parts ≡ 2 ^ 40) }
+    {
+        Crew {
+            running: Vec::new(alloc),
+            grabs,
+            reports,
+            grabbed: 0,
+            reported: 0,
+            not_started: 0,
+        }
+    }
+
+    /// Whether a session could not be started for want of a thread.
+    pub fn is_short(&self) -> bool {
+        self.not_started > 0
+    }
+
+    /// Makes room for one more session. The error is that memory was refused, or that so many run that no part of a ledger is left.
+    pub fn berth(&mut self, alloc: Global) -> Result<Berth, AllocError>
+        ensures room { OnOk result (self.new.running < self.new.room) }
+        ensures parts { OnOk result (self.new.running + self.new.not_started + 2 ≤ 2 ^ 40) }
+    {
+        if self.running.len() as u64 >= PARTS / 2 || self.not_started >= PARTS / 4 {
+            return Err(AllocError);
+        }
+        self.running.reserve(1)?;
+        let has_ended = Arc::new(alloc, AtomicBool::new(false))?;
+        let of_session = Arc::try_clone(&has_ended)?;
+        Ok(Berth {
+            has_ended,
+            of_session,
+        })
+    }
+
+    /// Starts a session in a thread of its own. At `Err` no thread could be started, and the sums can no more be told.
+    pub fn start<
+        's,
+        'e: 's,
+        L: Source + Sink + Send + Drop + 's,
+        J: Jobs + Sync,
+        C: Watch + Sync,
+        R: Threads + Wait + Sync,
+    >(
+        &mut self,
+        scope: &Scope<'s, &'e ()>,
+        site: Site<'e, G, D, J, C, R>,
+        berth: Berth,
+        link: L,
+        pass: Pass,
+        place: Place<B>,
+    ) -> Result<(), AllocError>
+    where
+        G: Send + Sync,
+        D: Send + Sync,
+        B: Send + Sync + 's,
+        requires room { self.old.running < self.old.room }
+        requires parts { self.old.running + self.old.not_started + 2 ≤ 2 ^ 40 }
+        requires board { site.board.now.id ≡ B.board }
+        requires slot { pass.slot < slot_count site.settings.now }
+        requires link { ((L.output link).failures < 2 ^ 64 - 1) × ((L.input link).failures < 2 ^ 64 - 1) }
+    {
+        let Crew {
+            running,
+            grabs,
+            reports,
+            not_started,
+            ..
+        } = self;
+        let grab_share = grabs.split_off(1, 0);
+        let report_share = reports.split_off(1, 0);
+        let Berth {
+            has_ended,
+            of_session,
+        } = berth;
+        let work = move || -> Returned<G, D, B>
+            requires board { site.board.now.id ≡ B.board }
+            requires slot { pass.slot < slot_count site.settings.now }
+            requires link { ((L.output link).failures < 2 ^ 64 - 1) × ((L.input link).failures < 2 ^ 64 - 1) }
+            requires shares { (grab_share.parts ≡ 1) × (grab_share.amount ≡ 0) × (report_share.parts ≡ 1) × (report_share.amount ≡ 0) }
+        {
+            let mut link = link;
+            let returned = run_worker(
+                &site,
+                &mut link,
+                pass,
+                place,
+                TURNS,
+                grab_share,
+                report_share,
+            );
+            drop(link);
+            of_session.store(true, Ordering::SeqCst);
+            returned
+        };
+        match thread::Builder::new()
+            .stack_size(STACK)
+            .spawn_scoped(scope, work)
+        {
+            Ok(handle) => {
+                running.push_reserved(Started { handle, has_ended });
+                Ok(())
+            }
+            Err(_) => {
+                *not_started += 1;
+                Err(AllocError)
+            }
+        }
+    }
+
+    /// Whether a session has ended.
+    fn has_ended(&self, at: usize) -> bool
+        requires { at < self.now.running }
+    {
+        self.running[at].has_ended.load(Ordering::SeqCst)
+    }
+
+    /// Joins a session, adds up what it did, and takes its seat back.
+    fn take_back<R: Threads + Wait>(
+        &mut self,
+        rt: &R,
+        shared: &Shared<G, D>,
+        board: &Board,
+        source: SeatSource,
+        at: usize,
+    ) -> SeatSource
+        requires at { at < self.old.running }
+        requires board { (board.now.id ≡ B.board) × (source.board ≡ B.board) }
+        ensures one { self.new.running + 1 ≡ self.old.running }
+        ensures source { result ≡ source }
+    {
+        let Crew {
+            running,
+            grabs,
+            reports,
+            grabbed,
+            reported,
+            ..
+        } = self;
+        let Started {
+            handle,
+            has_ended: _,
+        } = running.swap_remove(at);
+        let Returned {
+            end,
+            place,
+            grabbed: grab_share,
+            reported: report_share,
+        } = handle.join(rt);
+        grabs.merge(grab_share);
+        reports.merge(report_share);
+        // The books bound the shares, and so the sums.
+        let _ = shared.settle(rt, grabs, reports);
+        *grabbed += end.grabbed;
+        *reported += end.reported;
+        match place {
+            Some(Place { seat, of: _ }) => board.retire(seat, source),
+            None => source,
+        }
+    }
+
+    /// Joins the sessions that have ended, so that none keeps a handle or a thread for longer than an attempt. It waits for no session
+    /// that goes on.
+    pub fn join_ended<R: Threads + Wait>(
+        &mut self,
+        rt: &R,
+        shared: &Shared<G, D>,
+        board: &Board,
+        mut source: SeatSource,
+    ) -> SeatSource
+        requires board { (board.now.id ≡ B.board) × (source.board ≡ B.board) }
+        ensures source { result ≡ source }
+    {
+        let mut at = self.running.len();
+        while at > 0 {
+            at -= 1;
+            if self.has_ended(at) {
+                source = self.take_back(rt, shared, board, source, at);
+            }
+        }
+        source
+    }
+
+    /// Joins all sessions, as each ends, and takes the totals. None where a session could not be started.
+    pub fn join_all<R: Threads + Wait>(
+        mut self,
+        rt: &R,
+        shared: &Shared<G, D>,
+        board: &Board,
+        mut source: SeatSource,
+    ) -> Option<Sums>
+        requires board { (board.now.id ≡ B.board) × (source.board ≡ B.board) }
+    {
+        while self.running.len() > 0 {
+            let last = self.running.len() - 1;
+            source = self.take_back(rt, shared, board, source, last);
+        }
+        if self.not_started > 0 {
+            return None;
+        }
+        let Crew {
+            running: _,
+            mut grabs,
+            mut reports,
+            grabbed,
+            reported,
+            not_started: _,
+        } = self;
+        let totals = shared.settle(rt, &mut grabs, &mut reports);
+        Some(Sums {
+            totals,
+            grabbed,
+            reported,
+        })
+    }
+}

@@ -1,0 +1,32 @@
+//! The pool that sessions share, and the port by which each of them reaches it.
+//!
+//! The pool lies under one lock, beside two books: how many jobs were grabbed, and how many were reported. A session holds a share
+//! of each book, which rises with the book where one of its calls succeeds, and never else. So the sums of what sessions tell are
+//! the totals of the pool, whatever the threads do.
+#![tactic(auto)]
+
+mod attempt;
+mod attempts;
+mod booked;
+mod crew;
+mod dial;
+mod place;
+mod planner;
+mod port;
+mod posting;
+mod round;
+mod run;
+mod session;
+mod shared;
+
+pub use attempt::{Attempt, PoolRefusal, attempt_line};
+pub use attempts::Progress;
+pub use booked::Booked;
+pub use dial::Dial;
+pub use place::{BoardId, Place};
+pub use planner::{ArenaPlanner, Planner};
+pub use port::{SharedPort, Watch};
+pub use posting::publish;
+pub use run::{RunEnd, run_pool};
+pub use session::{Returned, Site, run_worker};
+pub use shared::Shared;
