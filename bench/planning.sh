@@ -9,9 +9,9 @@ scratch=$(mktemp -d)
 trap 'rm -rf "$scratch"' EXIT
 mkdir -p "$scratch/crates/planning_bench/src"
 git -C "$scratch" init -q
-for crate in plan_model round_arena augment level_search; do
+for crate in refusal plan_model round_arena augment level_search; do
     cp -r "crates/$crate" "$scratch/crates/"
-    grep "^$crate:" crates.txt >> "$scratch/crates.txt"
+    grep "^$crate[ :]" crates.txt >> "$scratch/crates.txt"
 done
 cp bench/planning/main.rt.txt "$scratch/crates/planning_bench/src/main.rt"
 echo 'planning_bench: level_search, plan_model, bumpalo, anyhow' >> "$scratch/crates.txt"

@@ -8,9 +8,9 @@ scratch=$(mktemp -d)
 trap 'rm -rf "$scratch"' EXIT
 mkdir -p "$scratch/crates/pool_bench/src"
 git -C "$scratch" init -q
-for crate in plan_model gear_packets gear_status round_arena augment level_search worker_state pool_settings pool_core; do
+for crate in refusal plan_model gear_packets gear_status round_arena augment level_search worker_state pool_settings pool_core; do
     cp -r "crates/$crate" "$scratch/crates/"
-    grep "^$crate:" crates.txt >> "$scratch/crates.txt"
+    grep "^$crate[ :]" crates.txt >> "$scratch/crates.txt"
 done
 cp bench/pool/main.rt.txt "$scratch/crates/pool_bench/src/main.rt"
 echo 'pool_bench: pool_core, worker_state, gear_packets, gear_status, pool_settings, plan_model, anyhow' >> "$scratch/crates.txt"
