@@ -5,6 +5,3 @@ mod command;
 mod operands;
 
 pub use command::{Command, CommandError, command_of};
-
-#[cfg(test)]
-mod tests;

@@ -16,6 +16,3 @@ pub use load::{Counts, Load};
 pub use memory::{SliceSource, VecSink};
 pub use script::Script;
 pub use status::{load_of, read_status, read_status_within};
-
-#[cfg(test)]
-mod tests;

@@ -7,6 +7,3 @@ mod previous;
 mod solving;
 
 pub use solving::{Solved, solve};
-
-#[cfg(test)]
-mod tests;

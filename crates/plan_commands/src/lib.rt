@@ -13,6 +13,3 @@ pub use ending::{Exit, deliver};
 pub use fault::Fault;
 pub use plan::plan_text;
 pub use problem::Problem;
-
-#[cfg(test)]
-mod tests;

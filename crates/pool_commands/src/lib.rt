@@ -48,6 +48,3 @@ mod word;
 pub use command::{Command, Word};
 pub use law::{causes_read_back, workers_read_back};
 pub use line::command_in;
-
-#[cfg(test)]
-mod tests;

@@ -25,6 +25,3 @@ pub use laws::{
     workers_are_new,
 };
 pub use pool::{Pass, Pool};
-
-#[cfg(test)]
-mod tests;

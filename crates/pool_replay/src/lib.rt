@@ -11,6 +11,3 @@ mod running;
 
 pub use law::{commands_are_calls, transcripts_are_histories};
 pub use running::{End, Outcome, run};
-
-#[cfg(test)]
-mod tests;

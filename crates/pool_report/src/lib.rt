@@ -38,9 +38,6 @@ mod lines;
 mod reader;
 mod report;
 mod stage;
-#[cfg(test)]
-mod tests;
-
 pub use error::{ReadError, WriteError};
 pub use law::{
     lines_are_spelled, lines_read_back, names_read_back, report_reads_back, texts_are_reports,

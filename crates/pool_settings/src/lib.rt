@@ -17,6 +17,3 @@ mod worker_name;
 pub use error::SettingsError;
 pub use law::names_are_one_to_one;
 pub use settings::Settings;
-
-#[cfg(test)]
-mod tests;

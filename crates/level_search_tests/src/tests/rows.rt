@@ -1,0 +1,168 @@
+use super::{input_of, line_of, plan_of};
+use level_search::solve;
+use bumpalo::Bump;
+use plan_model::{Answer, SlotId, check};
+use std::alloc::{AllocError, Global};
+use std::test::Fail;
+
+/// The answer of `solve` as a line.
+fn solved(
+    alloc: Global,
+    live: &[(u32, u32)],
+    may: &[&[u32]],
+    least: &[u32],
+    waiting: &[u32],
+) -> Result<String, AllocError> {
+    let Some(input) = input_of(alloc, live, may, least, waiting)? else {
+        return String::from_str(alloc, "refused");
+    };
+    let bump = Bump::new(alloc);
+    let solved = solve(alloc, &bump, &input, None)?;
+    match check(&input, &solved.answer) {
+        Ok(()) => line_of(alloc, &input, &solved.answer),
+        Err(_) => String::from_str(alloc, "not shown"),
+    }
+}
+
+#[test]
+fn answers_by_hand(rt: HostRuntime) -> Result<(), Fail> {
+    let alloc = rt.alloc();
+
+    // Two machines of one worker: the first may do x, the second x and y.
+    let line = solved(alloc, &[(0, 0), (1, 1)], &[&[0], &[0, 1]], &[0, 0], &[6, 2])?;
+    assert_eq!(rt; line.as_str(), "1 1 backlog 6 need 3 have 2");
+
+    // Nine jobs on two workers: the quotient is rounded up.
+    let line = solved(alloc, &[(0, 0), (1, 0)], &[&[0]], &[0], &[9])?;
+    assert_eq!(rt; line.as_str(), "2 backlog 5 need 3 have 2");
+
+    // The longest queue does not get every worker.
+    let three = [(0, 0), (1, 0), (2, 0)];
+    let line = solved(alloc, &three, &[&[0, 1]], &[0, 0], &[10, 4])?;
+    assert_eq!(rt; line.as_str(), "2 1 backlog 5 need 4 have 3");
+    let line = solved(alloc, &three, &[&[0, 1]], &[0, 2], &[10, 4])?;
+    assert_eq!(rt; line.as_str(), "1 2 backlog 10 need 4 have 3");
+
+    // Nobody is live: the function is stranded, and its least number cannot be met.
+    let line = solved(alloc, &[], &[&[0]], &[0], &[7])?;
+    assert_eq!(rt; line.as_str(), "0 backlog 0");
+    let line = solved(alloc, &[], &[&[0]], &[1], &[7])?;
+    assert_eq!(rt; line.as_str(), "noplan need 1 have 0");
+
+    // One worker for two functions serves the longer queue.
+    let line = solved(alloc, &[(0, 0)], &[&[0, 1]], &[0, 0], &[3, 7])?;
+    assert_eq!(rt; line.as_str(), "0 1 backlog 4294967299 need 2 have 1");
+    let line = solved(alloc, &[(0, 0)], &[&[0, 1]], &[0, 0], &[7, 3])?;
+    assert_eq!(rt; line.as_str(), "1 0 backlog 4294967299 need 2 have 1");
+
+    // The set of all functions is not short here: it needs 3 and has 4.
+    let four = [(0, 0), (1, 1), (2, 1), (3, 1)];
+    let line = solved(alloc, &four, &[&[0], &[1]], &[0, 0], &[8, 3])?;
+    assert_eq!(rt; line.as_str(), "1 3 backlog 8 need 2 have 1");
+    Ok(())
+}
+
+#[test]
+fn answers_at_the_edges(rt: HostRuntime) -> Result<(), Fail> {
+    let alloc = rt.alloc();
+    let line = solved(alloc, &[(0, 0)], &[&[0]], &[0], &[4294967295])?;
+    assert_eq!(rt; line.as_str(), "1 backlog 4294967295 need 2 have 1");
+    let line = solved(alloc, &[(0, 0)], &[&[0]], &[0], &[0])?;
+    assert_eq!(rt; line.as_str(), "1 backlog 0");
+
+    // One job for two workers: nobody is left idle.
+    let line = solved(alloc, &[(0, 0), (1, 0)], &[&[0]], &[0], &[1])?;
+    assert_eq!(rt; line.as_str(), "2 backlog 1 need 3 have 2");
+    let line = solved(alloc, &[(0, 0), (1, 0)], &[&[0]], &[0], &[0])?;
+    assert_eq!(rt; line.as_str(), "2 backlog 0");
+
+    // Three machines in a chain: at level 1 each function needs two workers, so more than one set is
+    // short.
+    let line = solved(
+        alloc,
+        &[(0, 0), (1, 1), (2, 2)],
+        &[&[0], &[0, 1], &[1, 2]],
+        &[0, 0, 0],
+        &[2, 2, 2],
+    )?;
+    assert!(rt; line.starts_with("1 1 1 backlog 2 need "));
+    Ok(())
+}
+
+/// What the worker of slot 0 does, and the backlog, in a round that follows the plan of these
+/// functions.
+fn follows(
+    alloc: Global,
+    live: &[(u32, u32)],
+    waiting: &[u32],
+    previous: &[(u32, Option<u32>)],
+) -> Result<String, AllocError> {
+    let Some(plan) = plan_of(alloc, previous)? else {
+        return String::from_str(alloc, "the plan is refused");
+    };
+    let Some(input) = input_of(alloc, live, &[&[0, 1]], &[0, 0], waiting)? else {
+        return String::from_str(alloc, "the input is refused");
+    };
+    let bump = Bump::new(alloc);
+    let solved = solve(alloc, &bump, &input, Some(&plan))?;
+    match &solved.answer {
+        Answer::Planned { plan, backlog, .. } => match plan.function_of(SlotId::new(0)) {
+            Some(function) => format!(in alloc; "{} backlog {}", function.number(), *backlog),
+            None => format!(in alloc; "idle backlog {}", *backlog),
+        },
+        Answer::NoPlan { .. } => String::from_str(alloc, "noplan"),
+    }
+}
+
+#[test]
+fn previous_plan_stays(rt: HostRuntime) -> Result<(), Fail> {
+    let alloc = rt.alloc();
+
+    // One worker on y, which has no job left: y is as good as x.
+    let line = follows(alloc, &[(0, 0)], &[0, 0], &[(0, Some(1))])?;
+    assert_eq!(rt; line.as_str(), "1 backlog 0");
+
+    // Three workers, of whom the first is on y, and one job of x fewer in the second round.
+    let three = [(0, 0), (1, 0), (2, 0)];
+    let plan = [(0, Some(1)), (1, Some(0)), (2, Some(0))];
+    let line = follows(alloc, &three, &[10, 4], &plan)?;
+    assert_eq!(rt; line.as_str(), "1 backlog 5");
+    let line = follows(alloc, &three, &[9, 4], &plan)?;
+    assert_eq!(rt; line.as_str(), "1 backlog 5");
+    Ok(())
+}
+
+/// How many looks a first round takes.
+fn looks_of(
+    alloc: Global,
+    live: &[(u32, u32)],
+    may: &[&[u32]],
+    least: &[u32],
+    waiting: &[u32],
+) -> Result<Option<u64>, AllocError> {
+    let Some(input) = input_of(alloc, live, may, least, waiting)? else {
+        return Ok(None);
+    };
+    let bump = Bump::new(alloc);
+    let solved = solve(alloc, &bump, &input, None)?;
+    Ok(Some(solved.looks))
+}
+
+#[test]
+fn looks_by_hand(rt: HostRuntime) -> Result<(), Fail> {
+    let alloc = rt.alloc();
+
+    // One worker for one function: one look finds him, one more is stuck at level 0, and one is for the filling.
+    let looks = looks_of(alloc, &[(0, 0)], &[&[0]], &[0], &[1])?;
+    assert_eq!(rt; looks, Some(3));
+
+    // Each function finds its worker at the first look, and levels 3 and 5 are stuck after three looks each.
+    let looks = looks_of(alloc, &[(0, 0), (1, 1)], &[&[0], &[0, 1]], &[0, 0], &[6, 2])?;
+    assert_eq!(rt; looks, Some(11));
+
+    // One look and two at the first level, three more at level 7, and six at each of the levels 3 and 4, which are stuck.
+    let three = [(0, 0), (1, 0), (2, 0)];
+    let looks = looks_of(alloc, &three, &[&[0, 1]], &[0, 0], &[10, 4])?;
+    assert_eq!(rt; looks, Some(24));
+    Ok(())
+}

@@ -1,0 +1,97 @@
+//! What the program prints of a fault, and what it makes of its words.
+
+use plan_commands::Fault;
+use gear_status::StatusError;
+use pool_report::ReadError;
+use pool_settings::SettingsError;
+use std::alloc::Global;
+
+/// Whether the fault is displayed as this line and ends with this status.
+fn prints(alloc: Global, fault: Fault, line: &str, status: u8) -> bool {
+    match format!(in alloc; "{fault}") {
+        Ok(printed) => printed.as_str() == line && fault.status() == status,
+        Err(_) => false,
+    }
+}
+
+#[test]
+fn lines_of_settings_and_workers(rt: HostRuntime) {
+    let alloc = rt.alloc();
+    assert!(rt;
+        prints(
+            alloc,
+            Fault::Settings(SettingsError::Text),
+            "settings 1 Text",
+            3
+        )
+    );
+    assert!(rt;
+        prints(
+            alloc,
+            Fault::Settings(SettingsError::TooMany),
+            "settings 8 TooMany",
+            3
+        )
+    );
+    assert!(rt; prints(alloc, Fault::UnknownWorker, "lost 1 UnknownWorker", 3));
+    assert!(rt; prints(alloc, Fault::TooLong, "input 1 TooLong", 3));
+}
+
+/// Whether the fault of a status text is displayed as this line.
+fn prints_status(alloc: Global, error: StatusError, line: &str) -> bool {
+    prints(alloc, Fault::Status(error), line, 3)
+}
+
+#[test]
+fn lines_of_status_texts(rt: HostRuntime) {
+    let alloc = rt.alloc();
+    assert!(rt; prints_status(alloc, StatusError::BadLine(7), "status 1 BadLine line 7"));
+    assert!(rt;
+        prints_status(
+            alloc,
+            StatusError::BadNumber(2),
+            "status 2 BadNumber line 2"
+        )
+    );
+    assert!(rt;
+        prints_status(
+            alloc,
+            StatusError::LineTooLong(1),
+            "status 3 LineTooLong line 1"
+        )
+    );
+    assert!(rt; prints_status(alloc, StatusError::TooManyLines, "status 4 TooManyLines"));
+    assert!(rt; prints_status(alloc, StatusError::Truncated, "status 5 Truncated"));
+}
+
+#[test]
+fn lines_of_reports(rt: HostRuntime) {
+    let alloc = rt.alloc();
+    let bad = Fault::Report(ReadError::BadLine(4));
+    assert!(rt; prints(alloc, bad, "report 1 BadLine line 4", 3));
+    let unknown = Fault::Report(ReadError::UnknownName(4));
+    assert!(rt; prints(alloc, unknown, "report 2 UnknownName line 4", 3));
+    assert!(rt;
+        prints(
+            alloc,
+            Fault::Report(ReadError::Truncated),
+            "report 3 Truncated",
+            3
+        )
+    );
+}
+
+#[test]
+fn lines_of_commands(rt: HostRuntime) {
+    let alloc = rt.alloc();
+    assert!(rt; prints(alloc, Fault::BadCommand(7), "events 1 BadLine line 7", 3));
+}
+
+#[test]
+fn lines_of_devices_and_memory(rt: HostRuntime) {
+    let alloc = rt.alloc();
+    assert!(rt; prints(alloc, Fault::ReadFault, "device 1 ReadFault", 4));
+    assert!(rt; prints(alloc, Fault::WriteFault, "device 2 WriteFault", 4));
+    assert!(rt; prints(alloc, Fault::NoFile, "device 3 NoFile", 4));
+    assert!(rt; prints(alloc, Fault::Memory, "memory", 4));
+}

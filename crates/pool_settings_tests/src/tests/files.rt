@@ -1,0 +1,234 @@
+// Whole files: their refusals, and what the settings that they make say.
+
+use pool_settings::{Settings, SettingsError};
+use plan_model::{FuncId, MachineId, SlotId};
+use std::alloc::{AllocError, Global};
+
+/// Every key, with tables and lists out of order and a function that is listed twice.
+const ALL: &str =
+    "version = 1\nserver = \"jobs.example:7003\"\njob_timeout_ms = 5000\nmax_runs = 2\nround_ms = 10\nlull_ms = 20\nhistory = 5\n[functions.z]\n[functions.x]\nleast = 3\n[machines.c]\nworkers = 2\nfunctions = [\"z\", \"x\", \"z\"]\n[machines.b]\nworkers = 0\nfunctions = []\n[machines.a]\nworkers = 3\nfunctions = [\"z\"]\n";
+
+/// A file of two machines. The parts stand for the version, a top key, a function's key, and the first machine.
+#[derive(Clone, Copy)]
+struct File<'f> {
+    version: &'f str,
+    top: &'f str,
+    function: &'f str,
+    machine: &'f str,
+    workers: &'f str,
+    listed: &'f str,
+}
+
+const S1: File<'static> = File {
+    version: "1",
+    top: "",
+    function: "",
+    machine: "a",
+    workers: "1",
+    listed: "\"x\"",
+};
+
+impl File<'_> {
+    fn text(&self, alloc: Global) -> Result<String, AllocError> {
+        let (version, top, function) = (self.version, self.top, self.function);
+        let (machine, workers, listed) = (self.machine, self.workers, self.listed);
+        format!(in alloc;
+            "version = {version}\n{top}\n[functions.x]\n{function}\n[functions.y]\n[machines.{machine}]\nworkers = {workers}\nfunctions = [{listed}]\n[machines.b]\nworkers = 1\nfunctions = [\"x\", \"y\"]\n"
+        )
+    }
+
+    fn error(&self, alloc: Global) -> Option<SettingsError> {
+        match self.text(alloc) {
+            Ok(text) => error_of(alloc, text.as_bytes()),
+            Err(_) => Some(SettingsError::Memory),
+        }
+    }
+}
+
+fn error_of(alloc: Global, text: &[u8]) -> Option<SettingsError> {
+    match Settings::read(alloc, text) {
+        Ok(_) => None,
+        Err(error) => Some(error),
+    }
+}
+
+#[test]
+fn refusals_of_texts(rt: HostRuntime) {
+    let alloc = rt.alloc();
+    assert!(rt; error_of(alloc, b"version = ") == Some(SettingsError::Text));
+    assert!(rt; error_of(alloc, b"version = 1 # \xff\n") == Some(SettingsError::Text));
+    assert!(rt; error_of(alloc, b"") == Some(SettingsError::Version));
+    assert!(rt; error_of(alloc, b"version = 1\n") == Some(SettingsError::MissingKey));
+}
+
+/// S1 with its parts put differently, and the refusal of it.
+fn changed_files() -> [(File<'static>, Option<SettingsError>); 9] {
+    [
+        (S1, None),
+        (
+            File {
+                version: "1.0",
+                ..S1
+            },
+            Some(SettingsError::Version),
+        ),
+        (
+            File {
+                top: "speed = 3",
+                ..S1
+            },
+            Some(SettingsError::UnknownKey),
+        ),
+        (
+            File {
+                function: "most = 3",
+                workers: "-1",
+                ..S1
+            },
+            Some(SettingsError::UnknownKey),
+        ),
+        (
+            File {
+                machine: "\"a/b\"",
+                ..S1
+            },
+            Some(SettingsError::BadName),
+        ),
+        (
+            File {
+                workers: "-1",
+                ..S1
+            },
+            Some(SettingsError::BadValue),
+        ),
+        (
+            File {
+                listed: "\"z\"",
+                ..S1
+            },
+            Some(SettingsError::UnknownFunction),
+        ),
+        (
+            File {
+                workers: "4095",
+                ..S1
+            },
+            None,
+        ),
+        (
+            File {
+                workers: "4096",
+                ..S1
+            },
+            Some(SettingsError::TooMany),
+        ),
+    ]
+}
+
+#[test]
+fn refusals_of_parts(rt: HostRuntime) {
+    let alloc = rt.alloc();
+    for (file, error) in changed_files() {
+        assert!(rt; file.error(alloc) == error);
+    }
+}
+
+#[test]
+fn defaults(rt: HostRuntime) {
+    let alloc = rt.alloc();
+    let text = S1.text(alloc).expect(&rt, "memory");
+    let settings = Settings::read(alloc, text.as_bytes()).expect(&rt, "settings");
+    assert!(rt; settings.server() == "127.0.0.1:4730");
+    assert!(rt; (settings.job_timeout_ms(), settings.max_runs()) == (60_000, 4_294_967_295));
+    assert!(rt;
+        (settings.round_ms(), settings.lull_ms(), settings.history()) == (1_000, 100, 1_048_576)
+    );
+}
+
+/// The settings of `ALL`, copied.
+fn all_settings(alloc: Global) -> Result<Settings, SettingsError> {
+    let settings = Settings::read(alloc, ALL.as_bytes())?;
+    Ok(settings.copy(alloc)?)
+}
+
+#[test]
+fn single_keys(rt: HostRuntime) {
+    let settings = all_settings(rt.alloc()).expect(&rt, "settings");
+    assert!(rt; settings.server() == "jobs.example:7003");
+    assert!(rt; (settings.job_timeout_ms(), settings.max_runs()) == (5000, 2));
+    assert!(rt; (settings.round_ms(), settings.lull_ms(), settings.history()) == (10, 20, 5));
+    assert!(rt; (settings.functions(), settings.machines(), settings.slots()) == (2, 3, 5));
+}
+
+#[test]
+fn names_in_byte_order(rt: HostRuntime) {
+    let settings = all_settings(rt.alloc()).expect(&rt, "settings");
+    assert!(rt; settings.function_named(b"x") == Some(FuncId::new(0)));
+    assert!(rt; settings.function_named(b"y") == None);
+    assert!(rt; settings.function_name(FuncId::new(1)) == "z");
+    assert!(rt; settings.machine_named(b"c") == Some(MachineId::new(2)));
+    assert!(rt; settings.machine_name(MachineId::new(0)) == "a");
+}
+
+#[test]
+fn permissions(rt: HostRuntime) {
+    let settings = all_settings(rt.alloc()).expect(&rt, "settings");
+    assert!(rt; settings.functions() == 2);
+    assert!(rt; settings.machines() == 3);
+    assert!(rt; settings.least(FuncId::new(0)) == 3);
+    assert!(rt; !settings.may(MachineId::new(0), FuncId::new(0)));
+    assert!(rt; settings.may(MachineId::new(2), FuncId::new(0)));
+    assert!(rt; settings.permitted(MachineId::new(2)).len() == 2);
+}
+
+#[test]
+fn slots_by_name(rt: HostRuntime) {
+    let settings = all_settings(rt.alloc()).expect(&rt, "settings");
+    assert!(rt; settings.slot_named(b"a/2") == Some(SlotId::new(2)));
+    assert!(rt; settings.slot_named(b"c/0") == Some(SlotId::new(3)));
+    assert!(rt; settings.slot_named(b"c/00") == None);
+    assert!(rt; settings.slot_named(b"b/0") == None);
+    assert!(rt; settings.slot_named(b"c") == None);
+}
+
+#[test]
+fn slots_by_number(rt: HostRuntime) {
+    let settings = all_settings(rt.alloc()).expect(&rt, "settings");
+    assert!(rt; settings.slots() == 5);
+    assert!(rt; settings.machine_of(SlotId::new(4)) == MachineId::new(2));
+    assert!(rt; settings.worker_number(SlotId::new(4)) == 1);
+    assert!(rt; settings.machines() == 3);
+    assert!(rt; settings.first_slot(MachineId::new(2)) == 3);
+    assert!(rt; settings.workers(MachineId::new(2)) == 2);
+}
+
+#[test]
+fn planning_problems(rt: HostRuntime) {
+    let alloc = rt.alloc();
+    let settings = all_settings(alloc).expect(&rt, "settings");
+    assert!(rt; settings.functions() == 2);
+    let input = settings
+        .input(alloc, &[true, false, true, true], &[7, 8])
+        .expect(&rt, "memory");
+    assert!(rt; input.workers() == 3);
+    assert!(rt; input.live().last() == Some(&(SlotId::new(3), MachineId::new(2))));
+    assert!(rt; input.least().first() == Some(&3));
+    assert!(rt; input.waiting().last() == Some(&8));
+}
+
+/// The least file, and one behind a comment of 65,536 bytes, are taken where there is memory, and so are the settings' copy and the
+/// planning problem that nobody works on. A file of 16,777,216 bytes, the longest that the program reads, takes minutes in a build
+/// that checks each step, and is measured in `bench/`.
+#[test]
+fn least_and_great_files(rt: HostRuntime) {
+    let alloc = rt.alloc();
+    let least = b"version = 1\nfunctions = {}\nmachines = {}\n";
+    let settings = Settings::read(alloc, least).expect(&rt, "settings");
+    let copy = settings.copy(alloc).expect(&rt, "memory");
+    assert!(rt; (copy.functions(), copy.machines(), copy.slots()) == (0, 0, 0));
+    assert!(rt; copy.input(alloc, &[], &[]).is_ok());
+    let mut great = vec![in alloc; b'#'; 65_536].expect(&rt, "memory");
+    great.push(b'\n').expect(&rt, "memory");
+    great.extend_from_slice(least).expect(&rt, "memory");
+    assert!(rt; error_of(alloc, &great) == None);
+}
