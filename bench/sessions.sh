@@ -41,8 +41,7 @@ socket() {
 }
 printf '%-8s %8s %10s %12s %14s %10s\n' link body jobs 'jobs/s' 'bytes written' 'peak KiB'
 for body in 64 65536 16000000; do
-    count=$((jobs * 64 / body))
-    count=$((body == 64 ? jobs : count < 20 ? 20 : count))
+    count=$((body == 64 ? jobs : body == 65536 ? jobs / 50 : 20))
     memory "$count" "$body"
     socket "$count" "$body"
 done

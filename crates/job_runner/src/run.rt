@@ -59,7 +59,7 @@ pub fn serve_job<L: Sink, P: PoolPort, J: Jobs>(
     state: &mut State,
     handle: &Handle,
     function: &[u8],
-    payload: &[u8],
+    payload: Vec<u8>,
 ) -> Result<(), EndCause>
     requires link { (L.output link.old).failures < 2 ^ 64 - 1 }
     requires tally { (state.old.tally.grabbed + 1 < 2 ^ 64) × (state.old.tally.answered + 1 < 2 ^ 64) × (state.old.tally.reported + 1 < 2 ^ 64) }
@@ -67,7 +67,7 @@ pub fn serve_job<L: Sink, P: PoolPort, J: Jobs>(
     ensures acts { (duty : Duty) (before : Option (List ℕ)) (bytes : List ℕ) (done : List AssignedJob) (unique : List ℕ) →
         duty.told ≡ J.told worker.now.jobs.now → duty.functions ≡ worker.now.settings.now.functions → (L.output link.old).got ≡ and_then before bytes → Holds duty bytes done state.old (P.book port.old) →
         (more : List ℕ) × ((L.output link.new).got ≡ and_then before more)
-        × Acts duty more (done ++ record { handle = handle.now; function = function.now; unique = unique; payload = payload.now } ∷ []) state.new (P.book port.new) result }
+        × Acts duty more (done ++ record { handle = handle.now; function = function.now; unique = unique; payload = payload.items } ∷ []) state.new (P.book port.new) result }
     ensures input { L.input link.new ≡ L.input link.old }
     ensures reason { IfErr result (λ cause. PortReason worker.now.pass.now.generation cause (P.book port.new).last_answer) }
     ensures no_failure { OnOk result ((L.output link.new).failures ≡ (L.output link.old).failures) }

@@ -100,7 +100,7 @@ fn drain<L: Sink, P: PoolPort, J: Jobs>(
     ensures losses { (P.book port.new).losses ≡ (P.book port.old).losses }
 {
     while let Some(message) = reader.next() {
-        match act(worker, link, port, state, &message) {
+        match act(worker, link, port, state, message) {
             Ok(()) => {}
             Err(cause) => return Err(cause),
         }

@@ -1,10 +1,13 @@
-ghost use Rattle.std.specs.Prelude.{◌≡◌, ◌+◌, ◌-◌, ◌<◌, ◌≤◌, ◌^◌, ◌++◌, [], ◌∷◌, ℕ, List, length, IfErr, OnOk, Option};
+ghost use Rattle.std.specs.Prelude.{◌≡◌, ◌+◌, ◌-◌, ◌<◌, ◌≤◌, ◌^◌, ◌++◌, [], ◌∷◌, ℕ, List, length, IfErr, IfOk, OnOk, Option};
+ghost use Rattle.std.specs.Option.{option_map};
 ghost use Rattle.gear_packets.specs.Response.{AssignedJob};
 ghost use Rattle.gear_status.specs.Sides.{and_then};
 ghost use Rattle.job_runner.specs.Book.{Book};
+ghost use Rattle.job_runner.specs.Told.{told_of};
 ghost use Rattle.job_runner.specs.Course.{Duty, Wrote, Even, Ends, GoesOnOrEnds, PortReason};
 
 use crate::end::EndCause;
+use crate::job::Outcome;
 use crate::port::{GrabRefusal, PoolPort};
 use crate::reply::spell;
 use crate::table::Jobs;
@@ -12,6 +15,7 @@ use crate::worker::Worker;
 use gear_packets::Handle;
 use gear_status::{Sink, give_all};
 use pool_core::StayOrRetire;
+use std::alloc::AllocError;
 
 /// How many jobs a session took, answered and reported.
 #[derive(Clone, Copy, Debug, PartialEq, Eq)]
@@ -24,6 +28,17 @@ pub struct Tally {
     pub reported: u64,
 }
 
+/// Runs the job of a function. Its payload is given up before the answer is spelled, so that a great one is not held beside it.
+fn run_job<J: Jobs>(
+    worker: &Worker<'_, J>,
+    function: &[u8],
+    payload: Vec<u8>,
+) -> Result<Option<Outcome>, AllocError>
+    ensures { IfOk result (λ outcome. option_map told_of outcome ≡ J.told worker.now.jobs.now function.now payload.items) }
+{
+    worker.jobs.run(worker.alloc, function, &payload)
+}
+
 /// Answers an assignment: takes it at the port, runs its job, and writes what it tells once the port has let it.
 pub fn answer<L: Sink, P: PoolPort, J: Jobs>(
     worker: &Worker<'_, J>,
@@ -32,7 +47,7 @@ pub fn answer<L: Sink, P: PoolPort, J: Jobs>(
     tally: &mut Tally,
     handle: &Handle,
     function: &[u8],
-    payload: &[u8],
+    payload: Vec<u8>,
 ) -> Result<(), EndCause>
     requires link { (L.output link.old).failures < 2 ^ 64 - 1 }
     requires tally { (tally.old.grabbed + 1 < 2 ^ 64) × (tally.old.answered + 1 < 2 ^ 64) × (tally.old.reported + 1 < 2 ^ 64) }
@@ -40,8 +55,8 @@ pub fn answer<L: Sink, P: PoolPort, J: Jobs>(
     ensures answers { (duty : Duty) (before : Option (List ℕ)) (bytes : List ℕ) (registered : List (List ℕ)) (done : List AssignedJob) (unique : List ℕ) →
         duty.told ≡ J.told worker.now.jobs.now → (L.output link.old).got ≡ and_then before bytes → Wrote duty bytes registered done → Even tally.old (P.book port.old) (length done) →
         (more : List ℕ) × ((L.output link.new).got ≡ and_then before more)
-        × GoesOnOrEnds (Wrote duty more registered (done ++ record { handle = handle.now; function = function.now; unique = unique; payload = payload.now } ∷ []) × Even tally.new (P.book port.new) (length done + 1))
-        (Ends duty more (done ++ record { handle = handle.now; function = function.now; unique = unique; payload = payload.now } ∷ []) tally.new (P.book port.new)) result }
+        × GoesOnOrEnds (Wrote duty more registered (done ++ record { handle = handle.now; function = function.now; unique = unique; payload = payload.items } ∷ []) × Even tally.new (P.book port.new) (length done + 1))
+        (Ends duty more (done ++ record { handle = handle.now; function = function.now; unique = unique; payload = payload.items } ∷ []) tally.new (P.book port.new)) result }
     ensures reason { IfErr result (λ cause. PortReason worker.now.pass.now.generation cause (P.book port.new).last_answer) }
     ensures input { L.input link.new ≡ L.input link.old }
     ensures no_failure { OnOk result ((L.output link.new).failures ≡ (L.output link.old).failures) }
@@ -55,7 +70,7 @@ pub fn answer<L: Sink, P: PoolPort, J: Jobs>(
         Err(GrabRefusal::Memory) => return Err(EndCause::Memory),
     };
     tally.grabbed += 1;
-    let Ok(outcome) = worker.jobs.run(worker.alloc, function, payload) else {
+    let Ok(outcome) = run_job(worker, function, payload) else {
         return Err(EndCause::Memory);
     };
     let Ok(spelled) = spell(worker.alloc, handle, outcome) else {

@@ -46,7 +46,7 @@ pub fn act<L: Sink, P: PoolPort, J: Jobs>(
     link: &mut L,
     port: &mut P,
     state: &mut State,
-    message: &Response,
+    message: Response,
 ) -> Result<(), EndCause>
     requires link { (L.output link.old).failures < 2 ^ 64 - 1 }
     requires tally { (state.old.tally.grabbed + 1 < 2 ^ 64) × (state.old.tally.answered + 1 < 2 ^ 64) × (state.old.tally.reported + 1 < 2 ^ 64) }
@@ -54,9 +54,9 @@ pub fn act<L: Sink, P: PoolPort, J: Jobs>(
     ensures acts { (duty : Duty) (before : Option (List ℕ)) (bytes : List ℕ) (done : List AssignedJob) →
         duty.told ≡ J.told worker.now.jobs.now → duty.functions ≡ worker.now.settings.now.functions → (L.output link.old).got ≡ and_then before bytes → Holds duty bytes done state.old (P.book port.old) →
         (more : List ℕ) × ((L.output link.new).got ≡ and_then before more)
-        × Acts duty more (done ++ assignments_in (message_of message.now ∷ [])) state.new (P.book port.new) result }
+        × Acts duty more (done ++ assignments_in (message_of message ∷ [])) state.new (P.book port.new) result }
     ensures input { L.input link.new ≡ L.input link.old }
-    ensures reason { IfErr result (λ cause. StepReason worker.now.pass.now.generation (message_of message.now) state.old.tally state.new.tally (P.book port.new).last_answer cause) }
+    ensures reason { IfErr result (λ cause. StepReason worker.now.pass.now.generation (message_of message) state.old.tally state.new.tally (P.book port.new).last_answer cause) }
     ensures no_failure { OnOk result ((L.output link.new).failures ≡ (L.output link.old).failures) }
     ensures write_fault { result ≡ Err EndCause.WriteFault → (L.output link.new).failures ≡ (L.output link.old).failures + 1 }
     ensures losses { (P.book port.new).losses ≡ (P.book port.old).losses }
@@ -78,8 +78,7 @@ pub fn act<L: Sink, P: PoolPort, J: Jobs>(
         } => match state.phase {
             Phase::Waiting => {
                 let function = function.as_slice();
-                let payload = payload.as_slice();
-                serve_job(worker, link, port, state, handle, function, payload)
+                serve_job(worker, link, port, state, &handle, function, payload)
             }
             _ => Err(EndCause::BadPacket),
         },

@@ -10,7 +10,7 @@ returns-in-Err-clause-acts g c = λ duty before bytes done unique told fs at hol
 
 pub returns-clause-acts : goal.returns-clause-acts
 returns-clause-acts g c = λ duty before bytes done unique told fs at holds.
-    let a : AssignedJob = record { handle = c.args.handle.now; function = c.args.function.now; unique = unique; payload = c.args.payload.now } in
+    let a : AssignedJob = record { handle = c.args.handle.now; function = c.args.function.now; unique = unique; payload = c.args.payload.items } in
     let answered = c.in-Ok.ensures.answers duty before bytes (known duty.functions c.args.state.now.registered) done unique told at holds.wrote holds.even in
     let even = subst (λ (n : ℕ). Even c.answer.new.tally (g.P.PoolPort.book c.answer.new.port) n) (sym (length_push done a)) answered.2.1 in
     c.follow.ensures.acts duty before answered.0 (done ++ a ∷ []) fs answered.1 (record { wrote = answered.2.0; even = even; serving = holds.serving })

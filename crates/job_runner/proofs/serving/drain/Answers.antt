@@ -29,32 +29,6 @@ returns-in-Err-clause-reason g c = λ before read start.
     let st = c.loop-message.invariant.stands before read start in
     reason_next c.args.worker.now.pass.now.generation duty before read _ (message_of c.in-Some.message) _ _ c.loop-message.state c.act.new.state.tally _ _ c.in-Err.cause st c.in-Some.ensures.given c.in-Err.ensures.reason
 
-pub loop-message-preserved-in-Ok : goal.loop-message-preserved-in-Ok
-loop-message-preserved-in-Ok g c =
-    let duty = duty_of (g.J.Jobs.told c.args.worker.now.jobs.now) c.args.worker.now.settings.now c.args.worker.now.pass.now in
-    record {
-      stands = λ before read start.
-          let st = c.loop-message.invariant.stands before read start in
-          stands_next duty before read _ _ (message_of c.in-Some.message) _ _ c.loop-message.state c.act.new.state _ _ st c.in-Some.ensures.given
-          (c.in-Ok.ensures.acts duty before st.bytes (assignments_in st.given) refl refl st.at st.rests.holds);
-      input = c.act.ensures.input ∙ c.loop-message.invariant.input;
-      failures = c.in-Ok.ensures.no_failure ∙ c.loop-message.invariant.failures;
-      losses = c.act.ensures.losses ∙ c.loop-message.invariant.losses;
-    }
-
-pub loop-message-preserved-in-Ok-2 : goal.loop-message-preserved-in-Ok-2
-loop-message-preserved-in-Ok-2 g c =
-    let duty = duty_of (g.J.Jobs.told c.args.worker.now.jobs.now) c.args.worker.now.settings.now c.args.worker.now.pass.now in
-    record {
-      stands = λ before read start.
-          let st = c.loop-message.invariant.stands before read start in
-          stands_next duty before read _ _ (message_of c.in-Some.message) _ _ c.loop-message.state c.act.new.state _ _ st c.in-Some.ensures.given
-          (c.in-Ok.ensures.acts duty before st.bytes (assignments_in st.given) refl refl st.at st.rests.holds);
-      input = c.act.ensures.input ∙ c.loop-message.invariant.input;
-      failures = c.in-Ok.ensures.no_failure ∙ c.loop-message.invariant.failures;
-      losses = c.act.ensures.losses ∙ c.loop-message.invariant.losses;
-    }
-
 pub loop-message-preserved : goal.loop-message-preserved
 loop-message-preserved g c =
     let duty = duty_of (g.J.Jobs.told c.args.worker.now.jobs.now) c.args.worker.now.settings.now c.args.worker.now.pass.now in

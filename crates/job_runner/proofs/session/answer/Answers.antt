@@ -49,8 +49,8 @@ returns-in_default-begin_report-clause-answers g c = λ duty before bytes regist
 
 pub returns-in_default-give_all-clause-answers : goal.returns-in_default-give_all-clause-answers
 returns-in_default-give_all-clause-answers g c = λ duty before bytes registered done unique told at wrote even.
-    let a : AssignedJob = record { handle = c.args.handle.now; function = c.args.function.now; unique = unique; payload = c.args.payload.now } in
-    let reply_is = is_reply duty (g.J.Jobs.told c.args.worker.now.jobs.now) a (option_map told_of c.in-Ok-run.outcome) told c.in-Ok-run.ensures in
+    let a : AssignedJob = record { handle = c.args.handle.now; function = c.args.function.now; unique = unique; payload = c.args.payload.items } in
+    let reply_is = is_reply duty (g.J.Jobs.told c.args.worker.now.jobs.now) a (option_map told_of c.in-Ok-run_job.outcome) told c.in-Ok-run_job.ensures in
     leaves_cut duty before bytes _ _ c.as_slice.result.now c.in_default-give_all.field-0.count registered done a c.args.tally.now _ _ _ at wrote even
     (record { grabbed_is = refl; answered_is = omega arith; reported_is = omega arith })
     (begin_done _ _ _ c.begin_report.result c.in-Ok-begin_report.field-0 (grab_done _ _ c.grab.result c.in-Ok.ticket c.in-Ok.is c.grab.ensures) c.in-Ok-begin_report.is c.begin_report.ensures)
@@ -60,8 +60,8 @@ returns-in_default-give_all-clause-answers g c = λ duty before bytes registered
 
 pub returns-in-Ok-Stay-clause-answers : goal.returns-in-Ok-Stay-clause-answers
 returns-in-Ok-Stay-clause-answers g c = λ duty before bytes registered done unique told at wrote even.
-    let a : AssignedJob = record { handle = c.args.handle.now; function = c.args.function.now; unique = unique; payload = c.args.payload.now } in
-    let reply_is = is_reply duty (g.J.Jobs.told c.args.worker.now.jobs.now) a (option_map told_of c.in-Ok-run.outcome) told c.in-Ok-run.ensures in
+    let a : AssignedJob = record { handle = c.args.handle.now; function = c.args.function.now; unique = unique; payload = c.args.payload.items } in
+    let reply_is = is_reply duty (g.J.Jobs.told c.args.worker.now.jobs.now) a (option_map told_of c.in-Ok-run_job.outcome) told c.in-Ok-run_job.ensures in
     goes_on duty before bytes _ _ c.as_slice.result.now registered done a c.args.tally.now _ _ _ at wrote even
     (record { grabbed_is = refl; answered_is = refl; reported_is = refl })
     (report_done _ _ _ c.reported.result c.in-Ok-Stay.field-0 (begin_done _ _ _ c.begin_report.result c.in-Ok-begin_report.field-0 (grab_done _ _ c.grab.result c.in-Ok.ticket c.in-Ok.is c.grab.ensures) c.in-Ok-begin_report.is c.begin_report.ensures) c.in-Ok-Stay.is c.reported.ensures)
@@ -71,8 +71,8 @@ returns-in-Ok-Stay-clause-answers g c = λ duty before bytes registered done uni
 
 pub returns-in-Ok-Retire-clause-answers : goal.returns-in-Ok-Retire-clause-answers
 returns-in-Ok-Retire-clause-answers g c = λ duty before bytes registered done unique told at wrote even.
-    let a : AssignedJob = record { handle = c.args.handle.now; function = c.args.function.now; unique = unique; payload = c.args.payload.now } in
-    let reply_is = is_reply duty (g.J.Jobs.told c.args.worker.now.jobs.now) a (option_map told_of c.in-Ok-run.outcome) told c.in-Ok-run.ensures in
+    let a : AssignedJob = record { handle = c.args.handle.now; function = c.args.function.now; unique = unique; payload = c.args.payload.items } in
+    let reply_is = is_reply duty (g.J.Jobs.told c.args.worker.now.jobs.now) a (option_map told_of c.in-Ok-run_job.outcome) told c.in-Ok-run_job.ensures in
     leaves_written duty before bytes _ _ c.as_slice.result.now registered done a c.args.tally.now _ _ _ Retired 1 at wrote even
     (record { grabbed_is = refl; answered_is = refl; reported_is = refl })
     (report_done _ _ _ c.reported.result c.in-Ok-Retire.field-0 (begin_done _ _ _ c.begin_report.result c.in-Ok-begin_report.field-0 (grab_done _ _ c.grab.result c.in-Ok.ticket c.in-Ok.is c.grab.ensures) c.in-Ok-begin_report.is c.begin_report.ensures) c.in-Ok-Retire.is c.reported.ensures) (omega arith)
@@ -82,8 +82,8 @@ returns-in-Ok-Retire-clause-answers g c = λ duty before bytes registered done u
 
 pub returns-clause-answers : goal.returns-clause-answers
 returns-clause-answers g c = λ duty before bytes registered done unique told at wrote even.
-    let a : AssignedJob = record { handle = c.args.handle.now; function = c.args.function.now; unique = unique; payload = c.args.payload.now } in
-    let reply_is = is_reply duty (g.J.Jobs.told c.args.worker.now.jobs.now) a (option_map told_of c.in-Ok-run.outcome) told c.in-Ok-run.ensures in
+    let a : AssignedJob = record { handle = c.args.handle.now; function = c.args.function.now; unique = unique; payload = c.args.payload.items } in
+    let reply_is = is_reply duty (g.J.Jobs.told c.args.worker.now.jobs.now) a (option_map told_of c.in-Ok-run_job.outcome) told c.in-Ok-run_job.ensures in
     leaves_written duty before bytes _ _ c.as_slice.result.now registered done a c.args.tally.now _ _ _ Gone 0 at wrote even
     (record { grabbed_is = refl; answered_is = refl; reported_is = omega arith })
     (report_refused _ _ _ c.reported.result c.in-Err.field-0 (begin_done _ _ _ c.begin_report.result c.in-Ok-begin_report.field-0 (grab_done _ _ c.grab.result c.in-Ok.ticket c.in-Ok.is c.grab.ensures) c.in-Ok-begin_report.is c.begin_report.ensures) c.in-Err.is c.reported.ensures) (omega arith)

@@ -24,18 +24,26 @@ returns-in-Waiting-clause-acts g c = λ duty before bytes done told fs at holds.
 
 pub returns-in-Waiting-phase-clause-acts : goal.returns-in-Waiting-phase-clause-acts
 returns-in-Waiting-phase-clause-acts g c = λ duty before bytes done told fs at holds.
-    let job = λ (f p : List ℕ). let a : AssignedJob = record { handle = c.in-Assign.handle; function = f; unique = c.in-Assign.unique.items; payload = p } in done ++ a ∷ [] in
+    let job = λ (f : List ℕ). let a : AssignedJob = record { handle = c.in-Assign.handle; function = f; unique = c.in-Assign.unique.items; payload = c.in-Assign.payload.items } in done ++ a ∷ [] in
     subst (λ (d : List AssignedJob). (x : List ℕ) × ((g.L.Device.output c.serve_job.new.link).got ≡ and_then before x) × Acts duty x d c.serve_job.new.state (g.P.PoolPort.book c.serve_job.new.port) c.serve_job.result)
-    (ap (λ (f : List ℕ). job f c.as_slice-payload.result.now) c.as_slice-function.ensures.value ∙ ap (λ (p : List ℕ). job c.in-Assign.function.items p) c.as_slice-payload.ensures.value
+    (ap (λ (f : List ℕ). job f) c.as_slice-function.ensures.value
     ∙ ap (λ (m : Response). done ++ assignments_in (message_of m ∷ [])) (sym c.in-Assign.is))
     (c.serve_job.ensures.acts duty before bytes done c.in-Assign.unique.items told fs at holds)
 
-pub returns-in_default-phase-2 : goal.returns-in_default-phase-2
-returns-in_default-phase-2 g c = record {
+pub returns-in-Fault-clause-acts : goal.returns-in-Fault-clause-acts
+returns-in-Fault-clause-acts g c = λ duty before bytes done told fs at holds. (
+  bytes,
+  at,
+  ends_later duty bytes done (assignments_in (message_of c.args.message ∷ [])) (done ++ assignments_in (message_of c.args.message ∷ [])) c.args.state.now.tally (g.P.PoolPort.book c.args.port.now) ServerError
+      (ends_at_rest duty bytes (known duty.functions c.args.state.now.registered) done c.args.state.now.tally (g.P.PoolPort.book c.args.port.now) ServerError holds.wrote holds.even (λ e. cc)) refl,
+)
+
+pub returns-in-Assign : goal.returns-in-Assign
+returns-in-Assign g c = record {
   acts = λ duty before bytes done told fs at holds. (
     bytes,
     at,
-    ends_later duty bytes done (assignments_in (message_of c.args.message.now ∷ [])) (done ++ assignments_in (message_of c.args.message.now ∷ [])) c.args.state.now.tally (g.P.PoolPort.book c.args.port.now) BadPacket
+    ends_later duty bytes done (assignments_in (message_of c.args.message ∷ [])) (done ++ assignments_in (message_of c.args.message ∷ [])) c.args.state.now.tally (g.P.PoolPort.book c.args.port.now) BadPacket
         (ends_at_rest duty bytes (known duty.functions c.args.state.now.registered) done c.args.state.now.tally (g.P.PoolPort.book c.args.port.now) BadPacket holds.wrote holds.even (λ e. cc)) refl,
   );
   input = refl;
@@ -44,11 +52,3 @@ returns-in_default-phase-2 g c = record {
   write_fault = λ x. absurd cc;
   losses = refl;
 }
-
-pub returns-in-Fault-clause-acts : goal.returns-in-Fault-clause-acts
-returns-in-Fault-clause-acts g c = λ duty before bytes done told fs at holds. (
-  bytes,
-  at,
-  ends_later duty bytes done (assignments_in (message_of c.args.message.now ∷ [])) (done ++ assignments_in (message_of c.args.message.now ∷ [])) c.args.state.now.tally (g.P.PoolPort.book c.args.port.now) ServerError
-      (ends_at_rest duty bytes (known duty.functions c.args.state.now.registered) done c.args.state.now.tally (g.P.PoolPort.book c.args.port.now) ServerError holds.wrote holds.even (λ e. cc)) refl,
-)
