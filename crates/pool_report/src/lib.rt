@@ -38,6 +38,7 @@ mod lines;
 mod reader;
 mod report;
 mod stage;
+
 pub use error::{ReadError, WriteError};
 pub use law::{
     lines_are_spelled, lines_read_back, names_read_back, report_reads_back, texts_are_reports,

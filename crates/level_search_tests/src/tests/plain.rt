@@ -1,7 +1,7 @@
 //! Holds the search against a plain program that tries every plan.
 
-use level_search::solve;
 use bumpalo::Bump;
+use level_search::solve;
 use plan_model::{Answer, FuncId, Input, MachineId, Plan, SlotId};
 use std::alloc::{AllocError, Global};
 use std::test::Fail;

@@ -1,6 +1,6 @@
 use super::{input_of, line_of};
-use level_search::solve;
 use bumpalo::Bump;
+use level_search::solve;
 use std::alloc::{AllocError, Global};
 use std::test::Fail;
 

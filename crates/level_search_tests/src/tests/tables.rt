@@ -1,7 +1,7 @@
 use super::{input_of, plan_of};
-use level_search::solve;
 use augment::{Served, serve};
 use bumpalo::Bump;
+use level_search::solve;
 use plan_model::{FuncId, SlotId};
 use round_arena::{build, copy_plan, looks};
 use std::test::Fail;

@@ -3,9 +3,9 @@
 ghost use Rattle.std.specs.Prelude.{◌≡◌, IfOk};
 
 use super::one_worker::{LIMIT, REPORT, SETTINGS, STATUS};
-use plan_commands::{Exit, Fault, check_text, plan_text};
 use devices::{InputSource, OutputSink};
 use gear_status::{Script, SliceSource, StatusError, read_status_within};
+use plan_commands::{Exit, Fault, check_text, plan_text};
 use pool_report::ReadError;
 use pool_settings::SettingsError;
 use std::alloc::{AllocError, Global};

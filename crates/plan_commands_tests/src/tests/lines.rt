@@ -1,7 +1,7 @@
 //! What the program prints of a fault, and what it makes of its words.
 
-use plan_commands::Fault;
 use gear_status::StatusError;
+use plan_commands::Fault;
 use pool_report::ReadError;
 use pool_settings::SettingsError;
 use std::alloc::Global;

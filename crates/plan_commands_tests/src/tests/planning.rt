@@ -1,7 +1,7 @@
 //! Whole commands over texts in memory: worked examples, faults, and devices that fail.
 
-use plan_commands::{Exit, Fault, check_text, plan_text};
 use gear_status::{Script, SliceSource, StatusError};
+use plan_commands::{Exit, Fault, check_text, plan_text};
 use pool_report::ReadError;
 use pool_settings::SettingsError;
 use std::alloc::{AllocError, Global};

@@ -1,6 +1,6 @@
 //! A line of each form, and lines that are no commands, by hand.
-use pool_commands::{Command, command_in};
 use plan_model::SlotId;
+use pool_commands::{Command, command_in};
 use pool_settings::Settings;
 use refusal::Labelled;
 use std::alloc::{AllocError, Global};

@@ -1,11 +1,11 @@
 //! A course of calls on a pool.
 
-use pool_core::*;
 use bumpalo::Bump;
 use gear_packets::Handle;
 use gear_status::Load;
 use level_search::solve;
 use plan_model::{Certified, SlotId};
+use pool_core::*;
 use pool_settings::Settings;
 use refusal::Labelled;
 use std::alloc::Global;

@@ -1,11 +1,11 @@
 //! Calls that take memory, at their least and at their greatest.
 use super::*;
-use pool_core::Pool;
 use bumpalo::Bump;
 use gear_packets::Handle;
 use gear_status::Load;
 use level_search::solve;
 use plan_model::{Certified, SlotId};
+use pool_core::Pool;
 use pool_settings::Settings;
 use std::alloc::Global;
 use std::test::Fail;

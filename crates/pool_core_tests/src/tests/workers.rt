@@ -1,7 +1,7 @@
 //! Workers that retire, and generations.
 use super::*;
-use pool_core::{JoinError, Pool};
 use plan_model::SlotId;
+use pool_core::{JoinError, Pool};
 use pool_settings::Settings;
 use std::process::Abort;
 use std::test::Fail;

@@ -1,7 +1,7 @@
 //! The greatest report, and lines that are longer than any of a report.
 
-use pool_report::{ReadError, read, report_text};
 use plan_model::{Answer, check};
+use pool_report::{ReadError, read, report_text};
 use pool_settings::Settings;
 use std::alloc::{AllocError, Global};
 use std::fmt::Write;

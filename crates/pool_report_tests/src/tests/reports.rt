@@ -1,8 +1,8 @@
 ghost use Rattle.std.specs.Prelude.{◌≡◌, IfOk};
 
-use pool_report::{ReadError, WriteError, read, report_text, write};
 use gear_status::Script;
 use plan_model::{Answer, Input, Reason, check};
+use pool_report::{ReadError, WriteError, read, report_text, write};
 use pool_settings::Settings;
 use refusal::Labelled;
 use std::alloc::{AllocError, Global};

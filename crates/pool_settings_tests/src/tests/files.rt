@@ -1,7 +1,7 @@
 // Whole files: their refusals, and what the settings that they make say.
 
-use pool_settings::{Settings, SettingsError};
 use plan_model::{FuncId, MachineId, SlotId};
+use pool_settings::{Settings, SettingsError};
 use std::alloc::{AllocError, Global};
 
 /// Every key, with tables and lists out of order and a function that is listed twice.
