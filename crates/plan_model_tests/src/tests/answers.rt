@@ -1,6 +1,7 @@
 //! Problems with answers to them, and what is wrong with those.
 
-use plan_model::input::are_below;
+ghost use Rattle.std.specs.Prelude.{◌<◌, ◌↔◌, All, IsTrue};
+
 use plan_model::{
     Answer, Certified, FuncId, FuncSet, Input, InputError, MachineId, Plan, Reason, SlotId,
     TOP_LEVEL, check, count_neighbours, total_need,
@@ -83,6 +84,14 @@ fn problem(alloc: Global, example: Example) -> Result<Option<(Input, Answer)>, A
         short: if example.short.is_empty() { None } else { set },
     };
     Ok(Some((input, answer)))
+}
+
+/// Whether each function is one of so many.
+fn are_below(set: &[FuncId], functions: usize) -> bool
+    ensures { IsTrue result ↔ All (λ f. f < functions) set.now }
+{
+    set.iter()
+        .all(|function| (function.number() as usize) < functions)
 }
 
 /// What the set of an answer needs and has.
