@@ -2,6 +2,12 @@
 #![tactic(auto)]
 
 #[cfg(test)]
-mod bench;
+mod doubles;
 #[cfg(test)]
 mod runs;
+#[cfg(test)]
+mod scenario;
+#[cfg(test)]
+mod server;
+#[cfg(test)]
+mod tally;

@@ -1,0 +1,325 @@
+//! Whole runs over the server in memory. None depends on which thread runs when: where it matters, somebody waits.
+
+use crate::doubles::Pause;
+use crate::scenario::{Scenario, lines_of, totals_of};
+use crate::server::{ASSIGN, Part};
+use crate::tally::{Happening, Tally};
+use pool_supervisor::RunEnd;
+use std::alloc::Global;
+use std::process::Abort;
+use std::test::Fail;
+
+/// One worker for `reverse`.
+const ONE: &str =
+    "version = 1\nround_ms = 1\n[functions.reverse]\n[machines.a]\nworkers = 1\nfunctions = [\"reverse\"]\n";
+
+/// The same, whose chapters end when more than five of their ten events are used.
+const ONE_WITH_CHAPTERS: &str =
+    "version = 1\nround_ms = 1\nhistory = 10\n[functions.reverse]\n[machines.a]\nworkers = 1\nfunctions = [\"reverse\"]\n";
+
+/// Two workers for `reverse`.
+const TWO: &str =
+    "version = 1\nround_ms = 1\n[functions.reverse]\n[machines.a]\nworkers = 2\nfunctions = [\"reverse\"]\n";
+
+const ONE_WAITS: &[u8] = b"reverse\t1\t0\t0\n.\n";
+
+const TWO_WAIT: &[u8] = b"reverse\t2\t0\t0\n.\n";
+
+const THREE_WAIT: &[u8] = b"reverse\t3\t0\t0\n.\n";
+
+const NONE_WAITS: &[u8] = b"reverse\t0\t0\t1\n.\n";
+
+const ONE_JOB: &[&[u8]] = &[ASSIGN];
+
+const TWO_JOBS: &[&[u8]] = &[ASSIGN, ASSIGN];
+
+/// The data of [`ASSIGN`].
+const DATA: &[u8] = b"a\0c";
+
+/// The run made its attempts and came to this, and nobody waited in vain.
+fn expect(
+    rt: &impl Abort,
+    alloc: Global,
+    tally: &Tally,
+    ended: &RunEnd,
+    lines: &str,
+    totals: (u64, u64, u64, u64, u32, u32),
+) -> Result<(), Fail> {
+    assert!(rt; !tally.has_given_up(), "a wait was given up");
+    let told = lines_of(alloc, ended)?;
+    assert_eq!(rt; told.as_str(), lines);
+    assert_eq!(rt; totals_of(ended), totals);
+    assert_eq!(rt; (ended.grabbed, ended.reported), (totals.0, totals.2));
+    assert_eq!(rt; tally.count(Happening::Attempted), ended.lines.len() as u64);
+    Ok(())
+}
+
+const FIRST_ALONE: &[Part] = &[Part::new(b"a/0#1", ONE_JOB)];
+
+const ANSWERED: &[Pause] = &[Pause {
+    until: &[(Happening::Answered, 1)],
+    jump_ms: 0,
+}];
+
+/// One job, which is answered before the server tells its second status.
+#[test]
+fn one_job_in_two_rounds(rt: HostRuntime) -> Result<(), Fail> {
+    let tally = Tally::new();
+    let mut scenario = Scenario::new(ONE, 2, FIRST_ALONE, &[ONE_WAITS, NONE_WAITS]);
+    scenario.pauses = ANSWERED;
+    let ended = scenario.run(&rt, rt.alloc(), &tally)?;
+    let lines = "attempt 1 round 1 backlog 1\nattempt 2 round 2 backlog 0\n";
+    expect(&rt, rt.alloc(), &tally, &ended, lines, (1, 0, 1, 0, 2, 9))?;
+    assert_eq!(rt; ended.chapters, 0);
+    Ok(())
+}
+
+/// The same with one round more. Whether the chapter ends before the second or the third attempt is open, and with it how many events
+/// are left.
+#[test]
+fn a_chapter_in_three_rounds(rt: HostRuntime) -> Result<(), Fail> {
+    let tally = Tally::new();
+    let statuses = &[ONE_WAITS, NONE_WAITS, NONE_WAITS];
+    let mut scenario = Scenario::new(ONE_WITH_CHAPTERS, 3, FIRST_ALONE, statuses);
+    scenario.pauses = ANSWERED;
+    let ended = scenario.run(&rt, rt.alloc(), &tally)?;
+    let lines =
+        "attempt 1 round 1 backlog 1\nattempt 2 round 2 backlog 0\nattempt 3 round 3 backlog 0\n";
+    let events = ended.totals.events;
+    expect(&rt, rt.alloc(), &tally, &ended, lines, (1, 0, 1, 0, 3, events))?;
+    assert_eq!(rt; ended.chapters, 1);
+    Ok(())
+}
+
+const BOTH: &[Part] = &[
+    Part::new(b"a/0#1", ONE_JOB),
+    Part::new(b"a/1#1", ONE_JOB),
+];
+
+/// The first job waits until the second has begun, and is answered all the same where it does not.
+#[test]
+fn two_at_once(rt: HostRuntime) -> Result<(), Fail> {
+    let tally = Tally::new();
+    let mut scenario = Scenario::new(TWO, 1, BOTH, &[TWO_WAIT]);
+    scenario.job_waits = &[(DATA, Happening::Begun, 2)];
+    scenario.pauses = &[Pause {
+        until: &[(Happening::Answered, 2)],
+        jump_ms: 0,
+    }];
+    let ended = scenario.run(&rt, rt.alloc(), &tally)?;
+    let lines = "attempt 1 round 1 backlog 1\n";
+    expect(&rt, rt.alloc(), &tally, &ended, lines, (2, 0, 2, 0, 1, 12))
+}
+
+/// The first job waits until the planner is at work again, and the planner until the second job has begun.
+#[test]
+fn solve_lets_go(rt: HostRuntime) -> Result<(), Fail> {
+    let tally = Tally::new();
+    let parts = &[Part::new(b"a/0#1", TWO_JOBS)];
+    let mut scenario = Scenario::new(ONE, 2, parts, &[TWO_WAIT, ONE_WAITS]);
+    scenario.job_waits = &[(DATA, Happening::Planned, 2)];
+    scenario.plan_waits = &[(2, Happening::Begun, 2)];
+    let ended = scenario.run(&rt, rt.alloc(), &tally)?;
+    let lines = "attempt 1 round 1 backlog 2\nattempt 2 round 2 backlog 1\n";
+    expect(&rt, rt.alloc(), &tally, &ended, lines, (2, 0, 2, 0, 2, 12))
+}
+
+/// Two workers, which retire after one run. A chapter ends after 20 events.
+const RETIRE: &str =
+    "version = 1\nround_ms = 1\nmax_runs = 1\nhistory = 40\n[functions.reverse]\n[machines.a]\nworkers = 2\nfunctions = [\"reverse\"]\n";
+
+const FIVE: &[Part] = &[
+    Part::new(b"a/0#1", ONE_JOB),
+    Part::new(b"a/1#1", ONE_JOB),
+    Part::new(b"a/0#2", ONE_JOB),
+    Part::new(b"a/1#2", ONE_JOB),
+    Part::new(b"a/0#3", ONE_JOB),
+];
+
+/// Before each of the first three pauses ends so many workers have left.
+const RETIRED: &[Pause] = &[
+    Pause {
+        until: &[(Happening::Left, 2)],
+        jump_ms: 0,
+    },
+    Pause {
+        until: &[(Happening::Left, 4)],
+        jump_ms: 0,
+    },
+    Pause {
+        until: &[(Happening::Left, 5)],
+        jump_ms: 0,
+    },
+];
+
+/// Five jobs by workers that retire after one each, and a chapter that ends before the last attempt.
+#[test]
+fn workers_are_replaced(rt: HostRuntime) -> Result<(), Fail> {
+    let tally = Tally::new();
+    let statuses = &[TWO_WAIT, TWO_WAIT, TWO_WAIT, NONE_WAITS];
+    let mut scenario = Scenario::new(RETIRE, 4, FIVE, statuses);
+    scenario.pauses = RETIRED;
+    let ended = scenario.run(&rt, rt.alloc(), &tally)?;
+    let lines =
+        "attempt 1 round 1 backlog 1\nattempt 2 round 2 backlog 1\nattempt 3 round 3 backlog 1\nattempt 4 round 4 backlog 0\n";
+    expect(&rt, rt.alloc(), &tally, &ended, lines, (5, 0, 5, 0, 4, 5))?;
+    assert_eq!(rt; ended.chapters, 1);
+    Ok(())
+}
+
+/// Three workers, which retire after two runs.
+const THREE: &str =
+    "version = 1\nround_ms = 1\nmax_runs = 2\n[functions.reverse]\n[machines.a]\nworkers = 3\nfunctions = [\"reverse\"]\n";
+
+/// A job with the data `late`.
+const LATE_JOB: &[&[u8]] = &[b"\0RES\0\0\0\x1f\0\0\0\x15H:a:2\0reverse\0u2\0late"];
+
+/// The first worker dies in its job, the second is late with its own, and the third retires. Each is replaced.
+const FATES: &[Part] = &[
+    Part {
+        worker: b"a/0#1",
+        jobs: ONE_JOB,
+        breaks_at: Some(1),
+        closes_at: None,
+    },
+    Part::new(b"a/1#1", LATE_JOB),
+    Part::new(b"a/2#1", TWO_JOBS),
+    Part::new(b"a/0#2", ONE_JOB),
+    Part::new(b"a/2#2", ONE_JOB),
+    Part::new(b"a/1#2", TWO_JOBS),
+];
+
+/// The first two workers have left and the late job has begun; then an hour passes. Then the late one has left, and its neighbours have
+/// answered; and then the one behind it has retired.
+const HOUR: &[Pause] = &[
+    Pause {
+        until: &[(Happening::Left, 2), (Happening::Begun, 4)],
+        jump_ms: 3_600_000,
+    },
+    Pause {
+        until: &[(Happening::Left, 3), (Happening::Answered, 4)],
+        jump_ms: 0,
+    },
+    Pause {
+        until: &[(Happening::Left, 4)],
+        jump_ms: 0,
+    },
+];
+
+/// The backlog tells how many workers live: three jobs wait for them.
+#[test]
+fn workers_die_retire_and_are_late(rt: HostRuntime) -> Result<(), Fail> {
+    let tally = Tally::new();
+    let statuses = &[THREE_WAIT, THREE_WAIT, THREE_WAIT, THREE_WAIT];
+    let mut scenario = Scenario::new(THREE, 4, FATES, statuses);
+    scenario.pauses = HOUR;
+    scenario.job_waits = &[(b"late", Happening::Asked, 2)];
+    let ended = scenario.run(&rt, rt.alloc(), &tally)?;
+    let lines =
+        "attempt 1 round 1 backlog 1\nattempt 2 round 2 backlog 2\nattempt 3 round 3 backlog 1\nattempt 4 round 4 backlog 1\n";
+    expect(&rt, rt.alloc(), &tally, &ended, lines, (8, 0, 6, 2, 4, 41))?;
+    assert_eq!(rt; ended.chapters, 0);
+    Ok(())
+}
+
+/// Each of the first workers leaves while the planner is at work, one at each of its calls.
+const LEAVERS: &[Part] = &[
+    Part {
+        worker: b"a/0#1",
+        jobs: &[],
+        breaks_at: None,
+        closes_at: Some(1),
+    },
+    Part {
+        worker: b"a/1#1",
+        jobs: &[],
+        breaks_at: None,
+        closes_at: Some(2),
+    },
+    Part {
+        worker: b"a/2#1",
+        jobs: &[],
+        breaks_at: None,
+        closes_at: Some(3),
+    },
+];
+
+/// A plan for a pool that has changed meanwhile is not adopted, and is made anew, three times in all.
+#[test]
+fn stale_plans(rt: HostRuntime) -> Result<(), Fail> {
+    let tally = Tally::new();
+    let mut scenario = Scenario::new(THREE, 2, LEAVERS, &[NONE_WAITS, NONE_WAITS]);
+    scenario.plan_waits = &[
+        (1, Happening::Left, 1),
+        (2, Happening::Left, 2),
+        (3, Happening::Left, 3),
+    ];
+    let ended = scenario.run(&rt, rt.alloc(), &tally)?;
+    let lines = "attempt 1 refused 2 Stale\nattempt 2 round 1 backlog 0\n";
+    expect(&rt, rt.alloc(), &tally, &ended, lines, (0, 0, 0, 0, 1, 15))?;
+    assert_eq!(rt; tally.count(Happening::Planned), 4);
+    Ok(())
+}
+
+/// One worker, whose history has room for three events.
+const THREE_EVENTS: &str =
+    "version = 1\nround_ms = 1\nhistory = 3\n[functions.reverse]\n[machines.a]\nworkers = 1\nfunctions = [\"reverse\"]\n";
+
+/// The same with room for two.
+const TWO_EVENTS: &str =
+    "version = 1\nround_ms = 1\nhistory = 2\n[functions.reverse]\n[machines.a]\nworkers = 1\nfunctions = [\"reverse\"]\n";
+
+/// One worker for x and y.
+const EITHER: &str =
+    "version = 1\nround_ms = 1\n[functions.x]\n[functions.y]\n[machines.a]\nworkers = 1\nfunctions = [\"x\", \"y\"]\n";
+
+/// One worker where two are wanted.
+const TOO_FEW: &str =
+    "version = 1\nround_ms = 1\n[functions.x]\nleast = 2\n[machines.a]\nworkers = 1\nfunctions = [\"x\"]\n";
+
+/// Settings, how many dials fail, what the server tells, and what comes of it: the lines, rounds, events of the last chapter, and chapters.
+const ATTEMPTS: [(&str, u64, &[&[u8]], &str, u32, u32, u32); 4] = [
+    (
+        THREE_EVENTS,
+        2,
+        &[b"reverse\t1\n.\n", NONE_WAITS, NONE_WAITS],
+        "attempt 1 nolink\nattempt 2 status 1 BadLine line 1\nattempt 3 refused 3 HistoryFull\nattempt 4 round 1 backlog 0\n",
+        1,
+        3,
+        1,
+    ),
+    (
+        TWO_EVENTS,
+        0,
+        &[NONE_WAITS],
+        "attempt 1 refused 1 HistoryFull\n",
+        0,
+        2,
+        0,
+    ),
+    (
+        EITHER,
+        0,
+        &[b"x\t3\t0\t0\ny\t7\t0\t0\n.\n"],
+        "attempt 1 round 1 unserved 3\n",
+        1,
+        4,
+        0,
+    ),
+    (TOO_FEW, 0, &[b".\n"], "attempt 1 round 1 noplan\n", 1, 4, 0),
+];
+
+/// What an attempt can come to beside a backlog, with no job. A line is one attempt.
+#[test]
+fn lines_of_attempts(rt: HostRuntime) -> Result<(), Fail> {
+    for (settings, failing_dials, statuses, lines, rounds, events, chapters) in ATTEMPTS {
+        let tally = Tally::new();
+        let count = lines.lines().count() as u32;
+        let mut scenario = Scenario::new(settings, count, &[], statuses);
+        scenario.failing_dials = failing_dials;
+        let ended = scenario.run(&rt, rt.alloc(), &tally)?;
+        expect(&rt, rt.alloc(), &tally, &ended, lines, (0, 0, 0, 0, rounds, events))?;
+        assert_eq!(rt; ended.chapters, chapters, "{lines}");
+    }
+    Ok(())
+}

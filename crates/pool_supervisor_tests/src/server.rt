@@ -1,0 +1,273 @@
+//! A job server in memory, as far as the tests need one: its links, the jobs that it gives, and its status.
+ghost use Rattle.std.specs.Prelude.{◌≡◌};
+
+use crate::tally::{Happening, Tally};
+use gear_packets::{Request, decode};
+use gear_status::{Device, DeviceFault, Sink, Source, Took};
+use pool_supervisor::Dial;
+use std::alloc::{AllocError, Global};
+use std::sync::atomic::{AtomicU64, Ordering};
+use std::thread;
+use std::time::{Clock, Duration};
+
+/// A job `H:a:1` of `reverse` with the unique id `u1` and the data `61 00 63`.
+pub const ASSIGN: &[u8] = b"\0RES\0\0\0\x1f\0\0\0\x14H:a:1\0reverse\0u1\0a\0c";
+
+const NO_JOB: &[u8] = b"\0RES\0\0\0\x0a\0\0\0\0";
+
+/// After so many lulls a link ends, so that no test hangs.
+const PATIENCE: u32 = 10_000;
+
+/// What the server does with one worker.
+#[derive(Clone, Copy)]
+pub struct Part {
+    /// The worker's name, as it says it.
+    pub worker: &'static [u8],
+    /// The job that it is given at each request. Behind them there is none for it.
+    pub jobs: &'static [&'static [u8]],
+    /// The answer, counted from 1, that its link does not take, if any.
+    pub breaks_at: Option<u64>,
+    /// Its link ends once so many plans were asked for, if ever.
+    pub closes_at: Option<u64>,
+}
+
+impl Part {
+    /// A worker that is given these jobs, over a link that holds.
+    pub const fn new(worker: &'static [u8], jobs: &'static [&'static [u8]]) -> Part {
+        Part {
+            worker,
+            jobs,
+            breaks_at: None,
+            closes_at: None,
+        }
+    }
+}
+
+/// A job server, which makes links to itself. A worker that has no part is given no job.
+#[derive(Drop)]
+pub struct Server<'a, R> {
+    /// What links sleep by.
+    pub rt: &'a R,
+    /// Where memory comes from.
+    pub alloc: Global,
+    /// What happens is counted here.
+    pub tally: &'a Tally,
+    /// What it does with each worker.
+    pub parts: &'static [Part],
+    /// What it answers when it is asked for its status, the first time first. Behind them it tells of no function.
+    pub statuses: &'static [&'static [u8]],
+    /// So many dials fail before the first that does not.
+    pub failing_dials: AtomicU64,
+}
+
+/// Counts that the link of a worker was closed.
+struct Leaving<'a>(&'a Tally);
+
+impl Drop for Leaving<'_> {
+    fn drop(self) {
+        let _before = self.0.add(Happening::Left);
+        let Leaving(_) = self;
+    }
+}
+
+/// A link to the server.
+#[derive(Drop)]
+pub struct Link<'a, R> {
+    rt: &'a R,
+    tally: &'a Tally,
+    parts: &'static [Part],
+    statuses: &'static [&'static [u8]],
+    /// What is to be read, and how much of it was.
+    text: Vec<u8>,
+    at: usize,
+    /// What the server does with the worker that has said its name.
+    part: Option<Part>,
+    leaving: Option<Leaving<'a>>,
+    given: usize,
+    answered: u64,
+    lulls: u32,
+    failures: u64,
+    has_ended: bool,
+}
+
+impl<R> Device for Link<'_, R> {
+    ghost use Rattle.std.specs.Prelude.{None};
+
+    ghost input = { λ l. record { given = None; lulls = None; failures = 0; has_ended = l.has_ended } };
+
+    ghost output = { λ l. record { got = None; failures = l.failures } };
+}
+
+impl<'a, R> Link<'a, R> {
+    /// The worker says its name.
+    fn meet(&mut self, name: &[u8])
+        ensures { (self.new.has_ended ≡ self.old.has_ended) × (self.new.failures ≡ self.old.failures) }
+    {
+        self.leaving = Some(Leaving(self.tally));
+        for part in self.parts {
+            if part.worker == name {
+                self.part = Some(*part);
+            }
+        }
+    }
+
+    /// The worker asks for a job.
+    fn give_job(&mut self) -> Result<(), AllocError>
+        ensures { (self.new.has_ended ≡ self.old.has_ended) × (self.new.failures ≡ self.old.failures) }
+    {
+        let job = match self.part {
+            Some(part) => part.jobs.get(self.given).copied(),
+            None => None,
+        };
+        match job {
+            Some(job) => {
+                self.given = self.given.saturating_add(1);
+                self.text.extend_from_slice(job)
+            }
+            None => self.text.extend_from_slice(NO_JOB),
+        }
+    }
+
+    /// The worker has answered a job.
+    fn take_answer(&mut self)
+        ensures { (self.new.has_ended ≡ self.old.has_ended) × (self.new.failures ≡ self.old.failures) }
+    {
+        self.answered = self.answered.saturating_add(1);
+        let _before = self.tally.add(Happening::Answered);
+    }
+
+    /// What the server does at a request.
+    fn hear(&mut self, request: Request) -> Result<(), AllocError>
+        ensures { (self.new.has_ended ≡ self.old.has_ended) × (self.new.failures ≡ self.old.failures) }
+    {
+        match request {
+            Request::SetClientId(name) => {
+                self.meet(name);
+                Ok(())
+            }
+            Request::GrabJobUniq => self.give_job(),
+            Request::WorkComplete(_, _) | Request::WorkFail(_) => {
+                self.take_answer();
+                Ok(())
+            }
+            _ => Ok(()),
+        }
+    }
+
+    /// Whether the text is the answer that the link does not take.
+    fn is_broken_by(&self, text: &[u8]) -> bool {
+        let Some(part) = self.part else {
+            return false;
+        };
+        match decode(text) {
+            Some((Request::WorkComplete(_, _) | Request::WorkFail(_), _)) => {
+                part.breaks_at == Some(self.answered.saturating_add(1))
+            }
+            _ => false,
+        }
+    }
+
+    /// Hears the packets of a text.
+    fn hear_all(&mut self, text: &[u8]) -> Result<(), AllocError>
+        ensures { (self.new.has_ended ≡ self.old.has_ended) × (self.new.failures ≡ self.old.failures) }
+    {
+        let mut at = 0;
+        while at < text.len() {
+            let Some((request, length)) = decode(&text[at..]) else {
+                return Ok(());
+            };
+            self.hear(request)?;
+            at += length.max(1);
+        }
+        Ok(())
+    }
+
+    /// Tells the status whose turn it is.
+    fn tell_status(&mut self) -> Result<(), AllocError>
+        ensures { (self.new.has_ended ≡ self.old.has_ended) × (self.new.failures ≡ self.old.failures) }
+    {
+        let number = self.tally.add(Happening::Asked);
+        let text = match self.statuses.get(number as usize) {
+            Some(text) => *text,
+            None => b".\n",
+        };
+        self.text.extend_from_slice(text)
+    }
+
+    /// Whether there is nothing more to come.
+    fn is_over(&self) -> bool {
+        let closes = match self.part {
+            Some(part) => part.closes_at,
+            None => None,
+        };
+        match closes {
+            Some(plans) if self.tally.count(Happening::Planned) >= plans => true,
+            _ => self.lulls >= PATIENCE,
+        }
+    }
+}
+
+impl<R: Clock> Source for Link<'_, R> {
+    fn take(&mut self, buffer: &mut [u8]) -> Result<Took, DeviceFault> {
+        self.has_ended = false;
+        if self.at < self.text.len() {
+            let count = buffer.len().min(self.text.len() - self.at);
+            buffer[..count].copy_from_slice(&self.text[self.at..self.at + count]);
+            self.at += count;
+            return Ok(Took::Bytes(count));
+        }
+        if self.is_over() {
+            self.has_ended = true;
+            return Ok(Took::Ended);
+        }
+        self.lulls = self.lulls.saturating_add(1);
+        thread::sleep(self.rt, Duration::from_millis(1));
+        Ok(Took::Lull)
+    }
+}
+
+impl<R> Sink for Link<'_, R> {
+    fn give(&mut self, bytes: &[u8]) -> Result<usize, DeviceFault> {
+        if self.is_broken_by(bytes) {
+            self.failures += 1;
+            return Err(DeviceFault);
+        }
+        let heard = if bytes == b"status\n" {
+            self.tell_status()
+        } else {
+            self.hear_all(bytes)
+        };
+        match heard {
+            Ok(()) => Ok(bytes.len()),
+            Err(_) => {
+                self.failures += 1;
+                Err(DeviceFault)
+            }
+        }
+    }
+}
+
+impl<'a, R: Clock> Dial<Link<'a, R>> for Server<'a, R> {
+    fn dial(&self) -> Option<Link<'a, R>> {
+        let failing = self.failing_dials.load(Ordering::SeqCst);
+        if failing > 0 {
+            self.failing_dials.store(failing - 1, Ordering::SeqCst);
+            return None;
+        }
+        Some(Link {
+            rt: self.rt,
+            tally: self.tally,
+            parts: self.parts,
+            statuses: self.statuses,
+            text: Vec::new(self.alloc),
+            at: 0,
+            part: None,
+            leaving: None,
+            given: 0,
+            answered: 0,
+            lulls: 0,
+            failures: 0,
+            has_ended: false,
+        })
+    }
+}
