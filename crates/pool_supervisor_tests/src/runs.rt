@@ -2,7 +2,7 @@
 
 use crate::doubles::Pause;
 use crate::scenario::{Scenario, lines_of, totals_of};
-use crate::server::{ASSIGN, Part};
+use crate::server::{ASSIGN, Fate, Part};
 use crate::tally::{Happening, Tally};
 use pool_supervisor::RunEnd;
 use std::alloc::Global;
@@ -54,7 +54,14 @@ fn expect(
     Ok(())
 }
 
-const FIRST_ALONE: &[Part] = &[Part::new(b"a/0#1", ONE_JOB)];
+const FIRST_ALONE: &[Part] = &[Part {
+        worker: b"a/0#1",
+        jobs: ONE_JOB,
+        fate: Fate::Holds,
+    }];
+
+/// One job waits at first, and then none.
+const ONE_THEN_NONE: &[&[u8]] = &[ONE_WAITS, NONE_WAITS, NONE_WAITS];
 
 const ANSWERED: &[Pause] = &[Pause {
     until: &[(Happening::Answered, 1)],
@@ -65,7 +72,7 @@ const ANSWERED: &[Pause] = &[Pause {
 #[test]
 fn one_job_in_two_rounds(rt: HostRuntime) -> Result<(), Fail> {
     let tally = Tally::new();
-    let mut scenario = Scenario::new(ONE, 2, FIRST_ALONE, &[ONE_WAITS, NONE_WAITS]);
+    let mut scenario = Scenario::new(ONE, 2, FIRST_ALONE, ONE_THEN_NONE);
     scenario.pauses = ANSWERED;
     let ended = scenario.run(&rt, rt.alloc(), &tally)?;
     let lines = "attempt 1 round 1 backlog 1\nattempt 2 round 2 backlog 0\n";
@@ -79,8 +86,7 @@ fn one_job_in_two_rounds(rt: HostRuntime) -> Result<(), Fail> {
 #[test]
 fn a_chapter_in_three_rounds(rt: HostRuntime) -> Result<(), Fail> {
     let tally = Tally::new();
-    let statuses = &[ONE_WAITS, NONE_WAITS, NONE_WAITS];
-    let mut scenario = Scenario::new(ONE_WITH_CHAPTERS, 3, FIRST_ALONE, statuses);
+    let mut scenario = Scenario::new(ONE_WITH_CHAPTERS, 3, FIRST_ALONE, ONE_THEN_NONE);
     scenario.pauses = ANSWERED;
     let ended = scenario.run(&rt, rt.alloc(), &tally)?;
     let lines =
@@ -92,33 +98,60 @@ fn a_chapter_in_three_rounds(rt: HostRuntime) -> Result<(), Fail> {
 }
 
 const BOTH: &[Part] = &[
-    Part::new(b"a/0#1", ONE_JOB),
-    Part::new(b"a/1#1", ONE_JOB),
+    Part {
+        worker: b"a/0#1",
+        jobs: ONE_JOB,
+        fate: Fate::Holds,
+    },
+    Part {
+        worker: b"a/1#1",
+        jobs: ONE_JOB,
+        fate: Fate::Holds,
+    },
 ];
+
+/// The status and the pause of the next test, and what its jobs wait for.
+const TWO_AT_FIRST: &[&[u8]] = &[TWO_WAIT];
+
+const BOTH_ANSWERED: &[Pause] = &[Pause {
+    until: &[(Happening::Answered, 2)],
+    jump_ms: 0,
+}];
+
+const UNTIL_BOTH_BEGAN: &[(&[u8], Happening, u64)] = &[(DATA, Happening::Begun, 2)];
 
 /// The first job waits until the second has begun, and is answered all the same where it does not.
 #[test]
 fn two_at_once(rt: HostRuntime) -> Result<(), Fail> {
     let tally = Tally::new();
-    let mut scenario = Scenario::new(TWO, 1, BOTH, &[TWO_WAIT]);
-    scenario.job_waits = &[(DATA, Happening::Begun, 2)];
-    scenario.pauses = &[Pause {
-        until: &[(Happening::Answered, 2)],
-        jump_ms: 0,
-    }];
+    let mut scenario = Scenario::new(TWO, 1, BOTH, TWO_AT_FIRST);
+    scenario.job_waits = UNTIL_BOTH_BEGAN;
+    scenario.pauses = BOTH_ANSWERED;
     let ended = scenario.run(&rt, rt.alloc(), &tally)?;
     let lines = "attempt 1 round 1 backlog 1\n";
     expect(&rt, rt.alloc(), &tally, &ended, lines, (2, 0, 2, 0, 1, 12))
 }
 
+/// One worker with two jobs, and what they and the second plan wait for.
+const TWICE: &[Part] = &[Part {
+    worker: b"a/0#1",
+    jobs: TWO_JOBS,
+    fate: Fate::Holds,
+}];
+
+const TWO_THEN_ONE: &[&[u8]] = &[TWO_WAIT, ONE_WAITS];
+
+const UNTIL_PLANNED_AGAIN: &[(&[u8], Happening, u64)] = &[(DATA, Happening::Planned, 2)];
+
+const UNTIL_BEGUN_AGAIN: &[(u64, Happening, u64)] = &[(2, Happening::Begun, 2)];
+
 /// The first job waits until the planner is at work again, and the planner until the second job has begun.
 #[test]
 fn solve_lets_go(rt: HostRuntime) -> Result<(), Fail> {
     let tally = Tally::new();
-    let parts = &[Part::new(b"a/0#1", TWO_JOBS)];
-    let mut scenario = Scenario::new(ONE, 2, parts, &[TWO_WAIT, ONE_WAITS]);
-    scenario.job_waits = &[(DATA, Happening::Planned, 2)];
-    scenario.plan_waits = &[(2, Happening::Begun, 2)];
+    let mut scenario = Scenario::new(ONE, 2, TWICE, TWO_THEN_ONE);
+    scenario.job_waits = UNTIL_PLANNED_AGAIN;
+    scenario.plan_waits = UNTIL_BEGUN_AGAIN;
     let ended = scenario.run(&rt, rt.alloc(), &tally)?;
     let lines = "attempt 1 round 1 backlog 2\nattempt 2 round 2 backlog 1\n";
     expect(&rt, rt.alloc(), &tally, &ended, lines, (2, 0, 2, 0, 2, 12))
@@ -129,11 +162,31 @@ const RETIRE: &str =
     "version = 1\nround_ms = 1\nmax_runs = 1\nhistory = 40\n[functions.reverse]\n[machines.a]\nworkers = 2\nfunctions = [\"reverse\"]\n";
 
 const FIVE: &[Part] = &[
-    Part::new(b"a/0#1", ONE_JOB),
-    Part::new(b"a/1#1", ONE_JOB),
-    Part::new(b"a/0#2", ONE_JOB),
-    Part::new(b"a/1#2", ONE_JOB),
-    Part::new(b"a/0#3", ONE_JOB),
+    Part {
+        worker: b"a/0#1",
+        jobs: ONE_JOB,
+        fate: Fate::Holds,
+    },
+    Part {
+        worker: b"a/1#1",
+        jobs: ONE_JOB,
+        fate: Fate::Holds,
+    },
+    Part {
+        worker: b"a/0#2",
+        jobs: ONE_JOB,
+        fate: Fate::Holds,
+    },
+    Part {
+        worker: b"a/1#2",
+        jobs: ONE_JOB,
+        fate: Fate::Holds,
+    },
+    Part {
+        worker: b"a/0#3",
+        jobs: ONE_JOB,
+        fate: Fate::Holds,
+    },
 ];
 
 /// Before each of the first three pauses ends so many workers have left.
@@ -152,12 +205,13 @@ const RETIRED: &[Pause] = &[
     },
 ];
 
+const TWO_THREE_TIMES: &[&[u8]] = &[TWO_WAIT, TWO_WAIT, TWO_WAIT, NONE_WAITS];
+
 /// Five jobs by workers that retire after one each, and a chapter that ends before the last attempt.
 #[test]
 fn workers_are_replaced(rt: HostRuntime) -> Result<(), Fail> {
     let tally = Tally::new();
-    let statuses = &[TWO_WAIT, TWO_WAIT, TWO_WAIT, NONE_WAITS];
-    let mut scenario = Scenario::new(RETIRE, 4, FIVE, statuses);
+    let mut scenario = Scenario::new(RETIRE, 4, FIVE, TWO_THREE_TIMES);
     scenario.pauses = RETIRED;
     let ended = scenario.run(&rt, rt.alloc(), &tally)?;
     let lines =
@@ -179,14 +233,33 @@ const FATES: &[Part] = &[
     Part {
         worker: b"a/0#1",
         jobs: ONE_JOB,
-        breaks_at: Some(1),
-        closes_at: None,
+        fate: Fate::BreaksAt(1),
     },
-    Part::new(b"a/1#1", LATE_JOB),
-    Part::new(b"a/2#1", TWO_JOBS),
-    Part::new(b"a/0#2", ONE_JOB),
-    Part::new(b"a/2#2", ONE_JOB),
-    Part::new(b"a/1#2", TWO_JOBS),
+    Part {
+        worker: b"a/1#1",
+        jobs: LATE_JOB,
+        fate: Fate::Holds,
+    },
+    Part {
+        worker: b"a/2#1",
+        jobs: TWO_JOBS,
+        fate: Fate::Holds,
+    },
+    Part {
+        worker: b"a/0#2",
+        jobs: ONE_JOB,
+        fate: Fate::Holds,
+    },
+    Part {
+        worker: b"a/2#2",
+        jobs: ONE_JOB,
+        fate: Fate::Holds,
+    },
+    Part {
+        worker: b"a/1#2",
+        jobs: TWO_JOBS,
+        fate: Fate::Holds,
+    },
 ];
 
 /// The first two workers have left and the late job has begun; then an hour passes. Then the late one has left, and its neighbours have
@@ -206,14 +279,18 @@ const HOUR: &[Pause] = &[
     },
 ];
 
+const THREE_ALWAYS: &[&[u8]] = &[THREE_WAIT, THREE_WAIT, THREE_WAIT, THREE_WAIT];
+
+/// The late job goes on once the server is asked for its status again: the attempt has looked for late workers then.
+const UNTIL_LATE: &[(&[u8], Happening, u64)] = &[(b"late", Happening::Asked, 2)];
+
 /// The backlog tells how many workers live: three jobs wait for them.
 #[test]
 fn workers_die_retire_and_are_late(rt: HostRuntime) -> Result<(), Fail> {
     let tally = Tally::new();
-    let statuses = &[THREE_WAIT, THREE_WAIT, THREE_WAIT, THREE_WAIT];
-    let mut scenario = Scenario::new(THREE, 4, FATES, statuses);
+    let mut scenario = Scenario::new(THREE, 4, FATES, THREE_ALWAYS);
     scenario.pauses = HOUR;
-    scenario.job_waits = &[(b"late", Happening::Asked, 2)];
+    scenario.job_waits = UNTIL_LATE;
     let ended = scenario.run(&rt, rt.alloc(), &tally)?;
     let lines =
         "attempt 1 round 1 backlog 1\nattempt 2 round 2 backlog 2\nattempt 3 round 3 backlog 1\nattempt 4 round 4 backlog 1\n";
@@ -227,33 +304,34 @@ const LEAVERS: &[Part] = &[
     Part {
         worker: b"a/0#1",
         jobs: &[],
-        breaks_at: None,
-        closes_at: Some(1),
+        fate: Fate::EndsAt(1),
     },
     Part {
         worker: b"a/1#1",
         jobs: &[],
-        breaks_at: None,
-        closes_at: Some(2),
+        fate: Fate::EndsAt(2),
     },
     Part {
         worker: b"a/2#1",
         jobs: &[],
-        breaks_at: None,
-        closes_at: Some(3),
+        fate: Fate::EndsAt(3),
     },
+];
+
+const NONE_TWICE: &[&[u8]] = &[NONE_WAITS, NONE_WAITS];
+
+const UNTIL_ONE_LEFT: &[(u64, Happening, u64)] = &[
+    (1, Happening::Left, 1),
+    (2, Happening::Left, 2),
+    (3, Happening::Left, 3),
 ];
 
 /// A plan for a pool that has changed meanwhile is not adopted, and is made anew, three times in all.
 #[test]
 fn stale_plans(rt: HostRuntime) -> Result<(), Fail> {
     let tally = Tally::new();
-    let mut scenario = Scenario::new(THREE, 2, LEAVERS, &[NONE_WAITS, NONE_WAITS]);
-    scenario.plan_waits = &[
-        (1, Happening::Left, 1),
-        (2, Happening::Left, 2),
-        (3, Happening::Left, 3),
-    ];
+    let mut scenario = Scenario::new(THREE, 2, LEAVERS, NONE_TWICE);
+    scenario.plan_waits = UNTIL_ONE_LEFT;
     let ended = scenario.run(&rt, rt.alloc(), &tally)?;
     let lines = "attempt 1 refused 2 Stale\nattempt 2 round 1 backlog 0\n";
     expect(&rt, rt.alloc(), &tally, &ended, lines, (0, 0, 0, 0, 1, 15))?;

@@ -18,6 +18,17 @@ const NO_JOB: &[u8] = b"\0RES\0\0\0\x0a\0\0\0\0";
 /// After so many lulls a link ends, so that no test hangs.
 const PATIENCE: u32 = 10_000;
 
+/// What becomes of the link of a worker.
+#[derive(Clone, Copy)]
+pub enum Fate {
+    /// It holds.
+    Holds,
+    /// It does not take the answer of this number, counted from 1.
+    BreaksAt(u64),
+    /// It ends once so many plans were asked for.
+    EndsAt(u64),
+}
+
 /// What the server does with one worker.
 #[derive(Clone, Copy)]
 pub struct Part {
@@ -25,22 +36,8 @@ pub struct Part {
     pub worker: &'static [u8],
     /// The job that it is given at each request. Behind them there is none for it.
     pub jobs: &'static [&'static [u8]],
-    /// The answer, counted from 1, that its link does not take, if any.
-    pub breaks_at: Option<u64>,
-    /// Its link ends once so many plans were asked for, if ever.
-    pub closes_at: Option<u64>,
-}
-
-impl Part {
-    /// A worker that is given these jobs, over a link that holds.
-    pub const fn new(worker: &'static [u8], jobs: &'static [&'static [u8]]) -> Part {
-        Part {
-            worker,
-            jobs,
-            breaks_at: None,
-            closes_at: None,
-        }
-    }
+    /// What becomes of its link.
+    pub fate: Fate,
 }
 
 /// A job server, which makes links to itself. A worker that has no part is given no job.
@@ -99,16 +96,22 @@ impl<R> Device for Link<'_, R> {
 }
 
 impl<'a, R> Link<'a, R> {
+    /// What the server does with a worker of this name, if anything.
+    fn part_of(&self, name: &[u8]) -> Option<Part> {
+        for part in self.parts {
+            if part.worker == name {
+                return Some(*part);
+            }
+        }
+        None
+    }
+
     /// The worker says its name.
     fn meet(&mut self, name: &[u8])
         ensures { (self.new.has_ended ≡ self.old.has_ended) × (self.new.failures ≡ self.old.failures) }
     {
         self.leaving = Some(Leaving(self.tally));
-        for part in self.parts {
-            if part.worker == name {
-                self.part = Some(*part);
-            }
-        }
+        self.part = self.part_of(name);
     }
 
     /// The worker asks for a job.
@@ -154,14 +157,22 @@ impl<'a, R> Link<'a, R> {
         }
     }
 
+    /// What becomes of the link.
+    fn fate(&self) -> Fate {
+        match self.part {
+            Some(part) => part.fate,
+            None => Fate::Holds,
+        }
+    }
+
     /// Whether the text is the answer that the link does not take.
     fn is_broken_by(&self, text: &[u8]) -> bool {
-        let Some(part) = self.part else {
+        let Fate::BreaksAt(number) = self.fate() else {
             return false;
         };
         match decode(text) {
             Some((Request::WorkComplete(_, _) | Request::WorkFail(_), _)) => {
-                part.breaks_at == Some(self.answered.saturating_add(1))
+                number == self.answered.saturating_add(1)
             }
             _ => false,
         }
@@ -196,12 +207,8 @@ impl<'a, R> Link<'a, R> {
 
     /// Whether there is nothing more to come.
     fn is_over(&self) -> bool {
-        let closes = match self.part {
-            Some(part) => part.closes_at,
-            None => None,
-        };
-        match closes {
-            Some(plans) if self.tally.count(Happening::Planned) >= plans => true,
+        match self.fate() {
+            Fate::EndsAt(plans) if self.tally.count(Happening::Planned) >= plans => true,
             _ => self.lulls >= PATIENCE,
         }
     }
@@ -232,7 +239,7 @@ impl<R> Sink for Link<'_, R> {
             self.failures += 1;
             return Err(DeviceFault);
         }
-        let heard = if bytes == b"status\n" {
+        let heard = if bytes == b"status\n".as_slice() {
             self.tell_status()
         } else {
             self.hear_all(bytes)
