@@ -49,9 +49,7 @@ impl<R: Clock> Watch for Stage<'_, R> {
     fn pause(&self, _milliseconds: u32) {
         let number = self.paused.fetch_add(1, Ordering::SeqCst);
         if let Some(pause) = self.pauses.get(number as usize) {
-            for (what, count) in pause.until {
-                self.tally.wait_for(self.rt, *what, *count);
-            }
+            self.tally.wait_for_all(self.rt, pause.until);
             let _before = self.now_ms.fetch_add(pause.jump_ms, Ordering::SeqCst);
         }
     }

@@ -92,4 +92,11 @@ impl Tally {
         }
         let _before = self.given_up.fetch_add(1, Ordering::SeqCst);
     }
+
+    /// Waits until each of these has happened so often.
+    pub fn wait_for_all<R: Clock>(&self, rt: &R, until: &[(Happening, u64)]) {
+        for (what, count) in until {
+            self.wait_for(rt, *what, *count);
+        }
+    }
 }
