@@ -8,6 +8,9 @@ use std::alloc::{AllocError, Global};
 use std::sync::atomic::{AtomicU64, Ordering};
 use std::time::Clock;
 
+/// The `round_ms` of the tests' settings.
+const ROUND_MS: u32 = 7;
+
 /// A pause between two attempts: what has to happen before it ends, each with how often, and by how much the clock goes on then.
 #[derive(Clone, Copy)]
 pub struct Pause {
@@ -24,7 +27,6 @@ pub struct Stage<'a, R> {
     rt: &'a R,
     tally: &'a Tally,
     pauses: &'static [Pause],
-    paused: AtomicU64,
     now_ms: AtomicU64,
 }
 
@@ -35,7 +37,6 @@ impl<'a, R> Stage<'a, R> {
             rt,
             tally,
             pauses,
-            paused: AtomicU64::new(0),
             now_ms: AtomicU64::new(43_200_000),
         }
     }
@@ -46,8 +47,11 @@ impl<R: Clock> Watch for Stage<'_, R> {
         Some(self.now_ms.load(Ordering::SeqCst))
     }
 
-    fn pause(&self, _milliseconds: u32) {
-        let number = self.paused.fetch_add(1, Ordering::SeqCst);
+    fn pause(&self, milliseconds: u32) {
+        if milliseconds != ROUND_MS {
+            return;
+        }
+        let number = self.tally.add(Happening::Paused);
         if let Some(pause) = self.pauses.get(number as usize) {
             self.tally.wait_for_all(self.rt, pause.until);
             let _before = self.now_ms.fetch_add(pause.jump_ms, Ordering::SeqCst);

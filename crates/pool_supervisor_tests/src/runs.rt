@@ -11,15 +11,15 @@ use std::test::Fail;
 
 /// One worker for `reverse`.
 const ONE: &str =
-    "version = 1\nround_ms = 1\n[functions.reverse]\n[machines.a]\nworkers = 1\nfunctions = [\"reverse\"]\n";
+    "version = 1\nround_ms = 7\n[functions.reverse]\n[machines.a]\nworkers = 1\nfunctions = [\"reverse\"]\n";
 
 /// The same, whose chapters end when more than five of their ten events are used.
 const ONE_WITH_CHAPTERS: &str =
-    "version = 1\nround_ms = 1\nhistory = 10\n[functions.reverse]\n[machines.a]\nworkers = 1\nfunctions = [\"reverse\"]\n";
+    "version = 1\nround_ms = 7\nhistory = 10\n[functions.reverse]\n[machines.a]\nworkers = 1\nfunctions = [\"reverse\"]\n";
 
 /// Two workers for `reverse`.
 const TWO: &str =
-    "version = 1\nround_ms = 1\n[functions.reverse]\n[machines.a]\nworkers = 2\nfunctions = [\"reverse\"]\n";
+    "version = 1\nround_ms = 7\n[functions.reverse]\n[machines.a]\nworkers = 2\nfunctions = [\"reverse\"]\n";
 
 const ONE_WAITS: &[u8] = b"reverse\t1\t0\t0\n.\n";
 
@@ -51,11 +51,13 @@ fn expect(
     assert_eq!(rt; totals_of(ended), totals);
     assert_eq!(rt; (ended.grabbed, ended.reported), (totals.0, totals.2));
     assert_eq!(rt; tally.count(Happening::Attempted), ended.lines.len() as u64);
+    assert_eq!(rt; tally.count(Happening::Paused), ended.lines.len() as u64);
     Ok(())
 }
 
 const FIRST_ALONE: &[Part] = &[Part {
         worker: b"a/0#1",
+        function: b"reverse",
         jobs: ONE_JOB,
         fate: Fate::Holds,
     }];
@@ -100,11 +102,13 @@ fn a_chapter_in_three_rounds(rt: HostRuntime) -> Result<(), Fail> {
 const BOTH: &[Part] = &[
     Part {
         worker: b"a/0#1",
+        function: b"reverse",
         jobs: ONE_JOB,
         fate: Fate::Holds,
     },
     Part {
         worker: b"a/1#1",
+        function: b"reverse",
         jobs: ONE_JOB,
         fate: Fate::Holds,
     },
@@ -135,6 +139,7 @@ fn two_at_once(rt: HostRuntime) -> Result<(), Fail> {
 /// One worker with two jobs, and what they and the second plan wait for.
 const TWICE: &[Part] = &[Part {
     worker: b"a/0#1",
+    function: b"reverse",
     jobs: TWO_JOBS,
     fate: Fate::Holds,
 }];
@@ -157,33 +162,73 @@ fn solve_lets_go(rt: HostRuntime) -> Result<(), Fail> {
     expect(&rt, rt.alloc(), &tally, &ended, lines, (2, 0, 2, 0, 2, 12))
 }
 
+/// Machine a with one worker for reverse, b with one for echo and reverse.
+const TWO_MACHINES: &str =
+    "version = 1\nround_ms = 7\n[functions.echo]\n[functions.reverse]\n[machines.a]\nworkers = 1\nfunctions = [\"reverse\"]\n[machines.b]\nworkers = 1\nfunctions = [\"echo\", \"reverse\"]\n";
+
+/// A job `H:a:2` of `echo` without data. Nobody has that job, so it fails.
+const ECHO_JOB: &[&[u8]] = &[b"\0RES\0\0\0\x1f\0\0\0\x0eH:a:2\0echo\0u2\0"];
+
+const TWO_FUNCTIONS: &[Part] = &[
+    Part {
+        worker: b"a/0#1",
+        function: b"reverse",
+        jobs: ONE_JOB,
+        fate: Fate::Holds,
+    },
+    Part {
+        worker: b"b/0#1",
+        function: b"echo",
+        jobs: ECHO_JOB,
+        fate: Fate::Holds,
+    },
+];
+
+const MORE_REVERSE: &[&[u8]] = &[b"echo\t2\t0\t0\nreverse\t6\t0\t0\n.\n"];
+
+/// The only plan with a backlog of 6 gives each worker a function of its own.
+#[test]
+fn each_worker_has_its_own_order(rt: HostRuntime) -> Result<(), Fail> {
+    let tally = Tally::new();
+    let mut scenario = Scenario::new(TWO_MACHINES, 1, TWO_FUNCTIONS, MORE_REVERSE);
+    scenario.pauses = BOTH_ANSWERED;
+    let ended = scenario.run(&rt, rt.alloc(), &tally)?;
+    let lines = "attempt 1 round 1 backlog 6\n";
+    expect(&rt, rt.alloc(), &tally, &ended, lines, (2, 0, 2, 0, 1, 12))
+}
+
 /// Two workers, which retire after one run. A chapter ends after 20 events.
 const RETIRE: &str =
-    "version = 1\nround_ms = 1\nmax_runs = 1\nhistory = 40\n[functions.reverse]\n[machines.a]\nworkers = 2\nfunctions = [\"reverse\"]\n";
+    "version = 1\nround_ms = 7\nmax_runs = 1\nhistory = 40\n[functions.reverse]\n[machines.a]\nworkers = 2\nfunctions = [\"reverse\"]\n";
 
 const FIVE: &[Part] = &[
     Part {
         worker: b"a/0#1",
+        function: b"reverse",
         jobs: ONE_JOB,
         fate: Fate::Holds,
     },
     Part {
         worker: b"a/1#1",
+        function: b"reverse",
         jobs: ONE_JOB,
         fate: Fate::Holds,
     },
     Part {
         worker: b"a/0#2",
+        function: b"reverse",
         jobs: ONE_JOB,
         fate: Fate::Holds,
     },
     Part {
         worker: b"a/1#2",
+        function: b"reverse",
         jobs: ONE_JOB,
         fate: Fate::Holds,
     },
     Part {
         worker: b"a/0#3",
+        function: b"reverse",
         jobs: ONE_JOB,
         fate: Fate::Holds,
     },
@@ -223,7 +268,7 @@ fn workers_are_replaced(rt: HostRuntime) -> Result<(), Fail> {
 
 /// Three workers, which retire after two runs.
 const THREE: &str =
-    "version = 1\nround_ms = 1\nmax_runs = 2\n[functions.reverse]\n[machines.a]\nworkers = 3\nfunctions = [\"reverse\"]\n";
+    "version = 1\nround_ms = 7\nmax_runs = 2\n[functions.reverse]\n[machines.a]\nworkers = 3\nfunctions = [\"reverse\"]\n";
 
 /// A job with the data `late`.
 const LATE_JOB: &[&[u8]] = &[b"\0RES\0\0\0\x1f\0\0\0\x15H:a:2\0reverse\0u2\0late"];
@@ -232,31 +277,37 @@ const LATE_JOB: &[&[u8]] = &[b"\0RES\0\0\0\x1f\0\0\0\x15H:a:2\0reverse\0u2\0late
 const FATES: &[Part] = &[
     Part {
         worker: b"a/0#1",
+        function: b"reverse",
         jobs: ONE_JOB,
         fate: Fate::BreaksAt(1),
     },
     Part {
         worker: b"a/1#1",
+        function: b"reverse",
         jobs: LATE_JOB,
         fate: Fate::Holds,
     },
     Part {
         worker: b"a/2#1",
+        function: b"reverse",
         jobs: TWO_JOBS,
         fate: Fate::Holds,
     },
     Part {
         worker: b"a/0#2",
+        function: b"reverse",
         jobs: ONE_JOB,
         fate: Fate::Holds,
     },
     Part {
         worker: b"a/2#2",
+        function: b"reverse",
         jobs: ONE_JOB,
         fate: Fate::Holds,
     },
     Part {
         worker: b"a/1#2",
+        function: b"reverse",
         jobs: TWO_JOBS,
         fate: Fate::Holds,
     },
@@ -303,16 +354,19 @@ fn workers_die_retire_and_are_late(rt: HostRuntime) -> Result<(), Fail> {
 const LEAVERS: &[Part] = &[
     Part {
         worker: b"a/0#1",
+        function: b"reverse",
         jobs: &[],
         fate: Fate::EndsAt(1),
     },
     Part {
         worker: b"a/1#1",
+        function: b"reverse",
         jobs: &[],
         fate: Fate::EndsAt(2),
     },
     Part {
         worker: b"a/2#1",
+        function: b"reverse",
         jobs: &[],
         fate: Fate::EndsAt(3),
     },
@@ -341,19 +395,19 @@ fn stale_plans(rt: HostRuntime) -> Result<(), Fail> {
 
 /// One worker, whose history has room for three events.
 const THREE_EVENTS: &str =
-    "version = 1\nround_ms = 1\nhistory = 3\n[functions.reverse]\n[machines.a]\nworkers = 1\nfunctions = [\"reverse\"]\n";
+    "version = 1\nround_ms = 7\nhistory = 3\n[functions.reverse]\n[machines.a]\nworkers = 1\nfunctions = [\"reverse\"]\n";
 
 /// The same with room for two.
 const TWO_EVENTS: &str =
-    "version = 1\nround_ms = 1\nhistory = 2\n[functions.reverse]\n[machines.a]\nworkers = 1\nfunctions = [\"reverse\"]\n";
+    "version = 1\nround_ms = 7\nhistory = 2\n[functions.reverse]\n[machines.a]\nworkers = 1\nfunctions = [\"reverse\"]\n";
 
 /// One worker for x and y.
 const EITHER: &str =
-    "version = 1\nround_ms = 1\n[functions.x]\n[functions.y]\n[machines.a]\nworkers = 1\nfunctions = [\"x\", \"y\"]\n";
+    "version = 1\nround_ms = 7\n[functions.x]\n[functions.y]\n[machines.a]\nworkers = 1\nfunctions = [\"x\", \"y\"]\n";
 
 /// One worker where two are wanted.
 const TOO_FEW: &str =
-    "version = 1\nround_ms = 1\n[functions.x]\nleast = 2\n[machines.a]\nworkers = 1\nfunctions = [\"x\"]\n";
+    "version = 1\nround_ms = 7\n[functions.x]\nleast = 2\n[machines.a]\nworkers = 1\nfunctions = [\"x\"]\n";
 
 /// Settings, how many dials fail, what the server tells, and what comes of it: the lines, rounds, events of the last chapter, and chapters.
 const ATTEMPTS: [(&str, u64, &[&[u8]], &str, u32, u32, u32); 4] = [

@@ -34,6 +34,8 @@ pub enum Fate {
 pub struct Part {
     /// The worker's name, as it says it.
     pub worker: &'static [u8],
+    /// The function of its jobs. It is given none before it has said that it can do it.
+    pub function: &'static [u8],
     /// The job that it is given at each request. Behind them there is none for it.
     pub jobs: &'static [&'static [u8]],
     /// What becomes of its link.
@@ -80,6 +82,8 @@ pub struct Link<'a, R> {
     /// What the server does with the worker that has said its name.
     part: Option<Part>,
     leaving: Option<Leaving<'a>>,
+    /// Whether it can do the function of its jobs.
+    is_able: bool,
     given: usize,
     answered: u64,
     lulls: u32,
@@ -114,13 +118,21 @@ impl<'a, R> Link<'a, R> {
         self.part = self.part_of(name);
     }
 
+    /// Whether this is the function of the worker's jobs.
+    fn has_jobs_of(&self, function: &[u8]) -> bool {
+        match self.part {
+            Some(part) => part.function == function,
+            None => false,
+        }
+    }
+
     /// The worker asks for a job.
     fn give_job(&mut self) -> Result<(), AllocError>
         ensures { (self.new.has_ended ≡ self.old.has_ended) × (self.new.failures ≡ self.old.failures) }
     {
         let job = match self.part {
-            Some(part) => part.jobs.get(self.given).copied(),
-            None => None,
+            Some(part) if self.is_able => part.jobs.get(self.given).copied(),
+            _ => None,
         };
         match job {
             Some(job) => {
@@ -146,6 +158,14 @@ impl<'a, R> Link<'a, R> {
         match request {
             Request::SetClientId(name) => {
                 self.meet(name);
+                Ok(())
+            }
+            Request::CanDo(function) => {
+                self.is_able = self.has_jobs_of(function);
+                Ok(())
+            }
+            Request::CantDo(_) => {
+                self.is_able = false;
                 Ok(())
             }
             Request::GrabJobUniq => self.give_job(),
@@ -205,11 +225,15 @@ impl<'a, R> Link<'a, R> {
         self.text.extend_from_slice(text)
     }
 
-    /// Whether there is nothing more to come.
+    /// Whether there is nothing more to come. A link that has waited for too long counts as a wait that was given up.
     fn is_over(&self) -> bool {
         match self.fate() {
             Fate::EndsAt(plans) if self.tally.count(Happening::Planned) >= plans => true,
-            _ => self.lulls >= PATIENCE,
+            _ if self.lulls < PATIENCE => false,
+            _ => {
+                self.tally.give_up();
+                true
+            }
         }
     }
 }
@@ -270,6 +294,7 @@ impl<'a, R: Clock> Dial<Link<'a, R>> for Server<'a, R> {
             at: 0,
             part: None,
             leaving: None,
+            is_able: false,
             given: 0,
             answered: 0,
             lulls: 0,

@@ -26,6 +26,8 @@ pub enum Happening {
     Planned,
     /// An attempt was told, with the number behind that of the one before.
     Attempted,
+    /// There was a pause of the length that the settings of the tests want.
+    Paused,
 }
 
 /// How often each thing has happened in a run.
@@ -37,6 +39,7 @@ pub struct Tally {
     left: AtomicU64,
     planned: AtomicU64,
     attempted: AtomicU64,
+    paused: AtomicU64,
     given_up: AtomicU64,
 }
 
@@ -50,6 +53,7 @@ impl Tally {
             left: AtomicU64::new(0),
             planned: AtomicU64::new(0),
             attempted: AtomicU64::new(0),
+            paused: AtomicU64::new(0),
             given_up: AtomicU64::new(0),
         }
     }
@@ -62,6 +66,7 @@ impl Tally {
             Happening::Left => &self.left,
             Happening::Planned => &self.planned,
             Happening::Attempted => &self.attempted,
+            Happening::Paused => &self.paused,
         }
     }
 
@@ -80,6 +85,11 @@ impl Tally {
         self.given_up.load(Ordering::SeqCst) > 0
     }
 
+    /// A wait is given up.
+    pub fn give_up(&self) {
+        let _before = self.given_up.fetch_add(1, Ordering::SeqCst);
+    }
+
     /// Waits until it has happened so often. It gives up after 100,000,000 looks, or once another wait was given up.
     pub fn wait_for<R: Clock>(&self, rt: &R, what: Happening, count: u64) {
         for turn in 0..TURNS {
@@ -90,7 +100,7 @@ impl Tally {
                 thread::sleep(rt, Duration::from_millis(1));
             }
         }
-        let _before = self.given_up.fetch_add(1, Ordering::SeqCst);
+        self.give_up();
     }
 
     /// Waits until each of these has happened so often.
