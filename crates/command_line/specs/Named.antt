@@ -1,11 +1,11 @@
--- A command of the code, as its texts.
-use Rattle.std.specs.Prelude.{◌≡◌, ◌≢◌, map}
+-- A command of the code, as its texts and numbers.
+use Rattle.std.specs.Prelude.{◌≡◌, ◌≢◌, ◌≤◌, map}
 use Rattle.clap.specs.Words.{IsAmong, Kinds, kind_of}
 use Rattle.clap.specs.declared.error.Error.{Error}
 use Rattle.clap.specs.declared.error.kind.ErrorKind.TheVariants.{OutOfMemory}
-use Rattle.command_line.specs.Words.{Named, plan, check, replay}
+use Rattle.command_line.specs.Words.{Named, plan, check, replay, run, least_rounds, most_rounds}
 use Rattle.command_line.specs.declared.command.Command.{Command}
-use Rattle.command_line.specs.declared.command.Command.TheVariants.{Plan, Check, Replay}
+use Rattle.command_line.specs.declared.command.Command.TheVariants.{Plan, Check, Replay, Run}
 use Rattle.command_line.specs.declared.command.CommandError.{CommandError}
 use Rattle.command_line.specs.declared.command.CommandError.TheVariants.{Usage, Memory}
 
@@ -13,6 +13,12 @@ abbrev pub named : Command → Named
 named (Plan settings lost) = plan settings.now (map (λ w. w.now) lost.items)
 named (Check settings status lost) = check settings.now status.now (map (λ w. w.now) lost.items)
 named (Replay settings) = replay settings.now
+named (Run settings rounds) = run settings.now rounds
+
+-- the rounds of a run, where the command is one, are neither too few nor too many
+abbrev pub HasRoundsInRange : Command → Type 0
+HasRoundsInRange (Run settings rounds) = (least_rounds ≤ rounds) × (rounds ≤ most_rounds)
+HasRoundsInRange _ = Unit {0}
 
 -- this error of `clap`, or want of memory where it is one of that
 abbrev pub Tells : Error → CommandError → Type 0

@@ -1,18 +1,24 @@
 -- The program's command line: the words that each command takes, and the command that they ask for.
-use Rattle.std.specs.Prelude.{List, [], ◌∷◌, drop, slice_get, true, Option, Some, None, option_map, option_and_then, unwrap_or, codes, if◌then◌else◌}
+use Rattle.std.specs.Prelude.{List, [], ◌∷◌, drop, slice_get, true, Option, Some, None, option_map, option_and_then, unwrap_or, codes, if◌then◌else◌, ℕ, pos}
 use Rattle.std.specs.Option.{option_map_or}
 use Rattle.std.specs.Str.{bytes_eq}
+use Rattle.std.specs.Str.Parse.{digits_value, without_leading_plus}
 use Rattle.clap.specs.Lexer.{usize_max}
-use Rattle.clap.specs.Walk.{Text, Row, Rule, first_of, all_of}
+use Rattle.clap.specs.Walk.{Text, Row, Rule, first_of, all_of, one_of}
 use Rattle.clap.specs.Kinds.{or_else}
 use Rattle.clap.specs.Words.{Kinds, fault_of}
 use Rattle.clap.specs.Simple.{App, matches_of, new_app, new_rule, new_shape, on_top, with_rule, with_subcommand}
 use Rattle.clap.specs.declared.builder.action.ArgAction.TheVariants.{Set, Append}
+use Rattle.clap.specs.declared.builder.value_parser.ValueParser.TheVariants.{Signed}
 use Rattle.clap.specs.declared.error.kind.ErrorKind.TheVariants.{MissingSubcommand}
 
 -- a word that has to be there
 abbrev pub operand : Text → Rule
 operand id = record (new_rule id) { required = true; action = Some Set }
+
+-- a word that has to be there, and to be a whole number from `least` to `most`
+abbrev pub number : Text → ℕ → ℕ → Rule
+number id least most = record (operand id) { parser = Some (Signed (pos least) (pos most)) }
 
 -- any number of words
 abbrev pub operands : Text → Rule
@@ -29,6 +35,16 @@ status = codes "STATUS"
 
 abbrev pub lost : Text
 lost = codes "LOST"
+
+abbrev pub rounds : Text
+rounds = codes "ROUNDS"
+
+-- how many rounds a run may have, at least and at most
+abbrev pub least_rounds : ℕ
+least_rounds = 1
+
+abbrev pub most_rounds : ℕ
+most_rounds = 65536
 
 -- a command with these operands, in this order
 abbrev pub with_rules : App → List Rule → App
@@ -47,11 +63,16 @@ check_app = with_rules (new_app (codes "check")) (operand settings ∷ operand s
 abbrev pub replay_app : App
 replay_app = with_rules (new_app (codes "replay")) (operand settings ∷ [])
 
--- a command with its texts
+-- `run SETTINGS ROUNDS`
+abbrev pub run_app : App
+run_app = with_rules (new_app (codes "run")) (operand settings ∷ number rounds least_rounds most_rounds ∷ [])
+
+-- a command with its texts, and a run with its number of rounds
 pub data Named : Type 0 where
   plan : Text → List Text → Named
   check : Text → Text → List Text → Named
   replay : Text → Named
+  run : Text → ℕ → Named
 
 abbrev pub lost_in : List Row → List Text
 lost_in rows = unwrap_or (all_of lost rows) []
@@ -68,23 +89,39 @@ check_in rows = option_and_then (check_of rows) (first_of settings rows)
 abbrev pub replay_in : List Row → Option Named
 replay_in rows = option_map replay (first_of settings rows)
 
+-- the number that a text writes in decimal digits, of which a `+` may stand in front
+abbrev pub decimal : Text → ℕ
+decimal text = digits_value 10 (without_leading_plus text)
+
+-- the rounds of a run's matches: the number of the word for them
+abbrev pub rounds_in : List Row → Option ℕ
+rounds_in rows = option_map decimal (one_of rounds rows)
+
+abbrev pub run_of : List Row → Text → Option Named
+run_of rows s = option_map (run s) (rounds_in rows)
+
+abbrev pub run_in : List Row → Option Named
+run_in rows = option_and_then (run_of rows) (first_of settings rows)
+
 -- the command of a name, from its own words, of which the name is the first: each command is a command line of its own
 abbrev pub command_named : Text → List Text → Option Named
 command_named name words =
     if bytes_eq name (codes "plan") then plan_in (matches_of plan_app words)
     else (if bytes_eq name (codes "check") then check_in (matches_of check_app words)
     else (if bytes_eq name (codes "replay") then replay_in (matches_of replay_app words)
-    else None))
+    else (if bytes_eq name (codes "run") then run_in (matches_of run_app words)
+    else None)))
 
 -- the command that the words ask for, the first of them being the program's name and the second the command's
 abbrev pub command_in : List Text → Option Named
 command_in words = option_and_then (λ name. command_named name (drop 1 words)) (slice_get words 1)
 
--- the command line that wants one of three commands, by which words that name none are answered
+-- the command line that wants one of four commands, by which words that name none are answered
 abbrev pub overview_app : App
 overview_app =
-    with_subcommand (with_subcommand (with_subcommand (on_top (λ top. record top { subcommand_required = true }) (new_app (codes "poolman")))
-    (new_shape (codes "plan"))) (new_shape (codes "check"))) (new_shape (codes "replay"))
+    with_subcommand (with_subcommand (with_subcommand (with_subcommand
+    (on_top (λ top. record top { subcommand_required = true }) (new_app (codes "poolman")))
+    (new_shape (codes "plan"))) (new_shape (codes "check"))) (new_shape (codes "replay"))) (new_shape (codes "run"))
 
 -- what is wrong with words that name no command: the kinds of `clap`'s first fault, and else that a command is missing
 abbrev pub overview_faults : List Text → Kinds
@@ -97,7 +134,8 @@ faults_as words name =
     if bytes_eq name (codes "plan") then fault_of plan_app (drop 1 words)
     else (if bytes_eq name (codes "check") then fault_of check_app (drop 1 words)
     else (if bytes_eq name (codes "replay") then fault_of replay_app (drop 1 words)
-    else overview_faults words))
+    else (if bytes_eq name (codes "run") then fault_of run_app (drop 1 words)
+    else overview_faults words)))
 
 -- the same, of which the first word is the program's name and the second the command's
 abbrev pub faults_in : List Text → Kinds

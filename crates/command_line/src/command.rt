@@ -3,10 +3,10 @@
 ghost use Rattle.std.specs.Prelude.{◌≡◌, IfErr, IfOk, Some, [], map};
 ghost use Rattle.clap.specs.Simple.{matches_of};
 ghost use Rattle.clap.specs.Words.{fault_of};
-ghost use Rattle.command_line.specs.Named.{IsOfKinds, Tells, named};
+ghost use Rattle.command_line.specs.Named.{HasRoundsInRange, IsOfKinds, Tells, named};
 ghost use Rattle.command_line.specs.Words as spec;
 
-use crate::operands::{check_words, overview, plan_words, replay_words};
+use crate::operands::{check_words, overview, plan_words, replay_words, run_words};
 use clap::Error;
 use clap::error::ErrorKind;
 use std::alloc::{AllocError, Global};
@@ -29,6 +29,11 @@ pub enum Command<'a> {
     /// `replay SETTINGS`: what the command lines on standard input answer.
     Replay {
         settings: &'a str,
+    },
+    /// `run SETTINGS ROUNDS`: keeps workers on the functions that need them, for 1 to 65,536 rounds.
+    Run {
+        settings: &'a str,
+        rounds: u32,
     },
 }
 
@@ -100,12 +105,27 @@ fn replay_of<'a, W: AsStr>(alloc: Global, words: &'a [W]) -> Result<Command<'a>,
     }
 }
 
+fn run_of<'a, W: AsStr>(alloc: Global, words: &'a [W]) -> Result<Command<'a>, CommandError>
+    ensures ok { IfOk result (λ c. spec.run_in (matches_of spec.run_app (map W.text words.now)) ≡ Some (named c)) }
+    ensures taken { IfOk result (λ _. fault_of spec.run_app (map W.text words.now) ≡ []) }
+    ensures rounds { IfOk result HasRoundsInRange }
+    ensures usage { IfErr result (IsOfKinds (fault_of spec.run_app (map W.text words.now))) }
+{
+    match run_words(alloc, words) {
+        Ok((settings, rounds)) => Ok(Command::Run { settings, rounds }),
+        Err(error) => Err(refused(error)),
+    }
+}
+
 /// The command that the words ask for. The first word is the program's name and the second the
 /// command's. `Usage` comes only where `clap` finds a fault in the words, help that they ask for included: it
-/// is of the kind of the first one, and holds the text to print.
+/// is of the kind of the first one, and holds the text to print. So it is where ROUNDS is no whole number from
+/// 1 to 65,536 in decimal, of which a `+` may stand in front: of the kind `ValueValidation`, or
+/// `UnknownArgument` where the word is read as an option, since a `-` stands in front.
 pub fn command_of<'a, W: AsStr>(alloc: Global, words: &'a [W]) -> Result<Command<'a>, CommandError>
     ensures ok { IfOk result (λ c. spec.command_in (map W.text words.now) ≡ Some (named c)) }
     ensures taken { IfOk result (λ _. spec.faults_in (map W.text words.now) ≡ []) }
+    ensures rounds { IfOk result HasRoundsInRange }
     ensures usage { IfErr result (IsOfKinds (spec.faults_in (map W.text words.now))) }
 {
     if let Some(name) = words.get(1) {
@@ -117,6 +137,9 @@ pub fn command_of<'a, W: AsStr>(alloc: Global, words: &'a [W]) -> Result<Command
         }
         if name.as_str() == "replay" {
             return replay_of(alloc, &words[1..]);
+        }
+        if name.as_str() == "run" {
+            return run_of(alloc, &words[1..]);
         }
     }
     Err(refused(overview(alloc, words)?))

@@ -1,6 +1,6 @@
 //! The command line of each command, as a command of `clap` of its own.
 
-ghost use Rattle.std.specs.Prelude.{◌≡◌, ◌<◌, IfOk, IsSomeAnd, Some, [], false, length, map, true};
+ghost use Rattle.std.specs.Prelude.{◌≡◌, ◌<◌, ◌≤◌, IfOk, IsSomeAnd, Some, [], false, length, map, true};
 ghost use Rattle.clap.specs.Built.{FitsChain, TakesValue};
 ghost use Rattle.clap.specs.Words.{FailsBy, HasKind, IsPlainArg, app_of, args_of, fault_of, found_of, groups_of, rows_of, rule_of};
 ghost use Rattle.clap.specs.Simple.{matches_of, new_app};
@@ -9,7 +9,7 @@ ghost use Rattle.clap.specs.declared.builder.command.Command.TheViews.{out-Comma
 ghost use Rattle.command_line.specs.Words as spec;
 
 use clap::error::ErrorKind;
-use clap::{Arg, ArgAction, ArgMatches, Command, Error};
+use clap::{Arg, ArgAction, ArgMatches, Command, Error, value_parser};
 use std::alloc::{AllocError, Global};
 use std::convert::AsStr;
 
@@ -37,6 +37,12 @@ const REPLAY: Help = Help {
     about: "Reads command lines and prints what each answers, on a pool in which nothing has happened yet",
     usage: "poolman replay SETTINGS < COMMANDS",
     example: "Example: printf 'join a/0\nload x 6 0\nround\norder a/0\n' | poolman replay settings.toml",
+};
+
+const RUN: Help = Help {
+    about: "Keeps workers on the functions that need them, for ROUNDS rounds, and accounts for each job",
+    usage: "poolman run SETTINGS ROUNDS",
+    example: "Example: poolman run settings.toml 3600",
 };
 
 const PROGRAM: Help = Help {
@@ -113,6 +119,21 @@ fn lost<'a>(alloc: Global) -> Arg<'a>
         "LOST",
         "Workers that are not live, as a/0; all others are",
     )
+}
+
+fn rounds<'a>(alloc: Global) -> Arg<'a>
+    ensures rule { rule_of result ≡ spec.number spec.rounds spec.least_rounds spec.most_rounds }
+    ensures id { result.id.now ≡ spec.rounds }
+    ensures explained { IsSomeAnd result.help (λ help. 0 < length help.now) }
+    ensures fits { FitsChain result }
+    ensures value { TakesValue result }
+{
+    operand(
+        alloc,
+        "ROUNDS",
+        "How many rounds, a whole number from 1 to 65536",
+    )
+    .value_parser(value_parser!(u32).range(1..=65536))
 }
 
 /// A command without operands, with its help.
@@ -204,6 +225,27 @@ pub fn replay_words<'a, W: AsStr>(alloc: Global, words: &'a [W]) -> Result<&'a s
     Ok(settings)
 }
 
+/// What the words of `run` give: its settings and its rounds.
+pub fn run_words<'a, W: AsStr>(alloc: Global, words: &'a [W]) -> Result<(&'a str, u32), Error>
+    ensures settings { IfOk result (λ m. first_of spec.settings (matches_of spec.run_app (map W.text words.now)) ≡ Some m.0.now) }
+    ensures rounds { IfOk result (λ m. spec.rounds_in (matches_of spec.run_app (map W.text words.now)) ≡ Some m.1) }
+    ensures range { IfOk result (λ m. (spec.least_rounds ≤ m.1) × (m.1 ≤ spec.most_rounds)) }
+    ensures kinds { FailsBy (fault_of spec.run_app (map W.text words.now)) result }
+{
+    let settings = settings(alloc);
+    let rounds = rounds(alloc);
+    let command = command(alloc, "run", RUN);
+    let command = command.arg(settings)?.arg(rounds)?;
+    let matches = command.try_get_matches_from(words)?;
+    let Some(settings) = matches.get_str("SETTINGS") else {
+        unreachable!()
+    };
+    let Some(rounds) = matches.get_one::<u32>("ROUNDS") else {
+        unreachable!()
+    };
+    Ok((settings, rounds))
+}
+
 /// The command line of words that name no command.
 fn program<'a>(alloc: Global) -> Result<Command<'a>, AllocError>
     ensures app { IfOk result (λ p. app_of p ≡ spec.overview_app) }
@@ -212,7 +254,8 @@ fn program<'a>(alloc: Global) -> Result<Command<'a>, AllocError>
         .subcommand_required(true)
         .subcommand(command(alloc, "plan", PLAN))?
         .subcommand(command(alloc, "check", CHECK))?
-        .subcommand(command(alloc, "replay", REPLAY))
+        .subcommand(command(alloc, "replay", REPLAY))?
+        .subcommand(command(alloc, "run", RUN))
 }
 
 /// What to print where the words name no command: the help that they ask for, or what is wrong.

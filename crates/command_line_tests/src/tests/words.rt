@@ -1,7 +1,9 @@
 //! Words of commands, and words of none.
 
+use clap::error::ErrorKind;
 use command_line::{Command, CommandError, command_of};
 use std::alloc::Global;
+use std::test::Fail;
 
 /// The settings, the status text and the number of lost workers of a command, if the words name one.
 fn texts_of<'a>(alloc: Global, words: &'a [&'a str]) -> Option<(&'a str, Option<&'a str>, usize)> {
@@ -13,7 +15,34 @@ fn texts_of<'a>(alloc: Global, words: &'a [&'a str]) -> Option<(&'a str, Option<
             lost,
         } => Some((settings, Some(status), lost.len())),
         Command::Replay { settings } => Some((settings, None, 0)),
+        Command::Run { .. } => None,
     }
+}
+
+/// The settings and the rounds of a run, if the words ask for one.
+fn run_of<'a>(alloc: Global, words: &'a [&'a str]) -> Option<(&'a str, u32)> {
+    match command_of(alloc, words).ok()? {
+        Command::Run { settings, rounds } => Some((settings, rounds)),
+        _ => None,
+    }
+}
+
+/// The rounds that `run s.toml` has with this word for ROUNDS, if it is taken.
+fn rounds_of(alloc: Global, word: &str) -> Option<u32> {
+    Some(run_of(alloc, &["poolman", "run", "s.toml", word])?.1)
+}
+
+/// What is wrong with the words, and the exit status that `clap` has for it, if they are no command's.
+fn usage_of(alloc: Global, words: &[&str]) -> Option<(ErrorKind, i32)> {
+    match command_of(alloc, words) {
+        Err(CommandError::Usage(error)) => Some((error.kind(), error.exit_code())),
+        _ => None,
+    }
+}
+
+/// Whether `clap` refuses this word for ROUNDS, as a value that is not allowed.
+fn is_refused(alloc: Global, word: &str) -> bool {
+    usage_of(alloc, &["poolman", "run", "s.toml", word]) == Some((ErrorKind::ValueValidation, 2))
 }
 
 /// Whether the words are no command's.
@@ -48,4 +77,57 @@ fn words_that_are_not_of_replay(rt: HostRuntime) {
     assert!(rt; is_usage(alloc, &["poolman", "replay"]));
     assert!(rt; is_usage(alloc, &["poolman", "replay", "s.toml", "b/0"]));
     assert!(rt; is_usage(alloc, &["poolman", "replay", "-h"]));
+}
+
+#[test]
+fn rounds_of_a_run(rt: HostRuntime) {
+    let alloc = rt.alloc();
+    let run = ["poolman", "run", "s.toml", "3600"];
+    assert!(rt; run_of(alloc, &run) == Some(("s.toml", 3600)));
+    assert!(rt; rounds_of(alloc, "1") == Some(1));
+    assert!(rt; rounds_of(alloc, "65536") == Some(65536));
+    assert!(rt; rounds_of(alloc, "+1") == Some(1));
+    assert!(rt; rounds_of(alloc, "007") == Some(7));
+}
+
+#[test]
+fn rounds_out_of_range_and_words_that_are_no_number(rt: HostRuntime) {
+    let alloc = rt.alloc();
+    assert!(rt; is_refused(alloc, "0"));
+    assert!(rt; is_refused(alloc, "65537"));
+    assert!(rt; is_refused(alloc, "4294967297"));
+    assert!(rt; is_refused(alloc, "99999999999999999999"));
+    assert!(rt; is_refused(alloc, "x"));
+    assert!(rt; is_refused(alloc, "1.5"));
+    assert!(rt; is_refused(alloc, "1 "));
+    assert!(rt; is_refused(alloc, ""));
+}
+
+#[test]
+fn words_that_are_not_of_run(rt: HostRuntime) {
+    let alloc = rt.alloc();
+    let missing = Some((ErrorKind::MissingRequiredArgument, 2));
+    let unknown = Some((ErrorKind::UnknownArgument, 2));
+    assert!(rt; usage_of(alloc, &["poolman", "run"]) == missing);
+    assert!(rt; usage_of(alloc, &["poolman", "run", "s.toml"]) == missing);
+    assert!(rt; usage_of(alloc, &["poolman", "run", "s.toml", "1", "2"]) == unknown);
+    assert!(rt; usage_of(alloc, &["poolman", "run", "s.toml", "-1"]) == unknown);
+}
+
+#[test]
+fn help_of_run_tells_the_range(rt: HostRuntime) -> Result<(), Fail> {
+    let alloc = rt.alloc();
+    let words = ["poolman", "run", "--help"];
+    assert!(rt; usage_of(alloc, &words) == Some((ErrorKind::DisplayHelp, 0)));
+    let Err(CommandError::Usage(help)) = command_of(alloc, &words) else {
+        return Ok(());
+    };
+    let text = format!(in alloc; "{help}")?;
+    assert!(rt; text.as_str().contains("Usage: poolman run SETTINGS ROUNDS"));
+    assert!(rt; text.as_str().contains("from 1 to 65536"));
+    assert!(rt;
+        text.as_str()
+            .contains("Example: poolman run settings.toml 3600")
+    );
+    Ok(())
 }
