@@ -202,6 +202,8 @@ pub fn order_line(alloc: Global, settings: &Settings, order: &Order) -> Result<S
     }
 }
 
+/// The counts of a pool in a line, without a line feed: `totals grabbed G running R reported P lost L rounds N events E`. The only
+/// error is want of memory.
 pub fn totals_line(alloc: Global, totals: Totals) -> Result<String, AllocError>
     ensures { IfOk result (λ s. string_bytes s ≡ spec.totals_line totals) }
 {

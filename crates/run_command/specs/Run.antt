@@ -1,0 +1,52 @@
+-- What `run` writes, and how it ends.
+use Rattle.std.specs.Prelude.{◌≡◌, ◌⊎◌, ℕ, ◌+◌, List, [], ◌∷◌, ◌++◌, Bool, true, false, Err, codes, length, nat_lt, if◌then◌else◌}
+use Rattle.std.specs.Fmt.{decimal}
+use Rattle.std.specs.List.{list_any}
+use Rattle.gear_status.specs.Sides.{Output}
+use Rattle.plan_commands.specs.Ending.{Delivers, Stops}
+use Rattle.plan_commands.specs.Fault.{answered}
+use Rattle.plan_commands.specs.Posing.{HaveMeaning}
+use Rattle.plan_commands.specs.declared.ending.Exit.{Exit}
+use Rattle.plan_commands.specs.declared.fault.Fault.{Fault}
+use Rattle.plan_commands.specs.declared.fault.Fault.TheVariants as fault
+use Rattle.pool_replay.specs.Lines.{totals_line}
+use Rattle.pool_settings.specs.Reading.{reading}
+use Rattle.pool_supervisor.specs.Lines.{attempt_line}
+use Rattle.pool_supervisor.specs.declared.attempt.Attempt.{Attempt}
+use Rattle.pool_supervisor.specs.declared.attempt.Attempt.TheVariants.{NoPlan}
+use Rattle.pool_supervisor.specs.declared.run.RunEnd.{RunEnd}
+
+-- the lines of attempts, of which the first has this number
+abbrev pub attempt_lines : ℕ → List Attempt → List ℕ
+attempt_lines number [] = []
+attempt_lines number (attempt ∷ attempts) = attempt_line number attempt ++ 10 ∷ attempt_lines (number + 1) attempts
+
+-- the line of the chapters of the history that ended, where one did
+abbrev pub chapters_line : ℕ → List ℕ
+chapters_line chapters = if nat_lt 0 chapters then codes "chapters " ++ decimal chapters ++ 10 ∷ [] else []
+
+-- what a run writes: its attempts from the first one on, its chapters, and its totals, which are the sums of what its sessions told
+abbrev pub run_text : RunEnd → List ℕ
+run_text ended = attempt_lines 1 ended.lines.items ++ chapters_line ended.chapters ++ totals_line ended.totals ++ 10 ∷ []
+
+abbrev pub has_no_plan : Attempt → Bool
+has_no_plan (NoPlan round) = true
+has_no_plan attempt = false
+
+-- 1 where some round had no plan, and else 0
+abbrev pub status_after : List Attempt → ℕ
+status_after attempts = if list_any has_no_plan attempts then 1 else 0
+
+-- why a pool is not run, or not to its end: the settings are refused by their fault, or memory is refused
+abbrev pub IsKeptFrom : List ℕ → Fault → Type 0
+IsKeptFrom settings (fault.Settings e) = reading settings ≡ Err e
+IsKeptFrom settings fault.Memory = Unit {0}
+IsKeptFrom settings other = ⊥
+
+-- The settings mean something, a run by them ended after so many attempts, and what it came to is written. Or it is kept from that by a
+-- fault, and nothing is written.
+abbrev pub Supervises : List ℕ → ℕ → Output → Output → Exit → Type 0
+Supervises settings rounds old new exit =
+    (HaveMeaning settings × ((ended : RunEnd) × (length ended.lines.items ≡ rounds)
+    × Delivers (run_text ended) (answered (status_after ended.lines.items)) old new exit))
+    ⊎ ((f : Fault) × IsKeptFrom settings f × Stops f old new exit)

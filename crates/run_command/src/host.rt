@@ -1,0 +1,37 @@
+//! What a run is lent by the machine that it is on.
+ghost use Rattle.std.specs.Prelude.{◌≡◌, IfSome};
+
+use gear_status::{Sink, Source};
+use pool_supervisor::{Dial, Progress, Watch};
+use std::sync::Wait;
+use std::thread::Threads;
+
+/// What a run is lent by the machine that it is on: threads, links to a job server, a clock, and somebody who is told of each
+/// attempt when it is made.
+pub trait Host: Threads + Wait + Watch + Progress + Sync {
+    /// A link to a job server.
+    type Link: Source + Sink + Send + Drop;
+
+    /// A new link to the server, which is named as `host:port`, or none where it cannot be reached. A read of the link that gets nothing
+    /// for so many milliseconds is a lull. The link has counted no failure.
+    fn reach(&self, server: &str, lull_ms: u32) -> Option<Self::Link>
+        ensures { IfSome result
+            (λ link. ((Self.Link.output link).failures ≡ 0) × ((Self.Link.input link).failures ≡ 0)) };
+}
+
+/// Makes links from a host to one server.
+#[derive(Drop)]
+pub struct Route<'e, H> {
+    /// Where the links begin.
+    pub host: &'e H,
+    /// The server, as `host:port`.
+    pub server: String,
+    /// After how many milliseconds a read that gets nothing is a lull.
+    pub lull_ms: u32,
+}
+
+impl<'e, H: Host> Dial<H::Link> for Route<'e, H> {
+    fn dial(&self) -> Option<H::Link> {
+        self.host.reach(self.server.as_str(), self.lull_ms)
+    }
+}

@@ -1,0 +1,90 @@
+//! The command `run`: from a settings text to what a run of the pool came to.
+
+ghost use Rattle.std.specs.Prelude.{◌≡◌, ◌-◌, ◌^◌, ◌<◌, IfErr, IfOk, length, string_bytes};
+ghost use Rattle.plan_commands.specs.Posing.{HaveMeaning};
+ghost use Rattle.run_command.specs.Run as spec;
+
+use crate::host::{Host, Route};
+use crate::stock::stock_jobs;
+use crate::text::{run_text, status_after};
+use gear_status::Sink;
+use plan_commands::{Exit, Fault, deliver};
+use pool_settings::Settings;
+use pool_supervisor::{ArenaPlanner, RunEnd, run_pool};
+use std::alloc::{AllocError, Global};
+
+/// Runs the pool with the stock jobs.
+fn run_stock<H: Host>(
+    host: &H,
+    alloc: Global,
+    settings: Settings,
+    rounds: u32,
+) -> Result<RunEnd, AllocError>
+    ensures { IfOk result (λ ended. length ended.lines.items ≡ rounds) }
+{
+    let jobs = stock_jobs(alloc)?;
+    let route = Route {
+        host,
+        server: String::from_str(alloc, settings.server())?,
+        lull_ms: settings.lull_ms(),
+    };
+    let planner = ArenaPlanner::new(alloc);
+    run_pool(
+        host, alloc, &route, host, &planner, &jobs, host, settings, rounds,
+    )
+}
+
+/// What a run came to, and the text of it.
+#[derive(Drop)]
+struct Told {
+    ended: RunEnd,
+    text: String,
+}
+
+/// Runs the pool of these settings.
+fn run_told<H: Host>(
+    host: &H,
+    alloc: Global,
+    settings: &[u8],
+    rounds: u32,
+) -> Result<Told, Fault>
+    ensures meant { IfOk result (λ _. HaveMeaning settings.now) }
+    ensures lines { IfOk result (λ told. length told.ended.lines.items ≡ rounds) }
+    ensures text { IfOk result (λ told. string_bytes told.text ≡ spec.run_text told.ended) }
+    ensures kept { IfErr result (spec.IsKeptFrom settings.now) }
+{
+    let settings = Settings::read(alloc, settings)?;
+    let ended = run_stock(host, alloc, settings, rounds)?;
+    let text = run_text(alloc, &ended)?;
+    Ok(Told { ended, text })
+}
+
+/// Runs a pool of workers by these settings against their job server: `rounds` attempts to plan, a session in a thread for each worker, and
+/// the stock jobs (`StockJob`). When all sessions have ended it writes what the run came to: a line for each attempt, from the first
+/// on; the line of the chapters of the history that ended, where one did; and the line of the pool's totals. The exit status is 1
+/// where some round had no plan, and else 0: a server that is not reached, or a status text or a call that is refused, is told in its
+/// line and is no fault.
+///
+/// Faults are looked for in the settings, before anything is dialled. Where memory is refused, or a thread, so that the run cannot go on,
+/// the sessions are ended and the fault is `Memory`. Nothing is written before the run has ended: after a `WriteFault`, which comes
+/// only where the sink failed, a front of the text was written and not all of it, and after any other fault nothing.
+///
+/// It returns once all sessions have ended, so it waits for jobs that are running.
+pub fn run_rounds<H: Host, S: Sink>(
+    host: &H,
+    alloc: Global,
+    settings: &[u8],
+    rounds: u32,
+    sink: &mut S,
+) -> Exit
+    requires sink { (S.output sink.old).failures < 2 ^ 64 - 1 }
+    ensures supervises { spec.Supervises settings.now rounds (S.output sink.old) (S.output sink.new) result }
+{
+    match run_told(host, alloc, settings, rounds) {
+        Ok(told) => {
+            let done = Exit::answered(status_after(&told.ended.lines));
+            deliver(sink, told.text.as_bytes(), done)
+        }
+        Err(fault) => Exit::refused(fault),
+    }
+}

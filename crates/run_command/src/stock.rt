@@ -1,0 +1,83 @@
+//! The jobs that the program's workers can do.
+
+ghost use Rattle.std.specs.Prelude.{◌≡◌, ℕ, List, IfOk, IfNone, string_bytes};
+ghost use Rattle.run_command.specs.Stock as spec;
+
+use job_runner::{End, Job, JobTable, Jobs, Outcome};
+use std::alloc::{AllocError, Global};
+
+/// A job that the program's workers can do. Each says nothing before its end, and always completes.
+#[derive(Clone, Copy, Debug, PartialEq, Eq)]
+pub enum StockJob {
+    /// `reverse`: the bytes of the input, the last one first.
+    Reverse,
+    /// `length`: the number of the input's bytes, in decimal digits.
+    Length,
+    /// `echo`: the input.
+    Echo,
+}
+
+impl StockJob {
+    /// The function by which clients ask for it.
+    pub fn name(self) -> &'static str
+        ensures { result.now ≡ spec.name_of self }
+    {
+        match self {
+            StockJob::Reverse => "reverse",
+            StockJob::Length => "length",
+            StockJob::Echo => "echo",
+        }
+    }
+
+    /// Its result for an input.
+    fn result(self, alloc: Global, input: &[u8]) -> Result<Vec<u8>, AllocError>
+        ensures { IfOk result (λ bytes. bytes.items ≡ spec.result_of self input.now) }
+    {
+        match self {
+            StockJob::Reverse => {
+                let mut bytes = Vec::from_slice(alloc, input)?;
+                bytes.reverse();
+                Ok(bytes)
+            }
+            StockJob::Length => Ok(input.len().to_string(alloc)?.into_bytes()),
+            StockJob::Echo => Vec::from_slice(alloc, input),
+        }
+    }
+}
+
+impl Job for StockJob {
+    ghost use Rattle.run_command.specs.Stock.{told};
+
+    ghost meaning = { told };
+
+    fn run(&self, alloc: Global, input: &[u8]) -> Result<Outcome, AllocError> {
+        let result = self.result(alloc, input)?;
+        Ok(Outcome {
+            notes: Vec::new(alloc),
+            end: End::Complete(result),
+        })
+    }
+}
+
+/// A job with its name.
+fn named(alloc: Global, job: StockJob) -> Result<(Vec<u8>, StockJob), AllocError>
+    ensures name { IfOk result (λ entry. entry.0.items ≡ spec.name_of job) }
+    ensures job { IfOk result (λ entry. entry.1 ≡ job) }
+{
+    Ok((Vec::from_slice(alloc, job.name().as_bytes())?, job))
+}
+
+/// The three jobs by name. The only error is want of memory.
+pub fn stock_jobs(alloc: Global) -> Result<JobTable<StockJob>, AllocError>
+    ensures { IfOk result (λ table. (name input : List ℕ) → ⟦<JobTable<StockJob> as Jobs>⟧.told table name input
+        ≡ spec.told_by_name name input) }
+{
+    let mut jobs = Vec::new(alloc);
+    jobs.push(named(alloc, StockJob::Reverse)?)?;
+    jobs.push(named(alloc, StockJob::Length)?)?;
+    jobs.push(named(alloc, StockJob::Echo)?)?;
+    let Ok(table) = JobTable::new(jobs) else {
+        unreachable!()
+    };
+    Ok(table)
+}
