@@ -11,12 +11,15 @@ use devices::{Folder, InputError, read_file};
 use gear_status::{Sink, Source};
 use plan_commands::{Exit, Fault, check_text, plan_text};
 use replay_command::run_commands;
+use run_command::{Host, run_rounds};
 use std::alloc::Global;
 
-/// Carries out a command: reads its files, and then does what `plan_text`, `check_text` or `run_commands` says of
-/// them. A file that cannot be read is told before any fault of a text, and nothing is taken from the source or written then.
-pub fn carry_out<F: Folder, R: Source, S: Sink>(
+/// Carries out a command: reads its files, and then does what `plan_text`, `check_text`, `run_commands` or `run_rounds` says of
+/// them. A file that cannot be read is told before any fault of a text, and nothing is taken from the source or written then. A run takes
+/// nothing from the source.
+pub fn carry_out<F: Folder, H: Host, R: Source, S: Sink>(
     files: &F,
+    host: &H,
     alloc: Global,
     command: &Command<'_>,
     source: &mut R,
@@ -42,6 +45,10 @@ pub fn carry_out<F: Folder, R: Source, S: Sink>(
         },
         Command::Replay { settings } => match read_file(files, alloc, settings) {
             Ok(text) => run_commands(alloc, &text, source, sink),
+            Err(error) => Exit::refused(Fault::from(error)),
+        },
+        Command::Run { settings, rounds } => match read_file(files, alloc, settings) {
+            Ok(text) => run_rounds(host, alloc, &text, *rounds, sink),
             Err(error) => Exit::refused(Fault::from(error)),
         },
     }

@@ -1,4 +1,4 @@
-//! `poolman`: plans of a pool of Gearman workers, each shown to be best.
+//! `poolman`: plans of a pool of Gearman workers, each shown to be best, and runs of such a pool.
 #![tactic(auto)]
 
 mod carry_out;
@@ -6,6 +6,7 @@ mod program;
 
 use devices::{InputSource, OutputSink};
 use program::program;
+use run_command::System;
 use std::process::ExitCode;
 use std::{env, io};
 
@@ -21,6 +22,7 @@ fn words(rt: &HostRuntime) -> io::Result<Vec<String>> {
 fn main(rt: HostRuntime) -> ExitCode {
     ExitCode::from(program(
         &rt,
+        &System::new(&rt),
         words(&rt),
         rt.alloc(),
         &mut InputSource::new(rt.reader()),

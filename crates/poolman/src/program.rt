@@ -10,6 +10,7 @@ use command_line::{CommandError, command_of};
 use devices::Folder;
 use gear_status::{Sink, Source, give_all};
 use plan_commands::{Exit, Fault};
+use run_command::Host;
 use std::alloc::Global;
 use std::io;
 use std::io::ErrorKind;
@@ -19,13 +20,16 @@ const USAGE: u8 = 2;
 
 /// The program: carries out the command that the words ask for, on the files that they name, from the input to the
 /// output, and prints on error output its fault, in a line that begins with `poolman: `. Gives the exit status: 0 where
-/// the command is done; 1 where there is no plan, or the report is not shown; 2 where the words are no command's or ask
+/// the command is done; 1 where there is no plan, also in a round of a run, or the report is not shown; 2 where the words are no command's or ask
 /// for help, and then what `clap` says of them is on error output; 3 where input is refused, and 4 where memory or a
 /// device failed.
 ///
 /// The first word is the program's name. Words that are no text in UTF-8 are no command's.
-pub fn program<F: Folder, R: Source, W: Sink, E: Sink>(
+///
+/// A run is on the host, and what the host does with the attempts of which it is told is its own: nothing is said of it here.
+pub fn program<F: Folder, H: Host, R: Source, W: Sink, E: Sink>(
     files: &F,
+    host: &H,
     words: io::Result<Vec<String>>,
     alloc: Global,
     input: &mut R,
@@ -41,14 +45,15 @@ pub fn program<F: Folder, R: Source, W: Sink, E: Sink>(
         (record { output = W.output output.new; errors = E.output errors.new }) result }
 {
     match words {
-        Ok(words) => obey(files, &words, alloc, input, output, errors),
+        Ok(words) => obey(files, host, &words, alloc, input, output, errors),
         Err(error) => no_words(alloc, error.kind(), errors),
     }
 }
 
 /// Carries out the command of the words, or prints why they are none. Gives the exit status.
-fn obey<F: Folder, R: Source, W: Sink, E: Sink>(
+fn obey<F: Folder, H: Host, R: Source, W: Sink, E: Sink>(
     files: &F,
+    host: &H,
     words: &[String],
     alloc: Global,
     input: &mut R,
@@ -65,7 +70,7 @@ fn obey<F: Folder, R: Source, W: Sink, E: Sink>(
 {
     match command_of(alloc, words) {
         Ok(command) => {
-            let exit = carry_out(files, alloc, &command, input, output);
+            let exit = carry_out(files, host, alloc, &command, input, output);
             end(alloc, exit, errors)
         }
         Err(CommandError::Usage(error)) => advise(alloc, &error, errors),

@@ -1,5 +1,6 @@
 //! Commands on files, and the whole program.
 
+mod away;
 mod files;
 mod one_worker;
 mod whole;

@@ -8,6 +8,7 @@ mod system;
 mod text;
 
 pub use host::Host;
+pub use pool_supervisor::{Attempt, Progress, Watch};
 pub use running::run_rounds;
 pub use stock::{StockJob, stock_jobs};
 pub use system::System;

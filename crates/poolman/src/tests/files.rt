@@ -1,5 +1,6 @@
 //! Commands on files, of which two are there.
 
+use super::away::Away;
 use super::one_worker::{LIMIT, REPORT, SETTINGS, STATUS};
 use crate::carry_out::carry_out;
 use command_line::Command;
@@ -7,6 +8,7 @@ use devices::Folder;
 use gear_status::{SliceSource, VecSink};
 use plan_commands::{Exit, Fault};
 use pool_settings::SettingsError;
+use run_command::Host;
 use std::alloc::{AllocError, Global};
 use std::io;
 use std::io::ErrorKind;
@@ -40,7 +42,8 @@ impl<'a> Folder for TwoFiles<'a> {
 }
 
 /// Whether a command on standard input ends so and writes so much.
-fn carries_out(
+fn carries_out<H: Host>(
+    host: &H,
     alloc: Global,
     command: &Command<'_>,
     input: &[u8],
@@ -53,7 +56,7 @@ fn carries_out(
     };
     let mut source = SliceSource::new(input);
     let mut sink = VecSink::new(alloc);
-    carry_out(&files, alloc, command, &mut source, &mut sink) == exit && sink.bytes() == output
+    carry_out(&files, host, alloc, command, &mut source, &mut sink) == exit && sink.bytes() == output
 }
 
 fn plan<'a>(alloc: Global, settings: &'a str) -> Command<'a> {
@@ -74,23 +77,32 @@ fn check<'a>(alloc: Global, settings: &'a str, status: &'a str) -> Command<'a> {
 #[test]
 fn commands_read_their_files(rt: HostRuntime) {
     let alloc = rt.alloc();
+    let host = Away { rt: &rt };
     let done = Exit::answered(0);
-    assert!(rt; carries_out(alloc, &plan(alloc, "settings.toml"), STATUS, done, REPORT));
+    assert!(rt; carries_out(&host, alloc, &plan(alloc, "settings.toml"), STATUS, done, REPORT));
     let check = check(alloc, "settings.toml", "status.txt");
-    assert!(rt; carries_out(alloc, &check, REPORT, done, b"shown\n"));
+    assert!(rt; carries_out(&host, alloc, &check, REPORT, done, b"shown\n"));
     let replay = Command::Replay {
         settings: "settings.toml",
     };
-    assert!(rt; carries_out(alloc, &replay, b"", done, b""));
+    assert!(rt; carries_out(&host, alloc, &replay, b"", done, b""));
+    let run = Command::Run {
+        settings: "settings.toml",
+        rounds: 1,
+    };
+    let unreached = b"attempt 1 nolink\ntotals grabbed 0 running 0 reported 0 lost 0 rounds 0 events 0\n";
+    assert!(rt; carries_out(&host, alloc, &run, b"", done, unreached));
 }
 
 #[test]
 fn files_that_are_not_there_are_told_first(rt: HostRuntime) {
     let alloc = rt.alloc();
+    let host = Away { rt: &rt };
     let missing = Exit::refused(Fault::NoFile);
-    assert!(rt; carries_out(alloc, &plan(alloc, "none"), b"", missing, b""));
+    assert!(rt; carries_out(&host, alloc, &plan(alloc, "none"), b"", missing, b""));
     assert!(rt;
         carries_out(
+            &host,
             alloc,
             &check(alloc, "status.txt", "none"),
             b"",
@@ -100,11 +112,17 @@ fn files_that_are_not_there_are_told_first(rt: HostRuntime) {
     );
     let swapped = check(alloc, "status.txt", "settings.toml");
     let text = Exit::refused(Fault::Settings(SettingsError::Text));
-    assert!(rt; carries_out(alloc, &swapped, REPORT, text, b""));
+    assert!(rt; carries_out(&host, alloc, &swapped, REPORT, text, b""));
 }
 
 /// How `check` of these two files in their folder ends, by the names that it is given.
-fn check_ends(alloc: Global, texts: (&[u8], &[u8]), settings: &str, status: &str) -> Exit {
+fn check_ends<H: Host>(
+    host: &H,
+    alloc: Global,
+    texts: (&[u8], &[u8]),
+    settings: &str,
+    status: &str,
+) -> Exit {
     let files = TwoFiles {
         settings: texts.0,
         status: texts.1,
@@ -112,20 +130,21 @@ fn check_ends(alloc: Global, texts: (&[u8], &[u8]), settings: &str, status: &str
     let mut source = SliceSource::new(REPORT);
     let mut sink = VecSink::new(alloc);
     let command = check(alloc, settings, status);
-    carry_out(&files, alloc, &command, &mut source, &mut sink)
+    carry_out(&files, host, alloc, &command, &mut source, &mut sink)
 }
 
 #[test]
 fn files_are_read_in_the_order_of_the_words(rt: HostRuntime) -> Result<(), AllocError> {
     let alloc = rt.alloc();
+    let host = Away { rt: &rt };
     let mut long = Vec::from_slice(alloc, STATUS)?;
     long.resize(LIMIT + 1, b'x')?;
     let long = long.as_slice();
     let too_long = Exit::refused(Fault::TooLong);
     let missing = Exit::refused(Fault::NoFile);
-    assert!(rt; check_ends(alloc, (long, STATUS), "settings.toml", "none") == too_long);
-    assert!(rt; check_ends(alloc, (SETTINGS, long), "none", "status.txt") == missing);
-    assert!(rt; check_ends(alloc, (SETTINGS, long), "settings.toml", "status.txt") == too_long);
-    assert!(rt; check_ends(alloc, (b"", long), "settings.toml", "status.txt") == too_long);
+    assert!(rt; check_ends(&host, alloc, (long, STATUS), "settings.toml", "none") == too_long);
+    assert!(rt; check_ends(&host, alloc, (SETTINGS, long), "none", "status.txt") == missing);
+    assert!(rt; check_ends(&host, alloc, (SETTINGS, long), "settings.toml", "status.txt") == too_long);
+    assert!(rt; check_ends(&host, alloc, (b"", long), "settings.toml", "status.txt") == too_long);
     Ok(())
 }

@@ -2,10 +2,12 @@
 
 ghost use Rattle.std.specs.Prelude.{◌≡◌};
 
+use super::away::Away;
 use super::files::TwoFiles;
 use super::one_worker::{REPORT, SETTINGS, STATUS};
 use crate::program::program;
 use gear_status::{Script, SliceSource, VecSink};
+use run_command::Host;
 use std::alloc::{AllocError, Global};
 use std::io;
 use std::io::ErrorKind;
@@ -27,7 +29,8 @@ impl Left {
 }
 
 /// Runs the program on these words and this input, into an output.
-fn run_into(
+fn run_into<H: Host>(
+    host: &H,
     alloc: Global,
     words: &[&str],
     input: &[u8],
@@ -46,7 +49,9 @@ fn run_into(
     let mut source = SliceSource::new(input);
     let mut errors = VecSink::new(alloc);
     let words = Ok(list);
-    let status = program(&files, words, alloc, &mut source, &mut output, &mut errors);
+    let status = program(
+        &files, host, words, alloc, &mut source, &mut output, &mut errors,
+    );
     Ok(Left {
         status,
         output: Vec::from_slice(alloc, output.output())?,
@@ -54,38 +59,65 @@ fn run_into(
     })
 }
 
-fn run(alloc: Global, words: &[&str], input: &[u8]) -> Result<Left, AllocError> {
-    run_into(alloc, words, input, Script::new(alloc))
+fn run<H: Host>(
+    host: &H,
+    alloc: Global,
+    words: &[&str],
+    input: &[u8],
+) -> Result<Left, AllocError> {
+    run_into(host, alloc, words, input, Script::new(alloc))
 }
 
 #[test]
 fn answers_are_on_the_output(rt: HostRuntime) -> Result<(), AllocError> {
     let alloc = rt.alloc();
-    let plan = run(alloc, &["poolman", "plan", "settings.toml"], STATUS)?;
+    let host = Away { rt: &rt };
+    let plan = run(&host, alloc, &["poolman", "plan", "settings.toml"], STATUS)?;
     assert!(rt; plan.is(0, REPORT, b""));
     let lost = run(
+        &host,
         alloc,
         &["poolman", "plan", "settings.toml", "a/0"],
         b"x\t7\t0\t0\n.\n",
     )?;
     assert!(rt; lost.is(0, b"report 1\nbacklog 0\nstranded x 7\nend\n", b""));
     let check = ["poolman", "check", "settings.toml", "status.txt"];
-    assert!(rt; run(alloc, &check, REPORT)?.is(0, b"shown\n", b""));
-    let other = run(alloc, &check, b"report 1\nbacklog 1\nwork a/0 x\nend\n")?;
+    assert!(rt; run(&host, alloc, &check, REPORT)?.is(0, b"shown\n", b""));
+    let other = run(&host, alloc, &check, b"report 1\nbacklog 1\nwork a/0 x\nend\n")?;
     assert!(rt; other.is(1, b"not shown 3 WrongBacklog\n", b""));
+    Ok(())
+}
+
+/// A run whose job server is not reached is done. Words that ask for no round are no command's.
+#[test]
+fn runs_are_told_on_the_output(rt: HostRuntime) -> Result<(), AllocError> {
+    let alloc = rt.alloc();
+    let host = Away { rt: &rt };
+    let told = run(&host, alloc, &["poolman", "run", "settings.toml", "2"], b"")?;
+    let lines = b"attempt 1 nolink
+attempt 2 nolink
+totals grabbed 0 running 0 reported 0 lost 0 rounds 0 events 0
+";
+    assert!(rt; told.is(0, lines, b""));
+    let missing = run(&host, alloc, &["poolman", "run", "none", "2"], b"")?;
+    assert!(rt; missing.is(4, b"", b"poolman: device 3 NoFile\n"));
+    let none = run(&host, alloc, &["poolman", "run", "settings.toml", "0"], b"")?;
+    assert!(rt; none.status == 2 && none.output.is_empty() && !none.errors.is_empty());
     Ok(())
 }
 
 #[test]
 fn faults_are_on_error_output(rt: HostRuntime) -> Result<(), AllocError> {
     let alloc = rt.alloc();
-    let missing = run(alloc, &["poolman", "plan", "none"], STATUS)?;
+    let host = Away { rt: &rt };
+    let missing = run(&host, alloc, &["poolman", "plan", "none"], STATUS)?;
     assert!(rt; missing.is(4, b"", b"poolman: device 3 NoFile\n"));
-    let lost = run(alloc, &["poolman", "plan", "settings.toml", "b/0"], STATUS)?;
+    let lost = run(&host, alloc, &["poolman", "plan", "settings.toml", "b/0"], STATUS)?;
     assert!(rt; lost.is(3, b"", b"poolman: lost 1 UnknownWorker\n"));
-    let cut = run(alloc, &["poolman", "plan", "settings.toml"], b"x\t0\n")?;
+    let cut = run(&host, alloc, &["poolman", "plan", "settings.toml"], b"x\t0\n")?;
     assert!(rt; cut.is(3, b"", b"poolman: status 1 BadLine line 1\n"));
     let replay = run(
+        &host,
         alloc,
         &["poolman", "replay", "settings.toml"],
         b"join a/0\nleap\n",
@@ -97,10 +129,11 @@ fn faults_are_on_error_output(rt: HostRuntime) -> Result<(), AllocError> {
 #[test]
 fn an_output_that_fails_is_told(rt: HostRuntime) -> Result<(), AllocError> {
     let alloc = rt.alloc();
+    let host = Away { rt: &rt };
     let mut output = Script::new(alloc);
     output.give_at_most(4);
     output.fail_give(3);
-    let left = run_into(alloc, &["poolman", "plan", "settings.toml"], STATUS, output)?;
+    let left = run_into(&host, alloc, &["poolman", "plan", "settings.toml"], STATUS, output)?;
     assert!(rt; left.is(4, b"report 1", b"poolman: device 2 WriteFault\n"));
     Ok(())
 }
@@ -108,15 +141,19 @@ fn an_output_that_fails_is_told(rt: HostRuntime) -> Result<(), AllocError> {
 #[test]
 fn words_of_no_command_are_told_on_error_output(rt: HostRuntime) -> Result<(), AllocError> {
     let alloc = rt.alloc();
-    let none = run(alloc, &["poolman"], STATUS)?;
+    let host = Away { rt: &rt };
+    let none = run(&host, alloc, &["poolman"], STATUS)?;
     assert!(rt; none.status == 2 && none.output.is_empty() && !none.errors.is_empty());
-    let help = run(alloc, &["poolman", "plan", "--help"], STATUS)?;
+    let help = run(&host, alloc, &["poolman", "plan", "--help"], STATUS)?;
     assert!(rt; help.status == 2 && help.output.is_empty() && !help.errors.is_empty());
     Ok(())
 }
 
 /// The exit status where the system gives no words, and what is on error output.
-fn without_words(alloc: Global, kind: ErrorKind) -> Result<Left, AllocError> {
+fn without_words<H: Host>(
+    host: &H,
+    alloc: Global, kind: ErrorKind,
+) -> Result<Left, AllocError> {
     let files = TwoFiles {
         settings: SETTINGS,
         status: STATUS,
@@ -125,7 +162,9 @@ fn without_words(alloc: Global, kind: ErrorKind) -> Result<Left, AllocError> {
     let mut errors = VecSink::new(alloc);
     let words = Err(io::Error::from(kind));
     let mut source = SliceSource::new(STATUS);
-    let status = program(&files, words, alloc, &mut source, &mut output, &mut errors);
+    let status = program(
+        &files, host, words, alloc, &mut source, &mut output, &mut errors,
+    );
     Ok(Left {
         status,
         output: Vec::from_slice(alloc, output.bytes())?,
@@ -136,8 +175,9 @@ fn without_words(alloc: Global, kind: ErrorKind) -> Result<Left, AllocError> {
 #[test]
 fn words_that_the_system_does_not_give(rt: HostRuntime) -> Result<(), AllocError> {
     let alloc = rt.alloc();
+    let host = Away { rt: &rt };
     let text = b"poolman: the command line is not UTF-8\n";
-    assert!(rt; without_words(alloc, ErrorKind::InvalidData)?.is(2, b"", text));
-    assert!(rt; without_words(alloc, ErrorKind::OutOfMemory)?.is(4, b"", b"poolman: memory\n"));
+    assert!(rt; without_words(&host, alloc, ErrorKind::InvalidData)?.is(2, b"", text));
+    assert!(rt; without_words(&host, alloc, ErrorKind::OutOfMemory)?.is(4, b"", b"poolman: memory\n"));
     Ok(())
 }
