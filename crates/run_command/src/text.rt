@@ -1,6 +1,7 @@
 //! What a run writes.
 
 ghost use Rattle.std.specs.Prelude.{◌≡◌, ◌^◌, ◌<◌, IfOk, length, string_bytes};
+ghost use Rattle.std.specs.List.{list_any};
 ghost use Rattle.run_command.specs.Run as spec;
 
 use pool_replay::totals_line;
@@ -36,12 +37,23 @@ pub fn run_text(alloc: Global, ended: &RunEnd) -> Result<String, AllocError>
     Ok(text)
 }
 
+/// Whether it is a round without a plan.
+fn has_no_plan(attempt: &Attempt) -> bool
+    ensures { result ≡ spec.has_no_plan attempt.now }
+{
+    matches!(attempt, Attempt::NoPlan { .. })
+}
+
+/// Whether some round had no plan.
+fn some_lack_a_plan(attempts: &[Attempt]) -> bool
+    ensures { result ≡ list_any spec.has_no_plan attempts.now }
+{
+    attempts.iter().any(|attempt| has_no_plan(attempt))
+}
+
 /// 1 where some round had no plan, and else 0.
 pub fn status_after(attempts: &[Attempt]) -> u8
     ensures { result ≡ spec.status_after attempts.now }
 {
-    let is_without = attempts
-        .iter()
-        .any(|attempt| matches!(attempt, Attempt::NoPlan { .. }));
-    if is_without { 1 } else { 0 }
+    if some_lack_a_plan(attempts) { 1 } else { 0 }
 }
