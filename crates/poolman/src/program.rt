@@ -20,13 +20,12 @@ const USAGE: u8 = 2;
 
 /// The program: carries out the command that the words ask for, on the files that they name, from the input to the
 /// output, and prints on error output its fault, in a line that begins with `poolman: `. Gives the exit status: 0 where
-/// the command is done; 1 where there is no plan, also in a round of a run, or the report is not shown; 2 where the words are no command's or ask
-/// for help, and then what `clap` says of them is on error output; 3 where input is refused, and 4 where memory or a
-/// device failed.
+/// the command is done; 1 where there is no plan, in a round of a run too, or the report is not shown; 2 where the words
+/// are no command's or ask for help, and then what `clap` says of them is on error output; 3 where input is refused, and
+/// 4 where memory or a device failed.
 ///
-/// The first word is the program's name. Words that are no text in UTF-8 are no command's.
-///
-/// A run is on the host, and what the host does with the attempts of which it is told is its own: nothing is said of it here.
+/// The first word is the program's name. Words that are no text in UTF-8 are no command's. A run is on the host; of what
+/// the host does with the attempts of which it is told nothing is said here.
 pub fn program<F: Folder, H: Host, R: Source, W: Sink, E: Sink>(
     files: &F,
     host: &H,

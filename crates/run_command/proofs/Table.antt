@@ -1,10 +1,11 @@
 -- The table of the stock jobs.
-use Rattle.std.proofs.Common.{◌≡◌, ◌∙◌, ap, ℕ, List, [], ◌∷◌, Bool, true, false, Vec, Global, map, refl}
+use Rattle.std.proofs.Common.{◌≡◌, ◌∙◌, ap, sym, ℕ, List, [], ◌∷◌, Bool, true, false, Vec, Global, map, refl}
 use Rattle.std.specs.List.{AllByRecursion}
 use Rattle.std.specs.Str.{bytes_eq}
 use Rattle.job_runner.specs.Table.{told_by}
-use Rattle.run_command.specs.Stock.{name_of, told}
+use Rattle.run_command.specs.Stock.{name_of, told, told_by_name}
 use Rattle.run_command.specs.declared.stock.StockJob.{StockJob}
+use Rattle.run_command.specs.declared.stock.StockJob.TheVariants.{Reverse, Length, Echo}
 
 -- entries that have the names of their jobs tell as the jobs
 pub same_jobs : (entries : List (Vec ℕ Global × StockJob)) → AllByRecursion (λ e. e.0.items ≡ name_of e.1) entries
@@ -18,3 +19,17 @@ same_jobs (e ∷ es) (same, rest) name input = by (bytes_eq (name_of e.1) name) 
         → told_by (λ f. f.0.items) (λ f. told f.1) (e ∷ es) name input ≡ told_by name_of told (map (λ f. f.1) (e ∷ es)) name input
     by true is others = rw (ap (λ t. bytes_eq t name) same ∙ is, is) refl
     by false is others = rw (ap (λ t. bytes_eq t name) same ∙ is, is) others
+
+-- the entry of a job under its name
+abbrev pub IsNamed : StockJob → Vec ℕ Global × StockJob → Type 0
+IsNamed job entry = (entry.0.items ≡ name_of job) × (entry.1 ≡ job)
+
+own_name : (job : StockJob) (entry : Vec ℕ Global × StockJob) → IsNamed job entry → entry.0.items ≡ name_of entry.1
+own_name job entry named = named.0 ∙ ap name_of (sym named.1)
+
+-- the three entries tell what the jobs are said to tell
+pub three_jobs : (a b c : Vec ℕ Global × StockJob) → IsNamed Reverse a → IsNamed Length b → IsNamed Echo c
+    → (name input : List ℕ) → told_by (λ e. e.0.items) (λ e. told e.1) (a ∷ b ∷ c ∷ []) name input ≡ told_by_name name input
+three_jobs a b c first second third name input =
+    same_jobs (a ∷ b ∷ c ∷ []) (own_name Reverse a first, (own_name Length b second, (own_name Echo c third, tt))) name input
+    ∙ rw (first.1, second.1, third.1) refl

@@ -42,12 +42,7 @@ struct Told {
 }
 
 /// Runs the pool of these settings.
-fn run_told<H: Host>(
-    host: &H,
-    alloc: Global,
-    settings: &[u8],
-    rounds: u32,
-) -> Result<Told, Fault>
+fn run_told<H: Host>(host: &H, alloc: Global, settings: &[u8], rounds: u32) -> Result<Told, Fault>
     ensures meant { IfOk result (λ _. HaveMeaning settings.now) }
     ensures lines { IfOk result (λ told. length told.ended.lines.items ≡ rounds) }
     ensures text { IfOk result (λ told. string_bytes told.text ≡ spec.run_text told.ended) }

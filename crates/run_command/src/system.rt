@@ -5,13 +5,12 @@ use crate::host::Host;
 use job_runner::TcpLink;
 use pool_supervisor::{Attempt, Progress, Watch, attempt_line};
 use std::alloc::Global;
-use std::env;
 use std::net::{Net, TcpStream};
 use std::rt::{Clock, Env};
 use std::sync::Wait;
-use std::thread;
 use std::thread::Threads;
 use std::time::Duration;
+use std::{env, thread};
 
 /// The variable of the environment by which a run is watched.
 const WATCH: &str = "POOLMAN_WATCH";

@@ -5,16 +5,13 @@ use run_command::stock_jobs;
 use std::alloc::{AllocError, Global};
 
 /// Whether the job of this name completes with this result and says nothing before it.
-fn completes(
-    alloc: Global,
-    name: &[u8],
-    input: &[u8],
-    wanted: &[u8],
-) -> Result<bool, AllocError> {
+fn completes(alloc: Global, name: &[u8], input: &[u8], wanted: &[u8]) -> Result<bool, AllocError> {
     let jobs = stock_jobs(alloc)?;
     match jobs.run(alloc, name, input)? {
-        Some(outcome) => Ok(outcome.notes.is_empty()
-            && matches!(&outcome.end, End::Complete(result) if result.as_slice() == wanted)),
+        Some(outcome) => Ok(
+            outcome.notes.is_empty()
+                && matches!(&outcome.end, End::Complete(result) if result.as_slice() == wanted),
+        ),
         None => Ok(false),
     }
 }
@@ -27,7 +24,12 @@ fn jobs_by_name(rt: HostRuntime) -> Result<(), AllocError> {
     assert!(rt; completes(alloc, b"length", b"a\x00bc\xffdefgh", b"10")?);
     assert!(rt; completes(alloc, b"length", b"", b"0")?);
     assert!(rt; completes(alloc, b"echo", b"a\x00bc", b"a\x00bc")?);
-    for name in [b"".as_slice(), b"rev".as_slice(), b"Echo".as_slice(), b"echo ".as_slice()] {
+    for name in [
+        b"".as_slice(),
+        b"rev".as_slice(),
+        b"Echo".as_slice(),
+        b"echo ".as_slice(),
+    ] {
         assert!(rt; stock_jobs(alloc)?.run(alloc, name, b"a")?.is_none());
     }
     Ok(())

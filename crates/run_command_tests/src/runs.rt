@@ -169,7 +169,8 @@ fn fails_after<H: Host>(host: &H, alloc: Global, sent: u32) -> bool {
     sink.give_at_most(1);
     sink.fail_give(u64::from(sent) + 1);
     let exit = run_rounds(host, alloc, ONE, 3, &mut sink);
-    exit == Exit::refused(Fault::WriteFault) && UNREACHED.get(..sent as usize) == Some(sink.output())
+    exit == Exit::refused(Fault::WriteFault)
+        && UNREACHED.get(..sent as usize) == Some(sink.output())
 }
 
 #[test]

@@ -56,7 +56,8 @@ fn carries_out<H: Host>(
     };
     let mut source = SliceSource::new(input);
     let mut sink = VecSink::new(alloc);
-    carry_out(&files, host, alloc, command, &mut source, &mut sink) == exit && sink.bytes() == output
+    carry_out(&files, host, alloc, command, &mut source, &mut sink) == exit
+        && sink.bytes() == output
 }
 
 fn plan<'a>(alloc: Global, settings: &'a str) -> Command<'a> {
@@ -79,7 +80,16 @@ fn commands_read_their_files(rt: HostRuntime) {
     let alloc = rt.alloc();
     let host = Away { rt: &rt };
     let done = Exit::answered(0);
-    assert!(rt; carries_out(&host, alloc, &plan(alloc, "settings.toml"), STATUS, done, REPORT));
+    assert!(rt;
+        carries_out(
+            &host,
+            alloc,
+            &plan(alloc, "settings.toml"),
+            STATUS,
+            done,
+            REPORT
+        )
+    );
     let check = check(alloc, "settings.toml", "status.txt");
     assert!(rt; carries_out(&host, alloc, &check, REPORT, done, b"shown\n"));
     let replay = Command::Replay {
@@ -90,7 +100,8 @@ fn commands_read_their_files(rt: HostRuntime) {
         settings: "settings.toml",
         rounds: 1,
     };
-    let unreached = b"attempt 1 nolink\ntotals grabbed 0 running 0 reported 0 lost 0 rounds 0 events 0\n";
+    let unreached =
+        b"attempt 1 nolink\ntotals grabbed 0 running 0 reported 0 lost 0 rounds 0 events 0\n";
     assert!(rt; carries_out(&host, alloc, &run, b"", done, unreached));
 }
 
@@ -144,7 +155,15 @@ fn files_are_read_in_the_order_of_the_words(rt: HostRuntime) -> Result<(), Alloc
     let missing = Exit::refused(Fault::NoFile);
     assert!(rt; check_ends(&host, alloc, (long, STATUS), "settings.toml", "none") == too_long);
     assert!(rt; check_ends(&host, alloc, (SETTINGS, long), "none", "status.txt") == missing);
-    assert!(rt; check_ends(&host, alloc, (SETTINGS, long), "settings.toml", "status.txt") == too_long);
+    assert!(rt;
+        check_ends(
+            &host,
+            alloc,
+            (SETTINGS, long),
+            "settings.toml",
+            "status.txt"
+        ) == too_long
+    );
     assert!(rt; check_ends(&host, alloc, (b"", long), "settings.toml", "status.txt") == too_long);
     Ok(())
 }

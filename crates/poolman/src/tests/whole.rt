@@ -50,7 +50,13 @@ fn run_into<H: Host>(
     let mut errors = VecSink::new(alloc);
     let words = Ok(list);
     let status = program(
-        &files, host, words, alloc, &mut source, &mut output, &mut errors,
+        &files,
+        host,
+        words,
+        alloc,
+        &mut source,
+        &mut output,
+        &mut errors,
     );
     Ok(Left {
         status,
@@ -59,12 +65,7 @@ fn run_into<H: Host>(
     })
 }
 
-fn run<H: Host>(
-    host: &H,
-    alloc: Global,
-    words: &[&str],
-    input: &[u8],
-) -> Result<Left, AllocError> {
+fn run<H: Host>(host: &H, alloc: Global, words: &[&str], input: &[u8]) -> Result<Left, AllocError> {
     run_into(host, alloc, words, input, Script::new(alloc))
 }
 
@@ -83,7 +84,12 @@ fn answers_are_on_the_output(rt: HostRuntime) -> Result<(), AllocError> {
     assert!(rt; lost.is(0, b"report 1\nbacklog 0\nstranded x 7\nend\n", b""));
     let check = ["poolman", "check", "settings.toml", "status.txt"];
     assert!(rt; run(&host, alloc, &check, REPORT)?.is(0, b"shown\n", b""));
-    let other = run(&host, alloc, &check, b"report 1\nbacklog 1\nwork a/0 x\nend\n")?;
+    let other = run(
+        &host,
+        alloc,
+        &check,
+        b"report 1\nbacklog 1\nwork a/0 x\nend\n",
+    )?;
     assert!(rt; other.is(1, b"not shown 3 WrongBacklog\n", b""));
     Ok(())
 }
@@ -112,9 +118,19 @@ fn faults_are_on_error_output(rt: HostRuntime) -> Result<(), AllocError> {
     let host = Away { rt: &rt };
     let missing = run(&host, alloc, &["poolman", "plan", "none"], STATUS)?;
     assert!(rt; missing.is(4, b"", b"poolman: device 3 NoFile\n"));
-    let lost = run(&host, alloc, &["poolman", "plan", "settings.toml", "b/0"], STATUS)?;
+    let lost = run(
+        &host,
+        alloc,
+        &["poolman", "plan", "settings.toml", "b/0"],
+        STATUS,
+    )?;
     assert!(rt; lost.is(3, b"", b"poolman: lost 1 UnknownWorker\n"));
-    let cut = run(&host, alloc, &["poolman", "plan", "settings.toml"], b"x\t0\n")?;
+    let cut = run(
+        &host,
+        alloc,
+        &["poolman", "plan", "settings.toml"],
+        b"x\t0\n",
+    )?;
     assert!(rt; cut.is(3, b"", b"poolman: status 1 BadLine line 1\n"));
     let replay = run(
         &host,
@@ -133,7 +149,13 @@ fn an_output_that_fails_is_told(rt: HostRuntime) -> Result<(), AllocError> {
     let mut output = Script::new(alloc);
     output.give_at_most(4);
     output.fail_give(3);
-    let left = run_into(&host, alloc, &["poolman", "plan", "settings.toml"], STATUS, output)?;
+    let left = run_into(
+        &host,
+        alloc,
+        &["poolman", "plan", "settings.toml"],
+        STATUS,
+        output,
+    )?;
     assert!(rt; left.is(4, b"report 1", b"poolman: device 2 WriteFault\n"));
     Ok(())
 }
@@ -150,10 +172,7 @@ fn words_of_no_command_are_told_on_error_output(rt: HostRuntime) -> Result<(), A
 }
 
 /// The exit status where the system gives no words, and what is on error output.
-fn without_words<H: Host>(
-    host: &H,
-    alloc: Global, kind: ErrorKind,
-) -> Result<Left, AllocError> {
+fn without_words<H: Host>(host: &H, alloc: Global, kind: ErrorKind) -> Result<Left, AllocError> {
     let files = TwoFiles {
         settings: SETTINGS,
         status: STATUS,
@@ -163,7 +182,13 @@ fn without_words<H: Host>(
     let words = Err(io::Error::from(kind));
     let mut source = SliceSource::new(STATUS);
     let status = program(
-        &files, host, words, alloc, &mut source, &mut output, &mut errors,
+        &files,
+        host,
+        words,
+        alloc,
+        &mut source,
+        &mut output,
+        &mut errors,
     );
     Ok(Left {
         status,
@@ -178,6 +203,8 @@ fn words_that_the_system_does_not_give(rt: HostRuntime) -> Result<(), AllocError
     let host = Away { rt: &rt };
     let text = b"poolman: the command line is not UTF-8\n";
     assert!(rt; without_words(&host, alloc, ErrorKind::InvalidData)?.is(2, b"", text));
-    assert!(rt; without_words(&host, alloc, ErrorKind::OutOfMemory)?.is(4, b"", b"poolman: memory\n"));
+    assert!(rt;
+        without_words(&host, alloc, ErrorKind::OutOfMemory)?.is(4, b"", b"poolman: memory\n")
+    );
     Ok(())
 }

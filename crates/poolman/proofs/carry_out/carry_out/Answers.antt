@@ -1,4 +1,5 @@
-use Rattle.std.proofs.Common.{inl, map, subst, sym, ap, ◌∙◌}
+use Rattle.std.proofs.Common.{inl, map, refl, subst, sym, ap, ◌∙◌}
+use Rattle.plan_commands.proofs.Posing.{meets_nothing, nothing_from}
 use Rattle.command_line.specs.Named.{named}
 use Rattle.devices.specs.Folder.{IsRead}
 use Rattle.plan_commands.specs.Fault.{refused}
@@ -74,5 +75,29 @@ returns-in-Ok g c =
         told.1,
         subst (λ command. CarriesOut file (named command) told.0 old new c.plan_text.result) (sym c.in-Plan.is)
             (planned file c.in-Plan.settings.now (map (λ w. w.now) c.in-Plan.lost.items) c.deref.result.now told.0 old new c.plan_text.result read plans),
+      );
+    }
+
+pub returns-in-Err-read_file-2 : goal.returns-in-Err-read_file-2
+returns-in-Err-read_file-2 g c = record {
+  carries_out = unread (g.F.Folder.file c.args.files.now) (named c.args.command.now) (g.R.Device.input c.args.source.now)
+      (g.S.Device.output c.args.sink.now) c.in-Err-read_file-2.error c.refused-in-Err-read_file-2.result
+      (c.refused-in-Err-read_file-2.ensures ∙ ap refused c.from-in-Err-read_file-2.ensures) (rw c.in-Run.is c.in-Err-read_file-2.ensures.err);
+}
+
+-- nothing was taken
+pub returns-in-Ok-read_file-2 : goal.returns-in-Ok-read_file-2
+returns-in-Ok-read_file-2 g c =
+    let side = g.R.Device.input c.args.source.now in record {
+      carries_out = (
+        nothing_from side,
+        meets_nothing side,
+        rw c.in-Run.is (inl (
+          c.deref-in-Ok-read_file-2.result.now,
+          subst (IsRead (g.F.Folder.file c.args.files.now c.in-Run.settings.now)) (sym c.deref-in-Ok-read_file-2.ensures.value)
+              c.in-Ok-read_file-2.ensures.whole,
+          (refl, refl, refl),
+          c.run_rounds.ensures.supervises,
+        )),
       );
     }

@@ -1,4 +1,4 @@
-use Rattle.std.proofs.Common.{inl, sym, subst, ap, ◌∙◌}
+use Rattle.std.proofs.Common.{inl, subst, ap, ◌∙◌}
 use Rattle.plan_commands.specs.Ending.{Delivers}
 use Rattle.plan_commands.specs.Fault.{answered}
 use Rattle.run_command.specs.Run.{run_text, status_after}
