@@ -89,7 +89,8 @@ fixed_form p verb args =
     else (if bytes_eq verb (codes "job") then job_in args
     else (if bytes_eq verb (codes "order") then order_in p args
     else (if bytes_eq verb (codes "totals") then alone command.Totals args
-    else None)))))))))))
+    else (if bytes_eq verb (codes "chapter") then alone command.Chapter args
+    else None))))))))))))
 
 abbrev pub form_in : Profile → List ℕ → List (List ℕ) → Option Command
 form_in p verb args = if bytes_eq verb (codes "load") then load_in args else fixed_form p verb args

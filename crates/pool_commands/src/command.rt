@@ -99,4 +99,6 @@ pub enum Command {
     Order(SlotId),
     /// `totals`: how many jobs, rounds and events there are.
     Totals,
+    /// `chapter`: the end of the chapter of the history.
+    Chapter,
 }

@@ -186,6 +186,8 @@ pub fn fixed_form(
         Ok(order_in(settings, args))
     } else if verb == b"totals".as_slice() {
         Ok(alone(Command::Totals, args))
+    } else if verb == b"chapter".as_slice() {
+        Ok(alone(Command::Chapter, args))
     } else {
         Ok(None)
     }

@@ -27,6 +27,7 @@
 //! | `job TICKET` | how a job stands |
 //! | `order W` | the order of the slot |
 //! | `totals` | how many jobs, rounds and events there are |
+//! | `chapter` | the end of the chapter of the history |
 //!
 //! Words are separated by one space. So a line with two spaces in a row or one at an end has an empty word, which is taken
 //! nowhere, and the empty line is no command.

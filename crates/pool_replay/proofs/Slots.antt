@@ -1,5 +1,5 @@
 -- A pool has as many slots as its settings say.
-use Rattle.std.proofs.Common.{◌≡◌, ℕ, List, [], ◌∷◌, ◌++◌, length, ap, refl, ◌∙◌}
+use Rattle.std.proofs.Common.{◌≡◌, ℕ, List, [], ◌∷◌, length, ap, refl, ◌∙◌}
 use Rattle.std.proofs.lemmas.List.{length-set, length-replicate}
 use Rattle.plan_model.specs.declared.answer.Answer.TheVariants as answers
 use Rattle.pool_settings.specs.Profile.{Profile}

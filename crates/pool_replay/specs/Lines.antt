@@ -1,5 +1,5 @@
 -- What a command prints, without its line feed.
-use Rattle.std.specs.Prelude.{ℕ, ◌-◌, ◌^◌, ◌++◌, List, [], Option, Some, None, Result, Ok, Err, codes, nat_lt, if◌then◌else◌}
+use Rattle.std.specs.Prelude.{ℕ, ◌-◌, ◌^◌, ◌++◌, List, [], length, Option, Some, None, Result, Ok, Err, codes, nat_lt, if◌then◌else◌}
 use Rattle.std.specs.Fmt.{decimal}
 use Rattle.plan_model.specs.Certificate.{Certificate}
 use Rattle.plan_model.specs.declared.answer.Answer.{Answer}
@@ -20,8 +20,10 @@ use Rattle.pool_core.specs.declared.error.JoinError.{JoinError}
 use Rattle.pool_core.specs.declared.error.ViewError.{ViewError}
 use Rattle.pool_core.specs.declared.error.GrabError.{GrabError}
 use Rattle.pool_core.specs.declared.error.ReportError.{ReportError}
+use Rattle.pool_core.specs.declared.error.ChapterError.{ChapterError}
+use Rattle.pool_core.specs.declared.event.Chapter.{Chapter}
 use Rattle.refusal.specs.Label.{Label, label_words}
-use Rattle.pool_core.specs.Refusal.{join_label, view_label, grab_label, report_label}
+use Rattle.pool_core.specs.Refusal.{join_label, view_label, grab_label, report_label, chapter_label}
 use Rattle.pool_core.specs.declared.answer.StayOrRetire.{StayOrRetire}
 use Rattle.pool_core.specs.declared.answer.StayOrRetire.TheVariants.{Stay, Retire}
 use Rattle.pool_core.specs.declared.answer.Totals.{Totals}
@@ -108,3 +110,8 @@ abbrev pub totals_line : Totals → List ℕ
 totals_line t =
     (codes "totals grabbed " ++ decimal t.grabbed ++ codes " running " ++ decimal t.running ++ codes " reported " ++ decimal t.reported)
     ++ (codes " lost " ++ decimal t.lost ++ codes " rounds " ++ decimal t.rounds ++ codes " events " ++ decimal t.events)
+
+-- the number of the chapter that has ended, and how many events were handed out with it
+abbrev pub chapter_line : Result Chapter ChapterError → List ℕ
+chapter_line (Ok chapter) = codes "ok chapter " ++ decimal chapter.number ++ codes " events " ++ decimal (length chapter.events.items)
+chapter_line (Err e) = refused (chapter_label e)

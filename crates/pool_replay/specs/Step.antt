@@ -20,6 +20,8 @@ use Rattle.pool_core.specs.declared.error.BeginError.{BeginError}
 use Rattle.pool_core.specs.declared.error.ReportError.{ReportError}
 use Rattle.pool_core.specs.declared.error.LoseError.{LoseError}
 use Rattle.pool_core.specs.declared.error.ExpireError.{ExpireError}
+use Rattle.pool_core.specs.declared.error.ChapterError.{ChapterError}
+use Rattle.pool_core.specs.declared.event.Chapter.{Chapter}
 use Rattle.pool_core.specs.declared.answer.StayOrRetire.{StayOrRetire}
 use Rattle.pool_core.specs.declared.answer.Ran.{Ran}
 use Rattle.refusal.specs.Label.{due}
@@ -31,7 +33,7 @@ use Rattle.pool_commands.specs.declared.command.Command.{Command}
 use Rattle.pool_commands.specs.declared.command.Command.TheVariants as command
 use Rattle.pool_replay.specs.declared.desk.Desk.{Desk}
 use Rattle.pool_replay.specs.Passes.{worker_cmp}
-use Rattle.pool_replay.specs.Lines.{ok_line, join_line, ran_or, view_line, grab_line, report_line, job_line, order_line, totals_line, no_pass, no_view}
+use Rattle.pool_replay.specs.Lines.{ok_line, join_line, ran_or, view_line, grab_line, report_line, job_line, order_line, totals_line, chapter_line, no_pass, no_view}
 
 -- what a view sees, with an answer that is shown for it and keeps the plan before where that is still best
 abbrev pub Sees : Book → Result Certificate ViewError → Type 0
@@ -116,6 +118,12 @@ abbrev pub TellsOrder : Profile → ℕ → Desk → List ℕ → Desk → Type 
 TellsOrder p slot old line new =
     (order : Order) × (slice_get old.pool.state.orders slot ≡ Some order) × Prints (order_line p order) old line new
 
+-- the chapter that has ended is given up once its line is made; passes and the view stay
+abbrev pub EndsChapter : Desk → List ℕ → Desk → Type 0
+EndsChapter old line new =
+    (result : Result Chapter ChapterError) × call.EndsChapter old.pool new.pool result × (line ≡ chapter_line result)
+    × (new.passes ≡ old.passes) × (new.viewed ≡ old.viewed)
+
 -- with the worker's pass, or the word that there is none
 abbrev pub IfPass : Bool → (Desk → List ℕ → Desk → Type 0) → Desk → List ℕ → Desk → Type 0
 IfPass true Steps old line new = Steps old line new
@@ -138,3 +146,4 @@ StepOf p (command.Expire worker now) = Expires worker now
 StepOf p (command.Job ticket) = λ old. Prints (job_line p (standing_in old.pool.state.standings ticket)) old
 StepOf p (command.Order slot) = TellsOrder p slot
 StepOf p command.Totals = λ old. Prints (totals_line (totals_of old.pool)) old
+StepOf p command.Chapter = EndsChapter

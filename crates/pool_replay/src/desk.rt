@@ -5,7 +5,7 @@ ghost use Rattle.pool_commands.specs.Grammar.{IsWithin};
 ghost use Rattle.pool_core.specs.Book.{totals_of};
 ghost use Rattle.pool_core.specs.Machine.{standing_in};
 ghost use Rattle.pool_replay.specs.Lines as spec;
-ghost use Rattle.pool_replay.specs.Step.{Joins, Loads, Rounds, Views, Adopting, Grabs, Begins, Reports, Loses, Expires, TellsOrder, WithPass, StepOf, Sees, with_joined, with_viewed};
+ghost use Rattle.pool_replay.specs.Step.{Joins, Loads, Rounds, Views, Adopting, Grabs, Begins, Reports, Loses, Expires, TellsOrder, EndsChapter, WithPass, StepOf, Sees, with_joined, with_viewed};
 ghost use Rattle.pool_replay.specs.Transcript.{first_desk};
 
 use crate::lines::{self, NO_PASS, NO_VIEW};
@@ -80,6 +80,7 @@ impl Desk {
             Command::Job(ticket) => self.job(alloc, settings, ticket),
             Command::Order(slot) => self.order(alloc, settings, slot),
             Command::Totals => self.totals(alloc),
+            Command::Chapter => self.chapter(alloc),
         }
     }
 
@@ -233,6 +234,14 @@ impl Desk {
         ensures { IfOk result (λ line. string_bytes line ≡ spec.totals_line (totals_of self.now.pool)) }
     {
         lines::totals_line(alloc, self.pool.totals())
+    }
+
+    /// Ends the chapter of the history. The events that are handed out are given up: nobody here reads them.
+    fn chapter(&mut self, alloc: Global) -> Result<String, AllocError>
+        ensures { IfOk result (λ line. EndsChapter self.old (string_bytes line) self.new) }
+    {
+        let answer = self.pool.end_chapter();
+        lines::chapter_line(alloc, &answer)
     }
 }
 

@@ -4,7 +4,10 @@ ghost use Rattle.std.specs.Prelude.{◌≡◌, IfOk, string_bytes};
 ghost use Rattle.pool_replay.specs.Lines as spec;
 
 use plan_model::{Answer, Certified};
-use pool_core::{GrabError, JoinError, Pass, Ran, ReportError, StayOrRetire, Totals, ViewError};
+use pool_core::{
+    Chapter, ChapterError, GrabError, JoinError, Pass, Ran, ReportError, StayOrRetire, Totals,
+    ViewError,
+};
 use pool_settings::Settings;
 use refusal::{Label, Labelled, Refusal};
 use std::alloc::{AllocError, Global};
@@ -220,4 +223,23 @@ pub fn totals_line(alloc: Global, totals: Totals) -> Result<String, AllocError>
     )?;
     write!(line, " lost {lost} rounds {rounds} events {events}")?;
     Ok(line)
+}
+
+/// The number of a chapter that has ended, and how many events it hands out.
+pub fn chapter_line(
+    alloc: Global,
+    answer: &Result<Chapter, ChapterError>,
+) -> Result<String, AllocError>
+    ensures { IfOk result (λ s. string_bytes s ≡ spec.chapter_line answer.now) }
+{
+    match answer {
+        Ok(chapter) => {
+            let number = chapter.number;
+            let events = chapter.events.len();
+            let mut line = String::new(alloc);
+            write!(line, "ok chapter {number} events {events}")?;
+            Ok(line)
+        }
+        Err(error) => refused(alloc, &error.label()),
+    }
 }

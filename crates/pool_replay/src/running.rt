@@ -126,7 +126,9 @@ fn run_lines(
 /// A refusal of the pool prints `refused`, its number in its call, and its name. The passes of the workers that joined are kept
 /// under their names until `lose` takes them, also where it is refused; a command for a worker without a pass prints `refused
 /// NoPass`, but `expire` needs none. `view` keeps what it saw and the best plan for it, in the place of an older view, and
-/// `adopt` spends it, also where it is refused; where there is none it prints `refused NoView`.
+/// `adopt` spends it, also where it is refused; where there is none it prints `refused NoView`. `chapter` ends the chapter of the
+/// pool's history and gives its events up: the state goes on, and with it passes, jobs and the view, and the events of `totals` are
+/// those since then.
 pub fn run(alloc: Global, settings: &Settings, input: &[u8]) -> Outcome
     ensures run { IsRun settings.now input.now (string_bytes result.output) result.end }
 {

@@ -1,5 +1,6 @@
 //! Scripts of command lines, each with what it prints.
 
+mod chapters;
 mod long;
 mod scripts;
 

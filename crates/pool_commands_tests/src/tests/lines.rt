@@ -32,6 +32,7 @@ fn commands_of_one_word(rt: HostRuntime) -> Result<(), Fail> {
     assert!(rt; matches!(&read(alloc, b"view")?, Some(Command::View)));
     assert!(rt; matches!(&read(alloc, b"adopt")?, Some(Command::Adopt)));
     assert!(rt; matches!(&read(alloc, b"totals")?, Some(Command::Totals)));
+    assert!(rt; matches!(&read(alloc, b"chapter")?, Some(Command::Chapter)));
     Ok(())
 }
 
@@ -211,9 +212,11 @@ fn words_and_spaces(rt: HostRuntime) -> Result<(), Fail> {
 
 #[test]
 fn other_words(rt: HostRuntime) -> Result<(), Fail> {
-    let lines: [&[u8]; 10] = [
+    let lines: [&[u8]; 12] = [
         b"Round",
-        b"chapter",
+        b"chapters",
+        b"chapter x",
+        b"chapter 1",
         b"round 1",
         b"join",
         b"join a/0 a/1",
