@@ -56,11 +56,11 @@ fn expect(
 }
 
 const FIRST_ALONE: &[Part] = &[Part {
-        worker: b"a/0#1",
-        function: b"reverse",
-        jobs: ONE_JOB,
-        fate: Fate::Holds,
-    }];
+    worker: b"a/0#1",
+    function: b"reverse",
+    jobs: ONE_JOB,
+    fate: Fate::Holds,
+}];
 
 /// One job waits at first, and then none.
 const ONE_THEN_NONE: &[&[u8]] = &[ONE_WAITS, NONE_WAITS, NONE_WAITS];
@@ -94,7 +94,14 @@ fn a_chapter_in_three_rounds(rt: HostRuntime) -> Result<(), Fail> {
     let lines =
         "attempt 1 round 1 backlog 1\nattempt 2 round 2 backlog 0\nattempt 3 round 3 backlog 0\n";
     let events = ended.totals.events;
-    expect(&rt, rt.alloc(), &tally, &ended, lines, (1, 0, 1, 0, 3, events))?;
+    expect(
+        &rt,
+        rt.alloc(),
+        &tally,
+        &ended,
+        lines,
+        (1, 0, 1, 0, 3, events),
+    )?;
     assert_eq!(rt; ended.chapters, 1);
     Ok(())
 }
@@ -450,7 +457,14 @@ fn lines_of_attempts(rt: HostRuntime) -> Result<(), Fail> {
         let mut scenario = Scenario::new(settings, count, &[], statuses);
         scenario.failing_dials = failing_dials;
         let ended = scenario.run(&rt, rt.alloc(), &tally)?;
-        expect(&rt, rt.alloc(), &tally, &ended, lines, (0, 0, 0, 0, rounds, events))?;
+        expect(
+            &rt,
+            rt.alloc(),
+            &tally,
+            &ended,
+            lines,
+            (0, 0, 0, 0, rounds, events),
+        )?;
         assert_eq!(rt; ended.chapters, chapters, "{lines}");
     }
     Ok(())
