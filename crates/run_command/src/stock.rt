@@ -1,6 +1,6 @@
 //! The jobs that the program's workers can do.
 
-ghost use Rattle.std.specs.Prelude.{◌≡◌, ℕ, List, IfOk, IfNone, string_bytes};
+ghost use Rattle.std.specs.Prelude.{◌≡◌, ℕ, List, IfOk};
 ghost use Rattle.run_command.specs.Stock as spec;
 
 use job_runner::{End, Job, JobTable, Jobs, Outcome};

@@ -1,5 +1,4 @@
 //! The system as the host of a run.
-ghost use Rattle.std.specs.Prelude.{◌≡◌};
 
 use crate::host::Host;
 use job_runner::TcpLink;
