@@ -29,6 +29,7 @@ memory() {
 }
 # Over a socket: the same.
 socket() {
+    rm -f "$scratch/told"
     "$scratch/server" "$1" "$2" > "$scratch/told" &
     server=$!
     until [ -s "$scratch/told" ]; do sleep 0.05; done
