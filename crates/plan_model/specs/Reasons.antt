@@ -2,7 +2,7 @@
 use Rattle.std.specs.Prelude.{codes}
 use Rattle.refusal.specs.Label.{Label, label}
 use Rattle.plan_model.specs.declared.answer.Reason.{Reason}
-use Rattle.plan_model.specs.declared.answer.Reason.TheVariants.{NotPermitted, BelowLeast, WrongBacklog, NotShort, SetMissing, Idle}
+use Rattle.plan_model.specs.declared.answer.Reason.TheVariants.{NotPermitted, BelowLeast, WrongBacklog, NotShort, SetMissing, Idle, AboveMost}
 
 abbrev pub reason_label : Reason → Label
 reason_label NotPermitted = label 1 (codes "NotPermitted")
@@ -11,3 +11,4 @@ reason_label WrongBacklog = label 3 (codes "WrongBacklog")
 reason_label NotShort = label 4 (codes "NotShort")
 reason_label SetMissing = label 5 (codes "SetMissing")
 reason_label Idle = label 6 (codes "Idle")
+reason_label AboveMost = label 8 (codes "AboveMost")
