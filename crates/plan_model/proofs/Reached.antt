@@ -1,5 +1,5 @@
 -- A plan that meets the needs of a level reaches it, and needs do not rise with the level.
-use Rattle.std.proofs.Common.{◌≡◌, ℕ, ◌+◌, ◌-◌, ◌<◌, ◌≤◌, zero, suc, Bool, true, leb, List, length, get_or, find, All, IsTrue, unwrap_or, sym, arith, inl, inr, ◌∙◌}
+use Rattle.std.proofs.Common.{◌≡◌, ℕ, ◌+◌, ◌-◌, ◌<◌, ◌≤◌, zero, suc, min, Bool, true, leb, List, length, get_or, find, All, IsTrue, unwrap_or, sym, arith, inl, inr, ◌∙◌}
 use Rattle.std.specs.List.{range_with_len}
 use Rattle.std.proofs.lemmas.Bool.{leb-true, le-leb, cases_lt, cases_Bool, false≢true}
 use Rattle.std.proofs.lemmas.List.Elements.{recursion_from_All, All-from_get_or}
@@ -31,16 +31,21 @@ sooner p q more from (suc many) d room =
 -- no function needs fewer workers at a lower level
 pub need-falls : (i : Instance) (low high f : ℕ) → low ≤ high → need i high f ≤ need i low f
 need-falls i low high f up =
-    elim (cases_lt (length i.live) (get_or i.least f 0)) [
-      | inl above ↦ (let none : length i.live + 1 - get_or i.least f 0 ≡ 0 = omega (arith, above) in rw none (omega arith))
-      | inr within ↦ sooner (λ n. leb (cost (counted_waiting i f) n) low) (λ n. leb (cost (counted_waiting i f) n) high) (λ n passes. le-leb _ _ (omega (arith, up, leb-true _ _ passes))) (get_or i.least f 0) (length i.live + 1 - get_or i.least f 0) (length i.live + 1) (omega (arith, within))
+    let last = min (length i.live) (get_or i.most f 0) in
+    elim (cases_lt last (get_or i.least f 0)) [
+      | inl above ↦ (let none : last + 1 - get_or i.least f 0 ≡ 0 = omega (arith, above) in rw none (omega arith))
+      | inr within ↦ sooner (λ n. leb (cost (counted_waiting i f) n) low) (λ n. leb (cost (counted_waiting i f) n) high) (λ n passes. le-leb _ _ (omega (arith, up, leb-true _ _ passes))) (get_or i.least f 0) (last + 1 - get_or i.least f 0) (length i.live + 1) (omega (arith, within))
     ]
+
+-- a need that all workers can meet is at most the greatest number
+pub need-fits : (i : Instance) (level f : ℕ) → need i level f ≤ length i.live → need i level f ≤ get_or i.most f 0
+need-fits i level f few = (need_is i level f few).1
 
 -- a function with as many workers as it needs has its least number, and costs at most the level
 pub need-met : (i : Instance) (level f n : ℕ) → need i level f ≤ n → n ≤ length i.live → (get_or i.least f 0 ≤ n) × (cost (counted_waiting i f) n ≤ level)
 need-met i level f n met few =
     let is = need_is i level f (omega (arith, met, few)) in
-    (omega (arith, is.0, met), omega (arith, is.1, cost-falls (counted_waiting i f) (need i level f) n met))
+    (omega (arith, is.0, met), omega (arith, is.2, cost-falls (counted_waiting i f) (need i level f) n met))
 
 -- what holds of each function
 each : (i : Instance) (P : ℕ → Type 0) → ((f : ℕ) → f < length i.least → P f) → All P (functions i)
