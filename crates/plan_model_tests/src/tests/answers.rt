@@ -1,25 +1,14 @@
-//! Problems with answers to them, and what is wrong with those.
+//! Answers that are shown, and what is wrong with others.
 
 ghost use Rattle.std.specs.Prelude.{◌<◌, ◌↔◌, All, IsTrue};
 
+use super::examples::{
+    Example, NOBODY, ONE_MACHINE, ONE_WORKER, TWO_MACHINES, TWO_WORKERS, problem,
+};
 use plan_model::{
-    Answer, Certified, FuncId, FuncSet, Input, InputError, MachineId, Plan, Reason, SlotId,
-    TOP_LEVEL, check, count_neighbours, total_need,
+    Answer, Certified, FuncId, Input, Reason, TOP_LEVEL, check, count_neighbours, total_need,
 };
 use std::alloc::{AllocError, Global};
-
-/// The parts of an input, and an answer to it: without a plan that there is none, without functions in
-/// the set that none is given.
-#[derive(Clone, Copy)]
-struct Example<'a> {
-    live: &'a [(u32, u32)],
-    may: &'a [&'a [u32]],
-    least: &'a [u32],
-    waiting: &'a [u32],
-    plan: Option<&'a [(u32, Option<u32>)]>,
-    backlog: u64,
-    short: &'a [u32],
-}
 
 /// What the crate says of an example.
 #[derive(Clone, Copy, Debug, PartialEq, Eq)]
@@ -28,62 +17,6 @@ struct Seen {
     reason: Option<Reason>,
     /// How many workers the set needs one level below the backlog, and how many may do any of it
     need_and_have: (u64, u32),
-}
-
-fn workers(alloc: Global, live: &[(u32, u32)]) -> Result<Vec<(SlotId, MachineId)>, AllocError> {
-    let mut workers = Vec::new(alloc);
-    for (slot, machine) in live {
-        workers.push((SlotId::new(*slot), MachineId::new(*machine)))?;
-    }
-    Ok(workers)
-}
-
-fn functions(alloc: Global, numbers: &[u32]) -> Result<Vec<FuncId>, AllocError> {
-    let mut functions = Vec::new(alloc);
-    for number in numbers {
-        functions.push(FuncId::new(*number))?;
-    }
-    Ok(functions)
-}
-
-fn entries(
-    alloc: Global,
-    plan: &[(u32, Option<u32>)],
-) -> Result<Vec<(SlotId, Option<FuncId>)>, AllocError> {
-    let mut entries = Vec::new(alloc);
-    for (slot, function) in plan {
-        entries.push((SlotId::new(*slot), function.map(FuncId::new)))?;
-    }
-    Ok(entries)
-}
-
-fn input(alloc: Global, example: Example) -> Result<Result<Input, InputError>, AllocError> {
-    let live = workers(alloc, example.live)?;
-    let mut may = Vec::new(alloc);
-    for row in example.may {
-        may.push(functions(alloc, row)?)?;
-    }
-    Ok(Input::new(alloc, &live, &may, example.least, example.waiting))
-}
-
-/// The input of the example and its answer, where both are taken.
-fn problem(alloc: Global, example: Example) -> Result<Option<(Input, Answer)>, AllocError> {
-    let set = FuncSet::new(functions(alloc, example.short)?).ok();
-    let Ok(input) = input(alloc, example)? else {
-        return Ok(None);
-    };
-    let Some(plan) = example.plan else {
-        return Ok(set.map(|short| (input, Answer::NoPlan { short })));
-    };
-    let Ok(plan) = Plan::new(entries(alloc, plan)?) else {
-        return Ok(None);
-    };
-    let answer = Answer::Planned {
-        plan,
-        backlog: example.backlog,
-        short: if example.short.is_empty() { None } else { set },
-    };
-    Ok(Some((input, answer)))
 }
 
 /// Whether each function is one of so many.
@@ -119,65 +52,10 @@ fn examine(alloc: Global, example: Example) -> Result<Option<Seen>, AllocError> 
     }))
 }
 
-/// Two machines: the worker of the first may do function 0, that of the second both.
-const TWO_MACHINES: Example<'static> = Example {
-    live: &[(0, 0), (1, 1)],
-    may: &[&[0], &[0, 1]],
-    least: &[0, 0],
-    waiting: &[6, 2],
-    plan: Some(&[(0, Some(0)), (1, Some(1))]),
-    backlog: 6,
-    short: &[0, 1],
-};
-
-/// Nobody, and nothing to do.
-const NOBODY: Example<'static> = Example {
-    live: &[],
-    may: &[],
-    least: &[],
-    waiting: &[],
-    plan: Some(&[]),
-    backlog: 0,
-    short: &[],
-};
-
-/// One machine of three workers that may do both functions.
-const ONE_MACHINE: Example<'static> = Example {
-    live: &[(0, 0), (1, 0), (2, 0)],
-    may: &[&[0, 1]],
-    least: &[0, 0],
-    waiting: &[10, 4],
-    plan: Some(&[(0, Some(0)), (1, Some(0)), (2, Some(1))]),
-    backlog: 5,
-    short: &[0, 1],
-};
-
-/// One worker for one function.
-const ONE_WORKER: Example<'static> = Example {
-    live: &[(0, 0)],
-    may: &[&[0]],
-    least: &[0],
-    waiting: &[4294967295],
-    plan: Some(&[(0, Some(0))]),
-    backlog: 4294967295,
-    short: &[0],
-};
-
 /// Answers that are best, each with what its set needs and has.
 const BEST: [(Example<'static>, (u64, u32)); 11] = [
     (TWO_MACHINES, (3, 2)),
-    (
-        Example {
-            live: &[(0, 0), (1, 0)],
-            may: &[&[0]],
-            least: &[0],
-            waiting: &[9],
-            plan: Some(&[(0, Some(0)), (1, Some(0))]),
-            backlog: 5,
-            short: &[0],
-        },
-        (3, 2),
-    ),
+    (TWO_WORKERS, (3, 2)),
     (ONE_MACHINE, (4, 3)),
     (
         Example {
@@ -227,6 +105,7 @@ const BEST: [(Example<'static>, (u64, u32)); 11] = [
             live: &[(0, 0), (1, 1), (2, 1), (3, 1)],
             may: &[&[0], &[1]],
             least: &[0, 0],
+            most: None,
             waiting: &[8, 3],
             plan: Some(&[(0, Some(0)), (1, Some(1)), (2, Some(1)), (3, Some(1))]),
             backlog: 8,
@@ -255,6 +134,65 @@ const BEST: [(Example<'static>, (u64, u32)); 11] = [
             ..ONE_WORKER
         },
         (0, 0),
+    ),
+];
+
+/// Answers that are best with greatest numbers, each with what its set needs and has.
+const BEST_WITH_MOST: [(Example<'static>, (u64, u32)); 6] = [
+    (
+        Example {
+            most: Some(&[1]),
+            plan: Some(&[(0, Some(0)), (1, None)]),
+            backlog: 9,
+            ..TWO_WORKERS
+        },
+        (3, 2),
+    ),
+    (
+        Example {
+            most: Some(&[0]),
+            plan: Some(&[(0, None), (1, None)]),
+            backlog: 4294967305,
+            ..TWO_WORKERS
+        },
+        (3, 2),
+    ),
+    (
+        Example {
+            least: &[2],
+            most: Some(&[1]),
+            plan: None,
+            ..TWO_WORKERS
+        },
+        (3, 2),
+    ),
+    (
+        Example {
+            most: Some(&[4294967295]),
+            ..TWO_WORKERS
+        },
+        (3, 2),
+    ),
+    (
+        Example {
+            most: Some(&[1]),
+            waiting: &[0],
+            plan: Some(&[(1, Some(0))]),
+            backlog: 0,
+            short: &[],
+            ..TWO_WORKERS
+        },
+        (0, 0),
+    ),
+    (
+        Example {
+            most: Some(&[1, 1]),
+            plan: Some(&[(0, Some(0)), (2, Some(1))]),
+            backlog: 10,
+            short: &[0],
+            ..ONE_MACHINE
+        },
+        (4, 3),
     ),
 ];
 
@@ -287,8 +225,25 @@ fn best_plans(rt: HostRuntime) -> Result<(), AllocError> {
     Ok(())
 }
 
+/// A function gets no more workers than its greatest number, and who may do only such functions stays idle.
+#[test]
+fn best_with_most(rt: HostRuntime) -> Result<(), AllocError> {
+    for (number, (example, need_and_have)) in BEST_WITH_MOST.iter().enumerate() {
+        let expected = Seen {
+            reason: None,
+            need_and_have: *need_and_have,
+        };
+        assert_eq!(rt;
+            examine(rt.alloc(), *example)?,
+            Some(expected),
+            "example {number}"
+        );
+    }
+    Ok(())
+}
+
 /// Answers that are not shown, each with the first reason that is true.
-const NOT_SHOWN: [(Example<'static>, Reason); 13] = [
+const NOT_SHOWN: [(Example<'static>, Reason); 18] = [
     (
         Example {
             backlog: 5,
@@ -392,6 +347,53 @@ const NOT_SHOWN: [(Example<'static>, Reason); 13] = [
         },
         Reason::NotShort,
     ),
+    (
+        Example {
+            most: Some(&[1]),
+            ..TWO_WORKERS
+        },
+        Reason::AboveMost,
+    ),
+    (
+        Example {
+            least: &[3],
+            most: Some(&[1]),
+            ..TWO_WORKERS
+        },
+        Reason::BelowLeast,
+    ),
+    (
+        Example {
+            waiting: &[0],
+            plan: Some(&[(1, Some(0))]),
+            backlog: 0,
+            short: &[],
+            ..TWO_WORKERS
+        },
+        Reason::Idle,
+    ),
+    (
+        Example {
+            most: Some(&[1, 1]),
+            waiting: &[0, 0],
+            plan: Some(&[(0, Some(0)), (1, Some(0)), (2, None)]),
+            backlog: 0,
+            short: &[],
+            ..ONE_MACHINE
+        },
+        Reason::Idle,
+    ),
+    (
+        Example {
+            most: Some(&[1, 0]),
+            waiting: &[0, 0],
+            plan: Some(&[(0, Some(0)), (1, Some(0)), (2, None)]),
+            backlog: 0,
+            short: &[],
+            ..ONE_MACHINE
+        },
+        Reason::AboveMost,
+    ),
 ];
 
 /// Answers that are not shown, each with the first reason that is true.
@@ -409,158 +411,6 @@ fn reasons(rt: HostRuntime) -> Result<(), AllocError> {
         };
         assert_eq!(rt; tried, Some(*reason), "example {number}, tried");
     }
-    Ok(())
-}
-
-/// Inputs with the first refusal that is true of them, if there is one.
-const REFUSED: [(Example<'static>, Option<InputError>); 8] = [
-    (
-        Example {
-            live: &[(1, 0), (0, 0)],
-            ..ONE_WORKER
-        },
-        Some(InputError::SlotOrder),
-    ),
-    (
-        Example {
-            live: &[(0, 0), (0, 9)],
-            ..ONE_WORKER
-        },
-        Some(InputError::SlotOrder),
-    ),
-    (
-        Example {
-            live: &[(0, 1)],
-            ..ONE_WORKER
-        },
-        Some(InputError::BadMachine),
-    ),
-    (
-        Example {
-            may: &[&[1]],
-            ..ONE_WORKER
-        },
-        Some(InputError::BadMachine),
-    ),
-    (
-        Example {
-            waiting: &[0, 0],
-            ..ONE_WORKER
-        },
-        Some(InputError::BadMachine),
-    ),
-    (
-        Example {
-            live: &[(4096, 0)],
-            ..ONE_WORKER
-        },
-        Some(InputError::TooMany),
-    ),
-    (
-        Example {
-            live: &[(4096, 9)],
-            ..ONE_WORKER
-        },
-        Some(InputError::BadMachine),
-    ),
-    (
-        Example {
-            live: &[(4095, 0)],
-            may: &[&[0, 0]],
-            ..ONE_WORKER
-        },
-        None,
-    ),
-];
-
-/// Inputs that are refused, each with the first refusal that is true.
-#[test]
-fn refusals(rt: HostRuntime) -> Result<(), AllocError> {
-    for (number, (example, error)) in REFUSED.iter().enumerate() {
-        let found = input(rt.alloc(), *example)?.err();
-        assert_eq!(rt; found, *error, "example {number}");
-    }
-    assert!(rt; Plan::new(entries(rt.alloc(), &[(1, None), (1, None)])?).is_err());
-    assert!(rt; FuncSet::new(functions(rt.alloc(), &[1, 0])?).is_err());
-    Ok(())
-}
-
-/// What is said of an input without live workers that has so many machines and functions.
-fn refusal_at(
-    alloc: Global,
-    machines: usize,
-    functions: usize,
-) -> Result<Option<InputError>, AllocError> {
-    let mut may = Vec::new(alloc);
-    for _ in 0..machines {
-        may.push(Vec::new(alloc))?;
-    }
-    let zeros = vec![in alloc; 0u32; functions]?;
-    Ok(Input::new(alloc, &[], &may, &zeros, &zeros).err())
-}
-
-/// 256 machines and 1,024 functions are taken, and one more of either is not.
-#[test]
-fn limits(rt: HostRuntime) -> Result<(), AllocError> {
-    let alloc = rt.alloc();
-    assert_eq!(rt; refusal_at(alloc, 256, 1024)?, None);
-    assert_eq!(rt; refusal_at(alloc, 257, 1024)?, Some(InputError::TooMany));
-    assert_eq!(rt; refusal_at(alloc, 256, 1025)?, Some(InputError::TooMany));
-    Ok(())
-}
-
-/// A function that a row names twice is permitted once.
-#[test]
-fn named_twice(rt: HostRuntime) -> Result<(), AllocError> {
-    let doubled = Example {
-        may: &[&[0, 0]],
-        ..ONE_WORKER
-    };
-    let Ok(input) = input(rt.alloc(), doubled)? else {
-        return Err(AllocError);
-    };
-    if input.machines() == 0 {
-        return Err(AllocError);
-    }
-    assert_eq!(rt; input.permitted(MachineId::new(0)).len(), 1);
-    Ok(())
-}
-
-/// A copy is the plan itself, and a certified answer comes back as it went in.
-#[test]
-fn copies(rt: HostRuntime) -> Result<(), AllocError> {
-    let Some((input, answer)) = problem(rt.alloc(), TWO_MACHINES)? else {
-        return Err(AllocError);
-    };
-    let Ok(made) = Certified::tried(input, answer) else {
-        return Err(AllocError);
-    };
-    let (input, answer) = made.parts();
-    let Answer::Planned { plan, backlog, .. } = answer else {
-        return Err(AllocError);
-    };
-    assert_eq!(rt; backlog, 6);
-    let copy = plan.copy(rt.alloc())?;
-    assert!(rt; copy.entries() == plan.entries() && copy.entries().len() == 2);
-    assert_eq!(rt;
-        copy.function_of(SlotId::new(1)).map(FuncId::number),
-        Some(1)
-    );
-    assert_eq!(rt; copy.function_of(SlotId::new(2)), None);
-    let Some((again, _)) = problem(rt.alloc(), TWO_MACHINES)? else {
-        return Err(AllocError);
-    };
-    let Some((other, _)) = problem(
-        rt.alloc(),
-        Example {
-            waiting: &[6, 3],
-            ..TWO_MACHINES
-        },
-    )?
-    else {
-        return Err(AllocError);
-    };
-    assert!(rt; input.equals(&again) && !input.equals(&other));
     Ok(())
 }
 
