@@ -125,22 +125,23 @@ rows_differ xs ys n e = ap (λ (zs : List (List ℕ)). get_or zs n []) e
 pub walked : (p : Profile) (slots : List Slot) → length slots ≡ slot_count p → live_workers p (map is_live slots) ≡ live_from 0 (owners p) slots
 walked p slots e = walk_from [] (owners p) slots (e ∙ sym (length-owners_from 0 p.workers))
 
-abbrev parts : List (ℕ × ℕ) → List (List ℕ) → List ℕ → List ℕ → Instance
-parts live may least waiting = record { live = live; may = may; least = least; waiting = waiting }
+abbrev parts : List (ℕ × ℕ) → List (List ℕ) → List ℕ → List ℕ → List ℕ → Instance
+parts live may least most waiting = record { live = live; may = may; least = least; most = most; waiting = waiting }
 
 pub is_instance : (i : Instance) (p : Profile) (slots : List Slot) (waiting : List ℕ) → length slots ≡ slot_count p
-    → i.live ≡ live_from 0 (owners p) slots → i.may ≡ p.may → i.least ≡ p.least → i.waiting ≡ waiting
+    → i.live ≡ live_from 0 (owners p) slots → i.may ≡ p.may → i.least ≡ p.least → i.most ≡ p.most → i.waiting ≡ waiting
     → i ≡ instance_of p (map is_live slots) waiting
-is_instance i p slots waiting e live may least jobs =
+is_instance i p slots waiting e live may least most jobs =
     let live_is : i.live ≡ live_workers p (map is_live slots) = live ∙ sym (walked p slots e) in
-    same i (instance_of p (map is_live slots) waiting) live_is may least jobs
+    same i (instance_of p (map is_live slots) waiting) live_is may least most jobs
   where
-    same : (a b : Instance) → a.live ≡ b.live → a.may ≡ b.may → a.least ≡ b.least → a.waiting ≡ b.waiting → a ≡ b
-    same a b l m n w =
-        ap (λ (x : List (ℕ × ℕ)). parts x a.may a.least a.waiting) l
-        ∙ ap (λ (x : List (List ℕ)). parts b.live x a.least a.waiting) m
-        ∙ ap (λ (x : List ℕ). parts b.live b.may x a.waiting) n
-        ∙ ap (λ (x : List ℕ). parts b.live b.may b.least x) w
+    same : (a b : Instance) → a.live ≡ b.live → a.may ≡ b.may → a.least ≡ b.least → a.most ≡ b.most → a.waiting ≡ b.waiting → a ≡ b
+    same a b l m n o w =
+        ap (λ (x : List (ℕ × ℕ)). parts x a.may a.least a.most a.waiting) l
+        ∙ ap (λ (x : List (List ℕ)). parts b.live x a.least a.most a.waiting) m
+        ∙ ap (λ (x : List ℕ). parts b.live b.may x a.most a.waiting) n
+        ∙ ap (λ (x : List ℕ). parts b.live b.may b.least x a.waiting) o
+        ∙ ap (λ (x : List ℕ). parts b.live b.may b.least b.most x) w
 
 pub live_of : (i : Instance) (p : Profile) (slots : List Slot) (waiting : List ℕ) → length slots ≡ slot_count p → i ≡ instance_of p (map is_live slots) waiting → i.live ≡ live_from 0 (owners p) slots
 live_of i p slots waiting e h = ap (λ (x : Instance). x.live) h ∙ walked p slots e

@@ -4,9 +4,9 @@ use Rattle.plan_model.specs.declared.answer.Answer.{Answer}
 use Rattle.plan_model.specs.declared.answer.Answer.TheVariants as answers
 use Rattle.pool_settings.specs.Profile.{Profile}
 use Rattle.plan_model.specs.Planning.{Instance, IsInstance, assigned}
-use Rattle.gear_status.specs.Status.{Line, waiting}
+use Rattle.gear_status.specs.Status.{Line}
 use Rattle.pool_settings.specs.Slots.{slots as slot_count}
-use Rattle.pool_settings.specs.Planning.{instance_of}
+use Rattle.pool_settings.specs.Planning.{instance_of, waiting_of}
 use Rattle.plan_model.specs.Shown.{Shown}
 use Rattle.worker_state.specs.declared.slot.Slot.{Slot}
 use Rattle.worker_state.specs.declared.slot.Slot.TheVariants.{Empty, Live}
@@ -72,10 +72,6 @@ open_ticket state worker = held_ticket (slot_in state.slots worker.slot)
 
 abbrev pub next_ticket : State → ℕ
 next_ticket state = length state.standings + 1
-
--- the jobs that wait for each function, as the load tells them
-abbrev pub waiting_of : Profile → List Line → List ℕ
-waiting_of rules load = map (waiting load) rules.functions
 
 -- what a round has to plan for
 abbrev pub input_of : Profile → State → List Line → Instance

@@ -5,8 +5,8 @@ ghost use Rattle.worker_state.specs.Slots.{is_live};
 ghost use Rattle.worker_state.specs.Orders.{no_order, IsOrder};
 ghost use Rattle.pool_settings.specs.Profile.{IsProfile};
 ghost use Rattle.pool_settings.specs.Slots.{slots as slot_count, owners};
-ghost use Rattle.pool_settings.specs.Planning.{instance_of};
-ghost use Rattle.pool_core.specs.Machine.{waiting_of, what_of, same_what, ordered, orders_from};
+ghost use Rattle.pool_settings.specs.Planning.{instance_of, waiting_of};
+ghost use Rattle.pool_core.specs.Machine.{what_of, same_what, ordered, orders_from};
 ghost use Rattle.pool_core.specs.Book.{moved_in, one_moved};
 ghost use Rattle.pool_core.specs.Walk.{live_from};
 
@@ -101,6 +101,22 @@ fn are_least(settings: &Settings, least: &[u32]) -> bool
     }
     for number in 0..count {
         if least[number as usize] != settings.least(FuncId::new(number)) {
+            return false;
+        }
+    }
+    true
+}
+
+/// Whether the greatest numbers of the input are those of the settings.
+fn are_most(settings: &Settings, most: &[u32]) -> bool
+    ensures { IsTrue result ↔ (most.now ≡ settings.now.most) }
+{
+    let count = settings.functions();
+    if most.len() != count as usize {
+        return false;
+    }
+    for number in 0..count {
+        if most[number as usize] != settings.most(FuncId::new(number)) {
             return false;
         }
     }
@@ -229,6 +245,9 @@ pub fn is_input(settings: &Settings, slots: &[Slot], load: &Load, input: &Input)
         return false;
     }
     if !are_least(settings, input.least()) {
+        return false;
+    }
+    if !are_most(settings, input.most()) {
         return false;
     }
     are_waiting(settings, load, input.waiting())

@@ -91,7 +91,7 @@ impl Pool {
     ///
     /// It is `view`, `solve` and `adopt` in one event. An order whose function stays keeps its round number. Where there is no
     /// plan, the orders and the previous plan stay as they are. Where the previous plan, cut to live workers and permitted
-    /// functions, is best and leaves nobody idle who may do something, it is the round's plan.
+    /// functions, is best and leaves nobody idle who may do a function below its greatest number, it is the round's plan.
     ///
     /// Refused, in this order, as `NoLoad`, `HistoryFull` or `Memory`.
     pub fn round(&mut self) -> Result<Ran, RoundError>

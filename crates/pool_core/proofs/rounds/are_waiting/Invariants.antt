@@ -1,5 +1,5 @@
 use Rattle.std.proofs.Common.{◌≡◌, take}
-use Rattle.pool_core.specs.Machine.{waiting_of}
+use Rattle.pool_settings.specs.Planning.{waiting_of}
 use Rattle.pool_core.proofs.rounds.are_waiting.Given as goal
 
 abbrev pub invariant-loop-number : goal.invariant-loop-number

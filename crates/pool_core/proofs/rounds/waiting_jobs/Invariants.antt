@@ -1,6 +1,6 @@
 use Rattle.std.proofs.Common.{◌≡◌, ◌++◌, drop, map}
 use Rattle.gear_status.specs.Status.{waiting}
-use Rattle.pool_core.specs.Machine.{waiting_of}
+use Rattle.pool_settings.specs.Planning.{waiting_of}
 use Rattle.pool_core.proofs.rounds.waiting_jobs.Given as goal
 
 abbrev pub invariant-loop-number : goal.invariant-loop-number
