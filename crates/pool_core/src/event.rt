@@ -6,20 +6,22 @@ use gear_status::Load;
 use plan_model::{Answer, SlotId};
 use std::alloc::{AllocError, Global};
 use std::marker::Model;
+use std::sync::ArcSlice;
 use worker_state::{Cause, EndKind, Ticket, WorkerName};
 
-/// The name of a function, any bytes. Clauses see it as its bytes.
+/// The name of a function, any bytes, which its copies share. Clauses see it as its bytes.
 #[derive(Drop)]
 pub struct FunctionName {
-    bytes: Vec<u8>,
+    bytes: ArcSlice<u8>,
 }
 
 impl Model for FunctionName {
     ghost use Rattle.std.specs.Prelude.{List, ℕ};
+    ghost use Rattle.std.specs.Arc.{arc_slice_items};
 
     ghost Value = { List ℕ };
 
-    ghost view = { λ n. n.bytes.items };
+    ghost view = { λ n. arc_slice_items n.bytes };
 }
 
 impl FunctionName {
@@ -27,7 +29,15 @@ impl FunctionName {
     pub fn copied(alloc: Global, bytes: &[u8]) -> Result<FunctionName, AllocError>
         ensures { IfOk result (λ n. n ≡ bytes.now) }
     {
-        let bytes = Vec::from_slice(alloc, bytes)?;
+        let bytes = ArcSlice::from_slice(alloc, bytes)?;
+        Ok(FunctionName { bytes })
+    }
+
+    /// The same name, which shares the bytes.
+    pub fn copy(&self) -> Result<FunctionName, AllocError>
+        ensures { IfOk result (λ n. n ≡ self.now) }
+    {
+        let bytes = self.bytes.clone()?;
         Ok(FunctionName { bytes })
     }
 

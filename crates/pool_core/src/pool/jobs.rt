@@ -50,8 +50,8 @@ impl Pool {
         if let Some(refusal) = self.grab_refusal(&worker) {
             return Err(refusal);
         }
-        let noted = FunctionName::copied(self.alloc, function)?;
         let function = FunctionName::copied(self.alloc, function)?;
+        let noted = function.copy()?;
         table::reserve_job(
             &mut self.jobs,
             &mut self.standings,
