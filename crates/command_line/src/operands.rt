@@ -90,7 +90,7 @@ fn settings<'a>(alloc: Global) -> Arg<'a>
     operand(
         alloc,
         "SETTINGS",
-        "The settings file: machines, functions, least numbers",
+        "The settings file: machines, functions, least and greatest numbers",
     )
 }
 

@@ -53,7 +53,7 @@ pub enum Attempt {
         /// How many wait for the one of those functions that has the most.
         waiting: u64,
     },
-    /// No plan meets the least numbers.
+    /// No plan meets the least and greatest numbers.
     NoPlan {
         /// The round's number.
         round: u32,
