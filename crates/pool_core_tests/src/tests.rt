@@ -10,7 +10,7 @@ mod jobs;
 mod planning;
 mod workers;
 
-use course::{Call, Told, first_wrong};
+use course::{Call, Told, first_wrong, offered};
 
 /// Machine a with one worker for x.
 const ONE: &str =
@@ -31,3 +31,15 @@ const THREE: &str =
 /// Machine a with a worker for x, and b with a worker for x and y.
 const BOTH: &str =
     "version = 1\n[functions.x]\n[functions.y]\n[machines.a]\nworkers = 1\nfunctions = [\"x\"]\n[machines.b]\nworkers = 1\nfunctions = [\"x\", \"y\"]\n";
+
+/// Machine a with two workers for x, of which one at the most may do it.
+const ONE_AT_MOST: &str =
+    "version = 2\n[functions.x]\nmost = 1\n[machines.a]\nworkers = 2\nfunctions = [\"x\"]\n";
+
+/// The same, where both may.
+const TWO_AT_MOST: &str =
+    "version = 2\n[functions.x]\nmost = 2\n[machines.a]\nworkers = 2\nfunctions = [\"x\"]\n";
+
+/// The same, where two are asked for and one is allowed.
+const MORE_THAN_MOST: &str =
+    "version = 2\n[functions.x]\nleast = 2\nmost = 1\n[machines.a]\nworkers = 2\nfunctions = [\"x\"]\n";

@@ -424,3 +424,26 @@ pub fn first_wrong(alloc: Global, text: &str, calls: &[(Call, Told)]) -> Option<
     }
     None
 }
+
+/// What a pool answers that is offered what was found for another one, after the same calls on both.
+fn offered_once(alloc: Global, from: &str, to: &str, calls: &[Call]) -> Option<Told> {
+    let mut one = Course::new(alloc, from)?;
+    let mut other = Course::new(alloc, to)?;
+    for call in calls {
+        let _told = one.answer(*call);
+        let _told = other.answer(*call);
+    }
+    other.found = one.found.take();
+    match other.adopt() {
+        Told::NoMemory => None,
+        told => Some(told),
+    }
+}
+
+/// As `offered_once`, and once more where memory is refused.
+pub fn offered(alloc: Global, from: &str, to: &str, calls: &[Call]) -> Option<Told> {
+    match offered_once(alloc, from, to, calls) {
+        Some(told) => Some(told),
+        None => offered_once(alloc, from, to, calls),
+    }
+}

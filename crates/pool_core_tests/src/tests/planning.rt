@@ -86,3 +86,43 @@ fn orders_keep_their_round(rt: HostRuntime) {
     ];
     assert_eq!(rt; first_wrong(rt.alloc(), BOTH, &calls), None);
 }
+
+/// No function gets more workers than its greatest number, also where others are idle and jobs wait.
+#[test]
+fn rounds_with_a_greatest_number(rt: HostRuntime) {
+    let calls = [
+        (Call::Join(0), Told::Joined(1)),
+        (Call::Join(1), Told::Joined(1)),
+        (Call::Load(9, 0), Told::Done),
+        (Call::Round, Told::Ran(1, Some(9), 1)),
+        (Call::Round, Told::Ran(2, Some(9), 0)),
+        (Call::View, Told::Done),
+        (Call::Adopt, Told::Ran(3, Some(9), 0)),
+        (Call::Totals, Told::Totals(0, 0, 0, 0, 6)),
+    ];
+    assert_eq!(rt; first_wrong(rt.alloc(), ONE_AT_MOST, &calls), None);
+}
+
+/// A least number above the greatest leaves no plan, in each round.
+#[test]
+fn rounds_with_more_than_the_greatest_number(rt: HostRuntime) {
+    let calls = [
+        (Call::Join(0), Told::Joined(1)),
+        (Call::Join(1), Told::Joined(1)),
+        (Call::Load(9, 0), Told::Done),
+        (Call::Round, Told::Ran(1, None, 0)),
+        (Call::Round, Told::Ran(2, None, 0)),
+        (Call::Order, Told::Idle(0)),
+    ];
+    assert_eq!(rt; first_wrong(rt.alloc(), MORE_THAN_MOST, &calls), None);
+}
+
+/// An answer to a problem with other greatest numbers is stale.
+#[test]
+fn an_answer_to_other_greatest_numbers(rt: HostRuntime) {
+    let calls = [Call::Join(0), Call::Join(1), Call::Load(9, 0), Call::View];
+    let told = offered(rt.alloc(), TWO_AT_MOST, ONE_AT_MOST, &calls);
+    assert!(rt; told == Some(Told::Refused(2)));
+    let told = offered(rt.alloc(), ONE_AT_MOST, ONE_AT_MOST, &calls);
+    assert!(rt; told == Some(Told::Ran(1, Some(9), 1)));
+}
