@@ -1,6 +1,5 @@
 -- Names and numbers are one to one.
 use Rattle.std.proofs.Common.{◌≡◌, ℕ, ◌+◌, ◌-◌, ◌<◌, ◌≤◌, ◌^◌, List, [], ◌∷◌, ◌++◌, Bool, true, false, not, ◌&&◌, ◌||◌, Option, Some, None, zero, suc, eqb, ltb, length, get_or, take, drop, drop-cons, refl, sym, ap, subst, ◌∙◌, arith}
-use Rattle.std.specs.Prelude.{sum}
 use Rattle.std.specs.Char.{is_ascii_digit}
 use Rattle.std.specs.Fmt.{decimal}
 use Rattle.std.specs.List.{list_all, list_any}
@@ -15,7 +14,7 @@ use Rattle.std.proofs.lemmas.Slice.Eq.{bytes_eq-Decides}
 use Rattle.pool_settings.specs.Law.{AreOneToOne}
 use Rattle.pool_settings.specs.Names.{IsInByteOrder, name_at, place_of}
 use Rattle.pool_settings.specs.Profile.{IsProfile, Profile}
-use Rattle.pool_settings.specs.Slots.{first_slot, is_plain, is_slash, machine_of, parts_of, plain_number, slot_at, slot_in, slot_named, slot_of_parts, slots, worker_name}
+use Rattle.pool_settings.specs.Slots.{first_slot, is_plain, is_slash, machine_of, parts_of, plain_number, slot_at, slot_named, slots, worker_name}
 use Rattle.pool_settings.proofs.Cuts.{cut_here}
 use Rattle.pool_settings.proofs.Numbers.{own, plain_digits}
 use Rattle.pool_settings.proofs.Searches.{place_is}

@@ -55,13 +55,13 @@ passes tree h =
 pub record HasRoom (tree : Members) : Type 0 where
   pub machines : length (entries_at spec.machines_key tree) ≤ 256
   pub functions : length (entries_at spec.functions_key tree) ≤ 1024
-  pub workers : sum (spec.counts_of spec.workers_key (entries_at spec.machines_key tree)) ≤ 4096
+  pub workers : sum (spec.workers_in tree) ≤ 4096
 
 pub room_of : (tree : Members) → Passes tree → HasRoom tree
 room_of tree p =
     let machines = length (entries_at spec.machines_key tree) in
     let functions = length (entries_at spec.functions_key tree) in
-    let workers = sum (spec.counts_of spec.workers_key (entries_at spec.machines_key tree)) in
+    let workers = sum (spec.workers_in tree) in
     let parts = and_parts (leb machines 256 && leb functions 1024) (leb workers 4096) p.room in
     let tables = and_parts (leb machines 256) (leb functions 1024) parts.0 in
     record { machines = leb-true machines 256 tables.0; functions = leb-true functions 1024 tables.1; workers = leb-true workers 4096 parts.1 }
@@ -123,12 +123,14 @@ IsProfile-profile_of tree h functions_rise machines_rise =
       functions_rise = functions_rise;
       functions_named = named is_name functions names.0;
       functions_few = omega (arith, many_functions, room.functions);
-      least_paired = length-map functions (λ e. spec.count_at spec.least_key e.1) ∙ sym many_functions;
-      least_few = All-map (λ n. n ≤ 4096) (λ e. spec.count_at spec.least_key e.1) functions (λ k d below. count_few 4096 (option_and_then (get_member spec.least_key) (as_table (get_or functions k d).1)));
+      least_paired = length-map functions (λ e. spec.count_at spec.least_key 0 e.1) ∙ sym many_functions;
+      least_few = All-map (λ n. n ≤ 4096) (λ e. spec.count_at spec.least_key 0 e.1) functions (λ k d below. count_few 4096 0 (omega arith) (option_and_then (get_member spec.least_key) (as_table (get_or functions k d).1)));
+      most_paired = length-map functions (λ e. spec.count_at spec.most_key (sum (spec.workers_in tree)) e.1) ∙ sym many_functions;
+      most_few = All-map (λ n. n ≤ 4096) (λ e. spec.count_at spec.most_key (sum (spec.workers_in tree)) e.1) functions (λ k d below. count_few 4096 (sum (spec.workers_in tree)) room.workers (option_and_then (get_member spec.most_key) (as_table (get_or functions k d).1)));
       machines_rise = machines_rise;
       machines_named = named is_machine_name machines names.1;
       machines_few = omega (arith, many_machines, room.machines);
-      workers_paired = length-map machines (λ e. spec.count_at spec.workers_key e.1) ∙ sym many_machines;
+      workers_paired = length-map machines (λ e. spec.count_at spec.workers_key 0 e.1) ∙ sym many_machines;
       workers_few = room.workers;
       may_paired = length-map machines _ ∙ sym many_machines;
       may_rise = All-map IsStrictlyIncreasing _ machines (λ k d below. IsStrictlyIncreasing-filter _ (range_with_len 0 n) (range-rises n));

@@ -63,10 +63,10 @@ module _ (p : Profile) (valid : IsProfile p) (live : List Bool) where
           rw at (omega (arith, inside, many, valid.workers_few))
 
   -- a planner takes them
-  pub taken : (waiting : List ℕ) → length waiting ≡ length p.functions → IsTaken (live_workers p live) p.may p.least waiting
+  pub taken : (waiting : List ℕ) → length waiting ≡ length p.functions → IsTaken (live_workers p live) p.may p.least p.most waiting
   taken waiting paired = record {
     order = order;
-    numbers = record { machines = machines; functions = subst (λ n. All (λ row. All (λ f. f < n) row) p.may) (sym valid.least_paired) valid.may_within; paired = paired ∙ sym valid.least_paired };
+    numbers = record { machines = machines; functions = subst (λ n. All (λ row. All (λ f. f < n) row) p.may) (sym valid.least_paired) valid.may_within; bounded = valid.most_paired ∙ sym valid.least_paired; paired = paired ∙ sym valid.least_paired };
     limits = record {
       machines = omega (arith, valid.may_paired, valid.machines_few);
       functions = omega (arith, valid.least_paired, valid.functions_few);
@@ -76,22 +76,32 @@ module _ (p : Profile) (valid : IsProfile p) (live : List Bool) where
   }
 
   -- and leaves the permissions as they are
-  pub planned : (waiting : List ℕ) → instance (live_workers p live) p.may p.least waiting ≡ instance_of p live waiting
+  pub planned : (waiting : List ℕ) → instance (live_workers p live) p.may p.least p.most waiting ≡ instance_of p live waiting
   planned waiting =
       let within = subst (λ n. All (λ row. All (λ f. f < n) row) p.may) (sym valid.least_paired) valid.may_within in
-      ap (λ (rows : List (List ℕ)). record { live = live_workers p live; may = rows; least = p.least; waiting = waiting }) (rows_same (length p.least) p.may valid.may_rise within)
+      ap (λ (rows : List (List ℕ)). record { live = live_workers p live; may = rows; least = p.least; most = p.most; waiting = waiting }) (rows_same (length p.least) p.may valid.may_rise within)
 
 -- what is refused although it is taken is refused for want of memory
-pub only_memory : (error : InputError) (live : List (ℕ × ℕ)) (may : List (List ℕ)) (least waiting : List ℕ) → IsTaken live may least waiting → Refuses error live may least waiting → error ≡ Memory
-only_memory SlotOrder live may least waiting taken refused = absurd (refused taken.order)
-only_memory BadMachine live may least waiting taken refused = absurd (refused.1 taken.numbers)
-only_memory TooMany live may least waiting taken refused = absurd (refused.2 taken.limits)
-only_memory Memory live may least waiting taken refused = refl
+pub only_memory : (error : InputError) (live : List (ℕ × ℕ)) (may : List (List ℕ)) (least most waiting : List ℕ) → IsTaken live may least most waiting → Refuses error live may least most waiting → error ≡ Memory
+only_memory SlotOrder live may least most waiting taken refused = absurd (refused taken.order)
+only_memory BadMachine live may least most waiting taken refused = absurd (refused.1 taken.numbers)
+only_memory TooMany live may least most waiting taken refused = absurd (refused.2 taken.limits)
+only_memory Memory live may least most waiting taken refused = refl
 
-pub same_instance : (live live' : List (ℕ × ℕ)) (may may' : List (List ℕ)) (least least' waiting : List ℕ) → live ≡ live' → may ≡ may' → least ≡ least' → instance live may least waiting ≡ instance live' may' least' waiting
-same_instance live live' may may' least least' waiting a b c =
-    ap (λ t. instance t may least waiting) a ∙ ap (λ t. instance live' t least waiting) b ∙ ap (λ t. instance live' may' t waiting) c
+-- the parts that are handed on are those of the settings
+pub record AreParts (live : List (ℕ × ℕ)) (may : List (List ℕ)) (least most : List ℕ) (p : Profile) (marks : List Bool) : Type 0 where
+  pub live_is : live ≡ live_workers p marks
+  pub may_is : may ≡ p.may
+  pub least_is : least ≡ p.least
+  pub most_is : most ≡ p.most
 
-pub same_taken : (live live' : List (ℕ × ℕ)) (may may' : List (List ℕ)) (least least' waiting : List ℕ) → live ≡ live' → may ≡ may' → least ≡ least' → IsTaken live' may' least' waiting → IsTaken live may least waiting
-same_taken live live' may may' least least' waiting a b c taken =
-    subst (λ t. IsTaken t may least waiting) (sym a) (subst (λ t. IsTaken live' t least waiting) (sym b) (subst (λ t. IsTaken live' may' t waiting) (sym c) taken))
+module _ (live : List (ℕ × ℕ)) (may : List (List ℕ)) (least most waiting : List ℕ) (p : Profile) (marks : List Bool) (parts : AreParts live may least most p marks) where
+  pub same_instance : instance live may least most waiting ≡ instance (live_workers p marks) p.may p.least p.most waiting
+  same_instance =
+      ap (λ t. instance t may least most waiting) parts.live_is ∙ ap (λ t. instance (live_workers p marks) t least most waiting) parts.may_is
+      ∙ ap (λ t. instance (live_workers p marks) p.may t most waiting) parts.least_is ∙ ap (λ t. instance (live_workers p marks) p.may p.least t waiting) parts.most_is
+
+  pub same_taken : IsTaken (live_workers p marks) p.may p.least p.most waiting → IsTaken live may least most waiting
+  same_taken taken =
+      subst (λ t. IsTaken t may least most waiting) (sym parts.live_is) (subst (λ t. IsTaken (live_workers p marks) t least most waiting) (sym parts.may_is)
+      (subst (λ t. IsTaken (live_workers p marks) p.may t most waiting) (sym parts.least_is) (subst (λ t. IsTaken (live_workers p marks) p.may p.least t waiting) (sym parts.most_is) taken)))

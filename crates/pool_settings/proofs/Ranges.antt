@@ -1,5 +1,5 @@
 -- The ranges of single values.
-use Rattle.std.proofs.Common.{◌≡◌, ℕ, ◌≤◌, ℤ, pos, negsuc, List, [], Bool, true, false, ◌&&◌, cond, Option, Some, None, is_some, leb, length, refl, arith}
+use Rattle.std.proofs.Common.{◌≡◌, ℕ, ◌≤◌, ℤ, pos, negsuc, List, [], Bool, true, false, ◌&&◌, cond, Option, Some, None, is_some, leb, length, refl}
 use Rattle.std.specs.Prelude.{unwrap_or, option_and_then}
 use Rattle.std.specs.Option.{option_map_or}
 use Rattle.std.proofs.lemmas.Bool.{false≢true, leb-true, and_parts}
@@ -35,13 +35,13 @@ limit_range key low high default tree good h = by (get_member key tree) h
     by None h = good
     by (Some value) h = number_range low high value h
 
--- a number that is there or 0 is up to high
-pub count_few : (high : ℕ) (o : Option Data) → unwrap_or (option_and_then (number_between 0 high) o) 0 ≤ high
-count_few high None = omega arith
-count_few high (Some value) = by (number_between 0 high value) (number_range 0 high value)
+-- a number that is there, or a default up to high, is up to high
+pub count_few : (high default : ℕ) → default ≤ high → (o : Option Data) → unwrap_or (option_and_then (number_between 0 high) o) default ≤ high
+count_few high default few None = few
+count_few high default few (Some value) = by (number_between 0 high value) (number_range 0 high value)
   where
-    by : (o : Option ℕ) → (is_some o ≡ true → IsFrom 0 high (unwrap_or o 0)) → unwrap_or o 0 ≤ high
-    by None h = omega arith
+    by : (o : Option ℕ) → (is_some o ≡ true → IsFrom 0 high (unwrap_or o 0)) → unwrap_or o default ≤ high
+    by None h = few
     by (Some n) h = (h refl).1
 
 long_range : (low high : ℕ) (text : List ℕ) → is_some (long_between low high text) ≡ true → IsFrom low high (length (unwrap_or (long_between low high text) []))

@@ -13,6 +13,7 @@ profile_view s = record {
   history = s.history;
   functions = s.functions;
   least = s.least.items;
+  most = s.most.items;
   machines = s.machines;
   workers = s.slots;
   may = map (λ row. row.items) s.may.items;

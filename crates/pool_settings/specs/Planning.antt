@@ -7,4 +7,4 @@ use Rattle.pool_settings.specs.Slots.{live_workers}
 -- The planning problem of these settings, where the slots that are marked are live and these jobs wait for each function
 abbrev pub instance_of : Profile → List Bool → List ℕ → Instance
 instance_of p live waiting =
-    record { live = live_workers p live; may = p.may; least = p.least; waiting = waiting }
+    record { live = live_workers p live; may = p.may; least = p.least; most = p.most; waiting = waiting }

@@ -21,6 +21,8 @@ pub record Profile : Type 0 where
   pub functions : List (List ℕ)
   -- for each function the least number of its workers
   pub least : List ℕ
+  -- for each function the greatest number of its workers
+  pub most : List ℕ
   -- the machines' names
   pub machines : List (List ℕ)
   -- for each machine the number of its workers
@@ -47,6 +49,8 @@ pub record IsProfile (p : Profile) : Type 0 where
   pub functions_few : length p.functions ≤ 1024
   pub least_paired : length p.least ≡ length p.functions
   pub least_few : All (λ n. n ≤ 4096) p.least
+  pub most_paired : length p.most ≡ length p.functions
+  pub most_few : All (λ n. n ≤ 4096) p.most
   pub machines_rise : IsInByteOrder p.machines
   pub machines_named : All (λ name. IsTrue (is_machine_name name)) p.machines
   pub machines_few : length p.machines ≤ 256

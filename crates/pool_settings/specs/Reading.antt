@@ -1,6 +1,6 @@
--- Version 1 of the settings: the checks, each over the whole file before the next, and the settings
+-- Versions 1 and 2 of the settings: the checks, each over the whole file before the next, and the settings
 -- that a file which passes them means.
-use Rattle.std.specs.Prelude.{ℕ, List, [], Bool, true, false, not, ◌&&◌, ◌||◌, nat_le, is_some, length, map, sum, Option, Some, None, unwrap_or, option_and_then, if◌then◌else◌, codes, Result, Ok, Err}
+use Rattle.std.specs.Prelude.{ℕ, List, [], Bool, true, false, not, ◌&&◌, ◌||◌, ◌==◌, nat_le, is_some, length, map, sum, Option, Some, None, unwrap_or, option_and_then, if◌then◌else◌, codes, Result, Ok, Err}
 use Rattle.std.specs.List.{filter_map, list_all}
 use Rattle.std.specs.Option.{option_map_or}
 use Rattle.std.specs.Str.{bytes_eq, is_utf8}
@@ -72,10 +72,16 @@ workers_key = codes "workers"
 abbrev pub least_key : List ℕ
 least_key = codes "least"
 
--- ---- 2 Version: the version is there, and is the number 1
+abbrev pub most_key : List ℕ
+most_key = codes "most"
+
+-- ---- 2 Version: the version is there, and is the number 1 or 2
+
+abbrev pub version_in : Members → Option ℕ
+version_in tree = option_and_then (number_between 1 2) (get_member version_key tree)
 
 abbrev pub has_version : Members → Bool
-has_version tree = is_some (option_and_then (number_between 1 1) (get_member version_key tree))
+has_version tree = is_some (version_in tree)
 
 -- ---- 3 UnknownKey: each key is one of its table
 
@@ -89,8 +95,12 @@ is_top_key key =
     bytes_eq key version_key || (bytes_eq key server_key || (is_limit_key key
     || (bytes_eq key functions_key || bytes_eq key machines_key)))
 
-abbrev pub is_function_key : List ℕ → Bool
-is_function_key key = bytes_eq key least_key
+abbrev pub is_version_2 : Members → Bool
+is_version_2 tree = option_map_or (λ version. version == 2) (version_in tree) false
+
+-- a greatest number is a key of version 2
+abbrev pub is_function_key : Members → List ℕ → Bool
+is_function_key tree key = bytes_eq key least_key || (bytes_eq key most_key && is_version_2 tree)
 
 abbrev pub is_machine_key : List ℕ → Bool
 is_machine_key key = bytes_eq key workers_key || bytes_eq key functions_key
@@ -101,7 +111,7 @@ has_keys_of is_key entries = list_all (λ e. is_key e.0) entries
 abbrev pub has_known_keys : Members → Bool
 has_known_keys tree =
     has_keys_of is_top_key (entries_of tree)
-    && (list_all (λ e. has_keys_of is_function_key (entries_in e.1)) (entries_at functions_key tree)
+    && (list_all (λ e. has_keys_of (is_function_key tree) (entries_in e.1)) (entries_at functions_key tree)
     && list_all (λ e. has_keys_of is_machine_key (entries_in e.1)) (entries_at machines_key tree))
 
 -- ---- 4 MissingKey: each key without a default is there
@@ -136,10 +146,13 @@ has_good_limits tree =
 abbrev pub worker_count : Data → Option ℕ
 worker_count = number_between 0 4096
 
+-- the number of workers at a key is one, if it is there
+abbrev pub has_good_count : List ℕ → Members → Bool
+has_good_count key table = option_map_or (λ d. is_some (worker_count d)) (get_member key table) true
+
 abbrev pub is_good_function : Data → Bool
 is_good_function value =
-    option_map_or (λ table. option_map_or (λ d. is_some (worker_count d)) (get_member least_key table) true)
-    (as_table value) false
+    option_map_or (λ table. has_good_count least_key table && has_good_count most_key table) (as_table value) false
 
 abbrev pub is_list_of_texts : Data → Bool
 is_list_of_texts value =
@@ -163,10 +176,10 @@ has_good_values tree =
 
 -- ---- the settings that the tree means
 
--- the number of workers at a key, and 0 where there is none
-abbrev pub count_at : List ℕ → Data → ℕ
-count_at key value =
-    unwrap_or (option_and_then worker_count (option_and_then (get_member key) (as_table value))) 0
+-- the number of workers at a key, and the default where there is none
+abbrev pub count_at : List ℕ → ℕ → Data → ℕ
+count_at key default value =
+    unwrap_or (option_and_then worker_count (option_and_then (get_member key) (as_table value))) default
 
 -- the texts that a machine lists
 abbrev pub listed : Data → List (List ℕ)
@@ -176,11 +189,15 @@ listed value =
 abbrev pub names_of : List Entry → List (List ℕ)
 names_of entries = map (λ e. e.0) entries
 
-abbrev pub counts_of : List ℕ → List Entry → List ℕ
-counts_of key entries = map (λ e. count_at key e.1) entries
+abbrev pub counts_of : List ℕ → ℕ → List Entry → List ℕ
+counts_of key default entries = map (λ e. count_at key default e.1) entries
 
 abbrev pub rows_of : List (List ℕ) → List Entry → List (List ℕ)
 rows_of functions entries = map (λ e. row_of functions (listed e.1)) entries
+
+-- for each machine the number of its workers
+abbrev pub workers_in : Members → List ℕ
+workers_in tree = counts_of workers_key 0 (entries_at machines_key tree)
 
 abbrev pub profile_of : Members → Profile
 profile_of tree = record {
@@ -191,9 +208,10 @@ profile_of tree = record {
   lull_ms = unwrap_or (lull_in tree) 0;
   history = unwrap_or (history_in tree) 0;
   functions = names_of (entries_at functions_key tree);
-  least = counts_of least_key (entries_at functions_key tree);
+  least = counts_of least_key 0 (entries_at functions_key tree);
+  most = counts_of most_key (sum (workers_in tree)) (entries_at functions_key tree);
   machines = names_of (entries_at machines_key tree);
-  workers = counts_of workers_key (entries_at machines_key tree);
+  workers = workers_in tree;
   may = rows_of (names_of (entries_at functions_key tree)) (entries_at machines_key tree);
 }
 
@@ -210,7 +228,7 @@ has_known_functions tree = list_all (λ e. list_all (is_function_of tree) (liste
 abbrev pub has_room : Members → Bool
 has_room tree =
     (nat_le (length (entries_at machines_key tree)) 256 && nat_le (length (entries_at functions_key tree)) 1024)
-    && nat_le (sum (counts_of workers_key (entries_at machines_key tree))) 4096
+    && nat_le (sum (workers_in tree)) 4096
 
 -- ---- the first check that fails, or the settings
 

@@ -14,13 +14,25 @@ use crate::keys::has_good_limits;
 use crate::tree::{number_between, table_at, value_at};
 use toml::{Table, Value};
 
+fn version_in(tree: &Table) -> Option<u32>
+    ensures { result ≡ spec.version_in (table_view tree.now) }
+{
+    match value_at(tree, "version") {
+        Some(value) => number_between(1, 2, value),
+        None => None,
+    }
+}
+
 pub fn has_version(tree: &Table) -> bool
     ensures { result ≡ spec.has_version (table_view tree.now) }
 {
-    match value_at(tree, "version") {
-        Some(value) => number_between(1, 1, value).is_some(),
-        None => false,
-    }
+    version_in(tree).is_some()
+}
+
+fn is_version_2(tree: &Table) -> bool
+    ensures { result ≡ spec.is_version_2 (table_view tree.now) }
+{
+    version_in(tree) == Some(2)
 }
 
 // ---- known keys
@@ -45,10 +57,10 @@ fn is_top_key(key: &str) -> bool
         || key == "machines"
 }
 
-fn is_function_key(key: &str) -> bool
-    ensures { result ≡ spec.is_function_key key.now }
+fn is_function_key(tree: &Table, key: &str) -> bool
+    ensures { result ≡ spec.is_function_key (table_view tree.now) key.now }
 {
-    key == "least"
+    key == "least" || key == "most" && is_version_2(tree)
 }
 
 fn is_machine_key(key: &str) -> bool
@@ -68,22 +80,22 @@ fn has_top_keys(table: &Table) -> bool
     true
 }
 
-fn has_only_function_keys(table: &Table) -> bool
-    ensures { result ≡ spec.has_keys_of spec.is_function_key (table_entries table.now) }
+fn has_only_function_keys(tree: &Table, table: &Table) -> bool
+    ensures { result ≡ spec.has_keys_of (spec.is_function_key (table_view tree.now)) (table_entries table.now) }
 {
     for (key, _value) in table {
-        if !is_function_key(key.as_str()) {
+        if !is_function_key(tree, key.as_str()) {
             return false;
         }
     }
     true
 }
 
-fn has_function_keys(value: &Value) -> bool
-    ensures { result ≡ spec.has_keys_of spec.is_function_key (entries_in (view value.now)) }
+fn has_function_keys(tree: &Table, value: &Value) -> bool
+    ensures { result ≡ spec.has_keys_of (spec.is_function_key (table_view tree.now)) (entries_in (view value.now)) }
 {
     match value.as_table() {
-        Some(table) => has_only_function_keys(table),
+        Some(table) => has_only_function_keys(tree, table),
         None => true,
     }
 }
@@ -108,11 +120,11 @@ fn has_machine_keys(value: &Value) -> bool
     }
 }
 
-fn functions_have_keys(table: &Table) -> bool
-    ensures { result ≡ list_all (λ e. spec.has_keys_of spec.is_function_key (entries_in e.1)) (table_entries table.now) }
+fn functions_have_keys(tree: &Table, table: &Table) -> bool
+    ensures { result ≡ list_all (λ e. spec.has_keys_of (spec.is_function_key (table_view tree.now)) (entries_in e.1)) (table_entries table.now) }
 {
     for (_name, value) in table {
-        if !has_function_keys(value) {
+        if !has_function_keys(tree, value) {
             return false;
         }
     }
@@ -130,11 +142,11 @@ fn machines_have_keys(table: &Table) -> bool
     true
 }
 
-fn all_functions_have_keys(table: Option<&Table>) -> bool
-    ensures { result ≡ list_all (λ e. spec.has_keys_of spec.is_function_key (entries_in e.1)) (entries_if table.entry) }
+fn all_functions_have_keys(tree: &Table, table: Option<&Table>) -> bool
+    ensures { result ≡ list_all (λ e. spec.has_keys_of (spec.is_function_key (table_view tree.now)) (entries_in e.1)) (entries_if table.entry) }
 {
     match table {
-        Some(table) => functions_have_keys(table),
+        Some(table) => functions_have_keys(tree, table),
         None => true,
     }
 }
@@ -152,7 +164,7 @@ pub fn has_known_keys(tree: &Table) -> bool
     ensures { result ≡ spec.has_known_keys (table_view tree.now) }
 {
     has_top_keys(tree)
-        && all_functions_have_keys(table_at(tree, "functions"))
+        && all_functions_have_keys(tree, table_at(tree, "functions"))
         && all_machines_have_keys(table_at(tree, "machines"))
 }
 
@@ -294,10 +306,10 @@ fn is_worker_count(value: &Value) -> bool
     number_between(0, 4096, value).is_some()
 }
 
-fn is_good_least(value: Option<&Value>) -> bool
-    ensures { result ≡ option_map_or (λ v. is_some (spec.worker_count (view v.now))) value.entry true }
+fn has_good_count(table: &Table, key: &str) -> bool
+    ensures { result ≡ spec.has_good_count key.now (table_view table.now) }
 {
-    match value {
+    match value_at(table, key) {
         Some(value) => is_worker_count(value),
         None => true,
     }
@@ -307,7 +319,7 @@ fn is_good_function(value: &Value) -> bool
     ensures { result ≡ spec.is_good_function (view value.now) }
 {
     match value.as_table() {
-        Some(table) => is_good_least(value_at(table, "least")),
+        Some(table) => has_good_count(table, "least") && has_good_count(table, "most"),
         None => false,
     }
 }

@@ -12,10 +12,10 @@ pub enum SettingsError {
     /// The file is not UTF-8, or not TOML.
     #[error("the file is not TOML")]
     Text,
-    /// `version` is missing, or is not the number 1.
-    #[error("`version` is not 1")]
+    /// `version` is missing, or is not the number 1 or 2.
+    #[error("`version` is not 1 or 2")]
     Version,
-    /// A table has a key that settings do not have.
+    /// A table has a key that settings of this version do not have.
     #[error("there is an unknown key")]
     UnknownKey,
     /// `functions`, `machines`, or a machine's `workers` or `functions` is missing.

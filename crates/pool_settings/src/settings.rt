@@ -41,6 +41,7 @@ pub struct Settings {
     history: u32,
     functions: Names,
     least: Vec<u32>,
+    most: Vec<u32>,
     machines: Names,
     slots: SlotTable,
     may: Vec<Vec<FuncId>>,
@@ -101,9 +102,11 @@ fn settings_of(
 {
     let server = String::from_str(alloc, server_in(tree).unwrap_or(""))?;
     let names = Names::of_table(alloc, functions)?;
-    let least = read_counts(alloc, functions, "least")?;
+    let least = read_counts(alloc, functions, "least", 0)?;
     let machine_names = Names::of_table(alloc, machines)?;
-    let workers = read_counts(alloc, machines, "workers")?;
+    let workers = read_counts(alloc, machines, "workers", 0)?;
+    let slots = SlotTable::new(alloc, workers)?;
+    let most = read_counts(alloc, functions, "most", slots.len())?;
     let may = read_rows(alloc, &names, machines)?;
     Ok(Settings {
         server,
@@ -114,8 +117,9 @@ fn settings_of(
         history: history_in(tree).unwrap_or(0),
         functions: names,
         least,
+        most,
         machines: machine_names,
-        slots: SlotTable::new(alloc, workers)?,
+        slots,
         may,
     })
 }
@@ -138,11 +142,11 @@ fn read_tree(alloc: Global, tree: &Table) -> Result<Settings, SettingsError>
 }
 
 impl Settings {
-    /// Reads a settings file: TOML, version 1, with the keys of this table and no others.
+    /// Reads a settings file: TOML, with the keys of this table and no others.
     ///
     /// | key | place | value | default |
     /// |---|---|---|---|
-    /// | `version` | top | 1 | required |
+    /// | `version` | top | 1 or 2 | required |
     /// | `server` | top | a text of 1 to 255 bytes, dialled as `host:port` | `127.0.0.1:4730` |
     /// | `job_timeout_ms` | top | 1 to 4,294,967,295 milliseconds | 60,000 |
     /// | `max_runs` | top | 1 to 4,294,967,295 | 4,294,967,295 |
@@ -150,7 +154,8 @@ impl Settings {
     /// | `lull_ms` | top | 1 to 3,600,000 milliseconds | 100 |
     /// | `history` | top | 1 to 1,048,576 events | 1,048,576 |
     /// | `functions` | top | a table of one table for each function | required |
-    /// | `least` | a function | 0 to 4,096 | 0 |
+    /// | `least` | a function | 0 to 4,096 workers | 0 |
+    /// | `most` | a function, in version 2 | 0 to 4,096 workers | the number of all workers in the file |
     /// | `machines` | top | a table of one table for each machine | required |
     /// | `workers` | a machine | 0 to 4,096 | required |
     /// | `functions` | a machine | a list of texts, each the name of a function | required |
@@ -187,6 +192,7 @@ impl Settings {
             history: self.history,
             functions: self.functions.copy(alloc)?,
             least: Vec::from_slice(alloc, &self.least)?,
+            most: Vec::from_slice(alloc, &self.most)?,
             machines: self.machines.copy(alloc)?,
             slots: self.slots.copy(alloc)?,
             may: copy_rows(alloc, &self.may)?,
@@ -310,6 +316,16 @@ impl Settings {
         self.least[function.number() as usize]
     }
 
+    /// The greatest number of workers that a function may have, at most 4,096: the number of all workers where the file gives
+    /// none. It may be below the least number; then there is no plan.
+    pub fn most(&self, function: FuncId) -> u32
+        requires { function < length self.now.functions }
+        ensures all { result ≡ slice_index self.now.most function }
+        ensures few { result ≤ 4096 }
+    {
+        self.most[function.number() as usize]
+    }
+
     /// The functions that the workers of a machine may do, in rising order and each once.
     pub fn permitted(&self, machine: MachineId) -> &[FuncId]
         requires { machine < length self.now.machines }
@@ -417,7 +433,7 @@ impl Settings {
         ensures problem { IfOk result (λ input. input ≡ instance_of self.now live.now waiting.now) }
     {
         let workers = live_workers(alloc, self.slots.owners(), live)?;
-        match Input::new(alloc, &workers, &self.may, &self.least, waiting) {
+        match Input::new(alloc, &workers, &self.may, &self.least, &self.most, waiting) {
             Ok(input) => Ok(input),
             Err(error) => match error {
                 InputError::Memory => Err(AllocError),

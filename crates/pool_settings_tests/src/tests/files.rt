@@ -28,6 +28,13 @@ const S1: File<'static> = File {
     listed: "\"x\"",
 };
 
+/// S1 of version 2, where at most one worker may be on the function.
+const S2: File<'static> = File {
+    version: "2",
+    function: "most = 1",
+    ..S1
+};
+
 impl File<'_> {
     fn text(&self, alloc: Global) -> Result<String, AllocError> {
         let (version, top, function) = (self.version, self.top, self.function);
@@ -62,9 +69,25 @@ fn refusals_of_texts(rt: HostRuntime) {
 }
 
 /// S1 with its parts put differently, and the refusal of it.
-fn changed_files() -> [(File<'static>, Option<SettingsError>); 9] {
+fn changed_files() -> [(File<'static>, Option<SettingsError>); 13] {
     [
         (S1, None),
+        (S2, None),
+        (
+            File {
+                function: "most = 4097",
+                ..S2
+            },
+            Some(SettingsError::BadValue),
+        ),
+        (
+            File {
+                function: "least = 2\nmost = 1",
+                ..S2
+            },
+            None,
+        ),
+        (File { version: "3", ..S2 }, Some(SettingsError::Version)),
         (
             File {
                 version: "1.0",
@@ -179,6 +202,65 @@ fn permissions(rt: HostRuntime) {
     assert!(rt; !settings.may(MachineId::new(0), FuncId::new(0)));
     assert!(rt; settings.may(MachineId::new(2), FuncId::new(0)));
     assert!(rt; settings.permitted(MachineId::new(2)).len() == 2);
+}
+
+/// What a file says of the least and the greatest number of its first two functions.
+fn numbers_of(alloc: Global, file: File<'_>) -> Result<[(u32, u32); 2], SettingsError> {
+    let settings = Settings::read(alloc, file.text(alloc)?.as_bytes())?.copy(alloc)?;
+    if settings.functions() < 2 {
+        return Err(SettingsError::MissingKey);
+    }
+    let (x, y) = (FuncId::new(0), FuncId::new(1));
+    Ok([
+        (settings.least(x), settings.most(x)),
+        (settings.least(y), settings.most(y)),
+    ])
+}
+
+/// A function that has no greatest number may have all workers of the file, in either version.
+#[test]
+fn least_and_greatest_numbers(rt: HostRuntime) {
+    let alloc = rt.alloc();
+    for (file, numbers) in [
+        (S1, [(0, 2), (0, 2)]),
+        (S2, [(0, 1), (0, 2)]),
+        (
+            File {
+                function: "least = 3\nmost = 0",
+                workers: "4095",
+                ..S2
+            },
+            [(3, 0), (0, 4096)],
+        ),
+        (
+            File {
+                function: "most = 4096",
+                ..S2
+            },
+            [(0, 4096), (0, 2)],
+        ),
+    ] {
+        assert!(rt; numbers_of(alloc, file) == Ok(numbers));
+    }
+}
+
+/// The greatest numbers of the planning problem of a file, where all workers are live.
+fn planned_most(alloc: Global, file: File<'_>) -> Result<Vec<u32>, SettingsError> {
+    let settings = Settings::read(alloc, file.text(alloc)?.as_bytes())?;
+    if settings.functions() != 2 {
+        return Err(SettingsError::MissingKey);
+    }
+    let input = settings.input(alloc, &[true, true], &[9, 0])?;
+    Ok(Vec::from_slice(alloc, input.most())?)
+}
+
+#[test]
+fn planning_problems_with_greatest_numbers(rt: HostRuntime) {
+    let alloc = rt.alloc();
+    let most = planned_most(alloc, S2).expect(&rt, "settings");
+    assert!(rt; most.as_slice() == [1, 2].as_slice());
+    let most = planned_most(alloc, S1).expect(&rt, "settings");
+    assert!(rt; most.as_slice() == [2, 2].as_slice());
 }
 
 #[test]

@@ -38,6 +38,12 @@ fn read_function(alloc: Global, name: &str, line: &str) -> Result<(), SettingsEr
     read(alloc, text.as_str())
 }
 
+/// Whether a file of this version, and of one function with this line, is taken.
+fn read_version(alloc: Global, version: &str, line: &str) -> Result<(), SettingsError> {
+    let text = format!(in alloc; "version = {version}\n[functions.x]\n{line}\n[machines]\n")?;
+    read(alloc, text.as_str())
+}
+
 /// Whether a file of one machine with this name and these lines, and of the function `x`, is taken.
 fn read_machine(alloc: Global, name: &str, lines: &str) -> Result<(), SettingsError> {
     let text = format!(in alloc; "version = 1\n[functions.x]\n[machines.\"{name}\"]\n{lines}\n")?;
@@ -115,6 +121,44 @@ fn least_numbers(rt: HostRuntime) {
         ("least = \"1\"", BAD_VALUE),
     ] {
         assert!(rt; read_function(alloc, "x", line) == result);
+    }
+}
+
+#[test]
+fn versions(rt: HostRuntime) {
+    let alloc = rt.alloc();
+    for (version, result) in [
+        ("0", VERSION),
+        ("1", TAKEN),
+        ("2", TAKEN),
+        ("3", VERSION),
+        ("2.0", VERSION),
+        ("\"2\"", VERSION),
+        ("-1", VERSION),
+    ] {
+        assert!(rt; read_version(alloc, version, "least = 1") == result);
+    }
+}
+
+/// Greatest numbers are a key of version 2. In version 1 the key is unknown, whatever its value.
+#[test]
+fn greatest_numbers(rt: HostRuntime) {
+    let alloc = rt.alloc();
+    for (version, line, result) in [
+        ("1", "most = 1", UNKNOWN_KEY),
+        ("1", "most = 4097", UNKNOWN_KEY),
+        ("1", "most = \"1\"", UNKNOWN_KEY),
+        ("2", "most = 0", TAKEN),
+        ("2", "most = 4096", TAKEN),
+        ("2", "most = 4097", BAD_VALUE),
+        ("2", "most = -1", BAD_VALUE),
+        ("2", "most = \"1\"", BAD_VALUE),
+        ("2", "least = 2\nmost = 1", TAKEN),
+        ("2", "least = 4097\nmost = 1", BAD_VALUE),
+        ("2", "most = 1\nspeed = 3", UNKNOWN_KEY),
+        ("3", "most = 1", VERSION),
+    ] {
+        assert!(rt; read_version(alloc, version, line) == result);
     }
 }
 
@@ -219,6 +263,11 @@ fn order_of_checks(rt: HostRuntime) {
     let alloc = rt.alloc();
     for (text, result) in [
         ("speed = 3\n", VERSION),
+        ("version = 3\nspeed = 3\n", VERSION),
+        (
+            "version = 2\n[functions.x]\nmost = 4097\nspeed = 3\n[machines]\n",
+            UNKNOWN_KEY,
+        ),
         ("version = 1\nspeed = 3\n", UNKNOWN_KEY),
         ("version = 1\n[functions.\"\"]\n", MISSING_KEY),
         (

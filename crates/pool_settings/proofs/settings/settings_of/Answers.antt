@@ -1,8 +1,10 @@
 use Rattle.std.proofs.Common.{rules, ◌≡◌, ◌≤◌, ℕ, List, length, subst, sym, ap, ◌∙◌, arith}
-use Rattle.std.specs.Prelude.{sum}
+use Rattle.std.specs.Prelude.{map, string_bytes, sum}
 use Rattle.std.proofs.lemmas.List.{length-map}
 use Rattle.toml.specs.View.{table_view}
+use Rattle.pool_settings.specs.Entries.{table_entries}
 use Rattle.pool_settings.specs.Names.{IsInByteOrder}
+use Rattle.pool_settings.specs.Profile.{Profile}
 use Rattle.pool_settings.specs.Reading as spec
 use Rattle.pool_settings.specs.Tree.{Entry, entries_at}
 use Rattle.pool_settings.proofs.Passing.{IsProfile-profile_of, keeps, passes, room_of}
@@ -20,8 +22,8 @@ pub new-requires-clause-few : goal.new-requires-clause-few
 new-requires-clause-few c =
     let tree = table_view c.args.tree.now in
     let room = room_of tree (passes tree c.requires.passes) in
-    let same : c.in_ok-workers.workers.items ≡ spec.counts_of spec.workers_key (entries_at spec.machines_key tree) =
-    c.in_ok-workers.ensures ∙ ap (spec.counts_of spec.workers_key) c.requires.machines in
+    let same : c.in_ok-workers.workers.items ≡ spec.counts_of spec.workers_key 0 (entries_at spec.machines_key tree) =
+    c.in_ok-workers.ensures ∙ ap (spec.counts_of spec.workers_key 0) c.requires.machines in
     subst (λ (ws : List ℕ). sum ws ≤ 4096) (sym same) room.workers
 
 pub new-requires-clause-machines : goal.new-requires-clause-machines
@@ -29,12 +31,49 @@ new-requires-clause-machines c =
     let tree = table_view c.args.tree.now in
     let room = room_of tree (passes tree c.requires.passes) in
     let many : length c.in_ok-workers.workers.items ≡ length (entries_at spec.machines_key tree) =
-    ap length (c.in_ok-workers.ensures ∙ ap (spec.counts_of spec.workers_key) c.requires.machines) ∙ length-map (entries_at spec.machines_key tree) (λ e. spec.count_at spec.workers_key e.1) in
+    ap length (c.in_ok-workers.ensures ∙ ap (spec.counts_of spec.workers_key 0) c.requires.machines) ∙ length-map (entries_at spec.machines_key tree) (λ e. spec.count_at spec.workers_key 0 e.1) in
     omega (arith, many, room.machines)
 
-pub invariant_of-result-3 : goal.invariant_of-result-3
-invariant_of-result-3 c =
+-- a function that has none may have all workers
+abbrev MostRead : goal.After-unwrap_or-6 → Type 0
+MostRead c =
+    let tree = table_view c.args.tree.now in
+    c.in_ok-most.most.items ≡ spec.counts_of spec.most_key (sum (spec.workers_in tree)) (entries_at spec.functions_key tree)
+
+most_read : (c : goal.After-unwrap_or-6) → MostRead c
+most_read c =
+    let tree = table_view c.args.tree.now in
+    let workers : c.in_ok-workers.workers.items ≡ spec.workers_in tree = c.in_ok-workers.ensures ∙ ap (spec.counts_of spec.workers_key 0) c.requires.machines in
+    let all : c.len.result ≡ sum (spec.workers_in tree) = c.len.ensures.all ∙ ap sum c.in_ok-slots.ensures ∙ ap sum workers in
+    c.in_ok-most.ensures ∙ ap (λ (n : ℕ). spec.counts_of spec.most_key n (table_entries c.args.functions.now)) all
+    ∙ ap (spec.counts_of spec.most_key (sum (spec.workers_in tree))) c.requires.functions
+
+-- what is made
+abbrev made : goal.After-unwrap_or-6 → Profile
+made c = record {
+  server = string_bytes c.in_ok-server.server;
+  job_timeout_ms = c.unwrap_or-2.result;
+  max_runs = c.unwrap_or-3.result;
+  round_ms = c.unwrap_or-4.result;
+  lull_ms = c.unwrap_or-5.result;
+  history = c.unwrap_or-6.result;
+  functions = c.in_ok-names.names;
+  least = c.in_ok-least.least.items;
+  most = c.in_ok-most.most.items;
+  machines = c.in_ok-machine_names.machine_names;
+  workers = c.in_ok-slots.slots;
+  may = map (λ row. row.items) c.in_ok-may.may.items;
+}
+
+is_meant : (c : goal.After-unwrap_or-6) → made c ≡ spec.profile_of (table_view c.args.tree.now)
+is_meant c = search (rules, most_read c)
+
+pub invariant_of-result : goal.invariant_of-result
+invariant_of-result c =
     let tree = table_view c.args.tree.now in
     let functions = subst IsInByteOrder (c.in_ok-names.ensures.keys ∙ ap spec.names_of c.requires.functions) c.in_ok-names.ensures.ordered in
     let machines = subst IsInByteOrder (c.in_ok-machine_names.ensures.keys ∙ ap spec.names_of c.requires.machines) c.in_ok-machine_names.ensures.ordered in
-    keeps _ tree (search rules) (IsProfile-profile_of tree c.requires.passes functions machines)
+    keeps (made c) tree (is_meant c) (IsProfile-profile_of tree c.requires.passes functions machines)
+
+pub returns : goal.returns
+returns c = is_meant c

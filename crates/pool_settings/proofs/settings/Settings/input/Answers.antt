@@ -4,8 +4,7 @@ use Rattle.std.specs.List.{enumerate_from}
 use Rattle.pool_settings.specs.Kept.{profile_view}
 use Rattle.pool_settings.specs.Profile.{Profile}
 use Rattle.pool_settings.specs.Planning.{instance_of}
-use Rattle.pool_settings.specs.Slots.{live_workers}
-use Rattle.pool_settings.proofs.Planned.{only_memory, planned, same_instance, same_taken, taken}
+use Rattle.pool_settings.proofs.Planned.{AreParts, only_memory, planned, same_instance, same_taken, taken}
 use Rattle.pool_settings.proofs.SlotSums.{length-owners_from}
 use Rattle.pool_settings.proofs.settings.Settings.input.Goals as goal
 
@@ -17,22 +16,30 @@ live_workers-requires c =
 pub returns-in-Ok : goal.returns-in-Ok
 returns-in-Ok c =
     let p = profile_view c.self.inside in
-    let live : c.deref.result.now ≡ live_workers p c.args.live.now =
-    c.deref.ensures.value ∙ c.in_ok-workers.ensures ∙ ap (λ (machines : List ℕ). filter (λ worker. get_or c.args.live.now worker.0 false) (enumerate_from 0 machines)) c.owners.ensures in
-    let may : map (λ row. row.items) c.deref-2.result.now ≡ p.may = ap (map (λ row. row.items)) c.deref-2.ensures.value in
-    let least : c.deref-3.result.now ≡ p.least = c.deref-3.ensures.value in
+    let waiting = c.args.waiting.now in
+    let marks = c.args.live.now in
+    let parts : AreParts c.deref.result.now (map (λ row. row.items) c.deref-2.result.now) c.deref-3.result.now c.deref-4.result.now p marks = record {
+      live_is = c.deref.ensures.value ∙ c.in_ok-workers.ensures ∙ ap (λ (machines : List ℕ). filter (λ worker. get_or marks worker.0 false) (enumerate_from 0 machines)) c.owners.ensures;
+      may_is = ap (map (λ row. row.items)) c.deref-2.ensures.value;
+      least_is = c.deref-3.ensures.value;
+      most_is = c.deref-4.ensures.value;
+    } in
     record {
-      problem = c.in-Ok.ensures.ok ∙ same_instance _ _ _ _ _ _ c.args.waiting.now live may least ∙ planned p c.self.invariant c.args.live.now c.args.waiting.now
-          ∙ ap (λ (p : Profile). instance_of p c.args.live.now c.args.waiting.now) c.self.view_is;
+      problem = c.in-Ok.ensures.ok ∙ same_instance _ _ _ _ waiting p marks parts ∙ planned p c.self.invariant marks waiting
+          ∙ ap (λ (p : Profile). instance_of p marks waiting) c.self.view_is;
     }
 
 pub unreachable-requires : goal.unreachable-requires
 unreachable-requires c =
     let p = profile_view c.self.inside in
-    let live : c.deref.result.now ≡ live_workers p c.args.live.now =
-    c.deref.ensures.value ∙ c.in_ok-workers.ensures ∙ ap (λ (machines : List ℕ). filter (λ worker. get_or c.args.live.now worker.0 false) (enumerate_from 0 machines)) c.owners.ensures in
-    let may : map (λ row. row.items) c.deref-2.result.now ≡ p.may = ap (map (λ row. row.items)) c.deref-2.ensures.value in
-    let least : c.deref-3.result.now ≡ p.least = c.deref-3.ensures.value in
-    let paired : length c.args.waiting.now ≡ length p.functions = subst (λ (p : Profile). length c.args.waiting.now ≡ length p.functions) (sym c.self.view_is) c.requires in
-    let sound = taken p c.self.invariant c.args.live.now c.args.waiting.now paired in
-    c.in_default.not-Memory (only_memory c.in-Err.error _ _ _ _ (same_taken _ _ _ _ _ _ c.args.waiting.now live may least sound) c.in-Err.ensures.refused)
+    let waiting = c.args.waiting.now in
+    let marks = c.args.live.now in
+    let parts : AreParts c.deref.result.now (map (λ row. row.items) c.deref-2.result.now) c.deref-3.result.now c.deref-4.result.now p marks = record {
+      live_is = c.deref.ensures.value ∙ c.in_ok-workers.ensures ∙ ap (λ (machines : List ℕ). filter (λ worker. get_or marks worker.0 false) (enumerate_from 0 machines)) c.owners.ensures;
+      may_is = ap (map (λ row. row.items)) c.deref-2.ensures.value;
+      least_is = c.deref-3.ensures.value;
+      most_is = c.deref-4.ensures.value;
+    } in
+    let paired : length waiting ≡ length p.functions = subst (λ (p : Profile). length waiting ≡ length p.functions) (sym c.self.view_is) c.requires in
+    let sound = taken p c.self.invariant marks waiting paired in
+    c.in_default.not-Memory (only_memory c.in-Err.error _ _ _ _ _ (same_taken _ _ _ _ waiting p marks parts sound) c.in-Err.ensures.refused)
