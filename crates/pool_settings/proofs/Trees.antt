@@ -1,12 +1,15 @@
 -- The tree of a text, and what it reads as.
-use Rattle.std.proofs.Common.{◌≡◌, ℕ, List, Bool, true, false, cond, Some, None, Err, refl, ap, ◌∙◌}
+use Rattle.std.proofs.Common.{◌≡◌, ℕ, suc, List, [], Bool, true, false, cond, length, Some, None, Err, refl, subst, sym, ap, ◌∙◌, arith}
 use Rattle.std.specs.Option.{option_map_or}
 use Rattle.std.specs.Str.{IsUtf8, is_utf8}
 use Rattle.std.proofs.lemmas.Str.{IsUtf8-from_is_utf8, is_utf8-from_IsUtf8}
-use Rattle.toml.specs.Data.{Members}
-use Rattle.toml.specs.Parse.{parse_document}
-use Rattle.pool_settings.specs.Reading.{read_tree, reading}
-use Rattle.pool_settings.specs.declared.error.SettingsError.TheVariants.{Text}
+use Rattle.toml.specs.Data.{Members, no_members}
+use Rattle.toml.specs.Errors.{IsBlank}
+use Rattle.toml.specs.Parse.{parse_document, skip_bom}
+use Rattle.toml.specs.Tables.{no_nodes}
+use Rattle.toml.proofs.Turns.{document_some, lines_end}
+use Rattle.pool_settings.specs.Reading.{first_fault, read_tree, reading}
+use Rattle.pool_settings.specs.declared.error.SettingsError.TheVariants.{Text, Version}
 
 pub taken_tree : (bytes : List ℕ) (tree : Members) → IsUtf8 bytes → parse_document bytes ≡ Some tree → reading bytes ≡ read_tree tree
 taken_tree bytes tree utf8 parsed =
@@ -21,3 +24,10 @@ no_tree bytes none = by (is_utf8 bytes) refl
         ap (λ b. option_map_or read_tree (cond b (parse_document bytes) None) (Err Text)) is
         ∙ ap (λ o. option_map_or read_tree o (Err Text)) (none (IsUtf8-from_is_utf8 bytes is))
     by false is = ap (λ b. option_map_or read_tree (cond b (parse_document bytes) None) (Err Text)) is
+
+-- a blank text has no version
+pub blank_fault : (bytes : List ℕ) (tree : Members) → IsBlank bytes → parse_document bytes ≡ Some tree → first_fault tree ≡ Some Version
+blank_fault bytes tree blank parsed =
+    let empty : parse_document bytes ≡ Some no_members = document_some bytes (no_nodes, []) (lines_end (suc (length bytes)) (no_nodes, []) (skip_bom bytes) (omega arith) blank) in
+    let same : tree ≡ no_members = cc in
+    subst (λ t. first_fault t ≡ Some Version) (sym same) refl

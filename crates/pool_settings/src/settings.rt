@@ -2,6 +2,7 @@
 
 ghost use Rattle.std.specs.Prelude.{◌≡◌, ◌≢◌, ◌<◌, ◌≤◌, ◌+◌, ◌^◌, Err, IfErr, IfOk, IfSome, None, Ok, Some, length, map, slice_index, slice_index_or, []};
 ghost use Rattle.std.specs.List.Sorted.{IsStrictlyIncreasing};
+ghost use Rattle.toml.specs.Errors.{IsBlank};
 ghost use Rattle.toml.specs.View.{table_view};
 ghost use Rattle.pool_settings.specs.Entries.{table_entries};
 ghost use Rattle.pool_settings.specs.Names as names;
@@ -62,7 +63,8 @@ impl Model for Settings {
 
 /// The first check that a tree fails.
 fn first_fault(tree: &Table) -> Option<SettingsError>
-    ensures { result ≡ spec.first_fault (table_view tree.now) }
+    ensures first { result ≡ spec.first_fault (table_view tree.now) }
+    ensures told { IfSome result (λ f. f ≢ SettingsError.Memory) }
 {
     if !has_version(tree) {
         return Some(SettingsError::Version);
@@ -128,6 +130,7 @@ fn settings_of(
 fn read_tree(alloc: Global, tree: &Table) -> Result<Settings, SettingsError>
     ensures ok { IfOk result (λ s. spec.read_tree (table_view tree.now) ≡ Ok s) }
     ensures refused { IfErr result (λ f. f ≢ SettingsError.Memory → spec.read_tree (table_view tree.now) ≡ Err f) }
+    ensures memory { IfErr result (λ f. f ≡ SettingsError.Memory → spec.first_fault (table_view tree.now) ≡ None) }
 {
     if let Some(fault) = first_fault(tree) {
         return Err(fault);
@@ -163,10 +166,12 @@ impl Settings {
     /// A name has 1 to 64 bytes from `!` to `~`, and a machine's holds no `/` and no `#`. A function that a machine lists twice is
     /// permitted once. The file is checked in the order of `SettingsError`, each check over the whole file before the next, and the
     /// first that fails is answered; `SettingsError` says what each is. What should be a table and is not has no keys and lacks
-    /// none: it is `BadValue`. `Memory` comes only where a growth was refused, and may come in the place of a later refusal.
+    /// none: it is `BadValue`. `Memory` comes only where a growth was refused, and may come in the place of a later refusal; a file
+    /// with nothing but white space and comments is `Version`, whatever memory there is.
     pub fn read(alloc: Global, bytes: &[u8]) -> Result<Settings, SettingsError>
         ensures ok { IfOk result (λ s. spec.reading bytes.now ≡ Ok s) }
         ensures refused { IfErr result (λ f. f ≢ SettingsError.Memory → spec.reading bytes.now ≡ Err f) }
+        ensures memory { IfErr result (λ f. f ≡ SettingsError.Memory → ¬ IsBlank bytes.now) }
     {
         match toml::table_from_slice(alloc, bytes) {
             Ok(tree) => read_tree(alloc, &tree),

@@ -65,6 +65,7 @@ fn refusals_of_texts(rt: HostRuntime) {
     assert!(rt; error_of(alloc, b"version = ") == Some(SettingsError::Text));
     assert!(rt; error_of(alloc, b"version = 1 # \xff\n") == Some(SettingsError::Text));
     assert!(rt; error_of(alloc, b"") == Some(SettingsError::Version));
+    assert!(rt; error_of(alloc, b" \t\r\n# version = 1\n") == Some(SettingsError::Version));
     assert!(rt; error_of(alloc, b"version = 1\n") == Some(SettingsError::MissingKey));
 }
 
