@@ -2,10 +2,10 @@
 use Rattle.std.specs.Prelude.{ℕ, ◌==◌, List, map, take, length, nat_le, Bool, not, is_some, Result, Ok, Err, if◌then◌else◌}
 use Rattle.std.specs.List.{filter_map, list_all, list_any, range_with_len}
 use Rattle.devices.specs.Whole.{limit}
-use Rattle.gear_status.specs.Status.{Line, status, waiting}
+use Rattle.gear_status.specs.Status.{Line, status}
 use Rattle.gear_status.specs.declared.error.StatusError.{StatusError}
 use Rattle.gear_status.specs.declared.error.StatusError.TheVariants.{Truncated}
-use Rattle.pool_settings.specs.Planning.{instance_of}
+use Rattle.pool_settings.specs.Planning.{instance_of, waiting_of}
 use Rattle.pool_settings.specs.Profile.{Profile}
 use Rattle.pool_settings.specs.Reading.{reading}
 use Rattle.pool_settings.specs.Slots.{slot_named, slots}
@@ -25,12 +25,8 @@ lost_slots p lost = filter_map (slot_named p) lost
 abbrev pub live_marks : Profile → List (List ℕ) → List Bool
 live_marks p lost = map (λ slot. not (list_any (λ l. l == slot) (lost_slots p lost))) (range_with_len 0 (slots p))
 
--- by function, the jobs that wait for it
-abbrev pub waiting_for : Profile → List Line → List ℕ
-waiting_for p load = map (waiting load) p.functions
-
 abbrev pub problem_of : Profile → List (List ℕ) → List Line → Problem
-problem_of p lost load = record { settings = p; input = instance_of p (live_marks p lost) (waiting_for p load) }
+problem_of p lost load = record { settings = p; input = instance_of p (live_marks p lost) (waiting_of p load) }
 
 -- a value, or the fault that stands for its error
 abbrev pub told : {A E : Type 0} → (E → Fault) → Result A E → Result A Fault

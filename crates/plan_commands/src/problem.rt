@@ -2,7 +2,7 @@
 
 ghost use Rattle.std.specs.Prelude.{◌≡◌, ◌≢◌, ◌-◌, ◌^◌, ◌<◌, IfErr, IfOk, false, map, true};
 ghost use Rattle.gear_status.specs.Sides.{Meets, Met};
-ghost use Rattle.pool_settings.specs.Planning.{instance_of};
+ghost use Rattle.pool_settings.specs.Planning.{instance_of, waiting_of};
 ghost use Rattle.plan_commands.specs.Posing.{IsDue, Loads, Poses};
 ghost use Rattle.plan_commands.specs.Problem as spec;
 
@@ -38,8 +38,8 @@ fn live_marks(alloc: Global, settings: &Settings, lost: &[&str]) -> Result<Vec<b
 }
 
 /// By function, the jobs that wait for it.
-fn waiting_for(alloc: Global, settings: &Settings, load: &Load) -> Result<Vec<u32>, AllocError>
-    ensures { IfOk result (λ waiting. waiting.items ≡ spec.waiting_for settings.now load.now) }
+fn waiting_of(alloc: Global, settings: &Settings, load: &Load) -> Result<Vec<u32>, AllocError>
+    ensures { IfOk result (λ waiting. waiting.items ≡ waiting_of settings.now load.now) }
 {
     let mut waiting = Vec::new(alloc);
     for number in 0..settings.functions() {
@@ -67,9 +67,9 @@ fn input_of(
     live: &[bool],
     load: &Load,
 ) -> Result<Input, AllocError>
-    ensures { IfOk result (λ input. input ≡ instance_of settings.now live.now (spec.waiting_for settings.now load.now)) }
+    ensures { IfOk result (λ input. input ≡ instance_of settings.now live.now (waiting_of settings.now load.now)) }
 {
-    let waiting = waiting_for(alloc, settings, load)?;
+    let waiting = waiting_of(alloc, settings, load)?;
     settings.input(alloc, live, &waiting)
 }
 

@@ -1,6 +1,6 @@
 use Rattle.std.proofs.Common.{◌≡◌, map, take}
 use Rattle.gear_status.specs.Status.{waiting}
-use Rattle.plan_commands.proofs.problem.waiting_for.Given as goal
+use Rattle.plan_commands.proofs.problem.waiting_of.Given as goal
 
 -- the jobs of the functions so far
 abbrev pub invariant-loop-number : goal.invariant-loop-number
