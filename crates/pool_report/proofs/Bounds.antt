@@ -1,5 +1,5 @@
 -- The numbers on a report's lines are small enough for them.
-use Rattle.std.proofs.Common.{◌≡◌, ◌≢◌, ℕ, ◌+◌, ◌-◌, ◌*◌, ◌^◌, ◌<◌, ◌≤◌, zero, suc, max, Bool, true, false, cond, eqb, List, [], ◌∷◌, length, find, fold, sum_by, get_or, unwrap_or, All, refl, lit<, inl, inr, arith}
+use Rattle.std.proofs.Common.{◌≡◌, ◌≢◌, ℕ, ◌+◌, ◌-◌, ◌*◌, ◌^◌, ◌<◌, ◌≤◌, zero, suc, max, min, Bool, true, false, cond, eqb, List, [], ◌∷◌, length, find, fold, sum_by, get_or, unwrap_or, All, refl, lit<, inl, inr, arith}
 use Rattle.std.specs.List.{range_with_len}
 use Rattle.std.specs.Int.{div_ceil}
 use Rattle.std.specs.List.Sorted.{IsStrictlyIncreasing}
@@ -19,7 +19,7 @@ find_within p from (suc many) d m range low = by (p from) refl (find_within p (f
     by false is rest = rw is rest
 
 pub need_few : (i : Instance) (level f : ℕ) → need i level f ≤ length i.live + 1
-need_few i level f = find_within _ (get_or i.least f 0) (length i.live + 1 - get_or i.least f 0) (length i.live + 1) (length i.live + 1) (λ some. omega (arith, some)) (omega arith)
+need_few i level f = find_within _ (get_or i.least f 0) (min (length i.live) (get_or i.most f 0) + 1 - get_or i.least f 0) (length i.live + 1) (length i.live + 1) (λ some. omega (arith, some)) (omega arith)
 
 pub sum_few : (i : Instance) (level : ℕ) (set : List ℕ) → IsInstance i → IsStrictlyIncreasing set → All (λ f. f < length i.least) set → sum_by (need i level) set < 2 ^ 64
 sum_few i level set valid rising within =

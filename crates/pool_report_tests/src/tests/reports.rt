@@ -41,6 +41,27 @@ const NO_PLAN: Example<'static> = Example {
     report: "report 1\nnoplan\nshort need 2 have 1\nin x need 2\nstranded y 4\nend\n",
 };
 
+/// Two workers may do the function, and at most one is to. With fewer than nine jobs a worker no number of workers will do, so it
+/// needs one more than there are.
+const MOST_ONE: Example<'static> = Example {
+    settings: "version = 2\n[functions.x]\nmost = 1\n[machines.a]\nworkers = 2\nfunctions = [\"x\"]\n",
+    waiting: &[9],
+    report: "report 1\nbacklog 9\nwork a/0 x\nidle a/1\nshort need 3 have 2\nin x need 3\nend\n",
+};
+
+const MOST_NONE: Example<'static> = Example {
+    settings: "version = 2\n[functions.x]\nmost = 0\n[machines.a]\nworkers = 2\nfunctions = [\"x\"]\n",
+    waiting: &[9],
+    report: "report 1\nunserved 9\nidle a/0\nidle a/1\nshort need 3 have 2\nin x need 3\nend\n",
+};
+
+/// No number is at least two and at most one.
+const LEAST_ABOVE_MOST: Example<'static> = Example {
+    settings: "version = 2\n[functions.x]\nleast = 2\nmost = 1\n[machines.a]\nworkers = 2\nfunctions = [\"x\"]\n",
+    waiting: &[9],
+    report: "report 1\nnoplan\nshort need 3 have 2\nin x need 3\nend\n",
+};
+
 /// What becomes of a text.
 #[derive(Clone, Copy, Debug, PartialEq, Eq)]
 enum Seen {
@@ -358,6 +379,51 @@ fn changed_stranded_functions(rt: HostRuntime) {
     }
     let bare = Seen::Refused(ReadError::BadLine(3));
     assert!(rt; NO_PLAN.see_edited(alloc, 3, Some("stranded y 4")) == Ok(bare));
+}
+
+/// The report with a greatest number of one, with another line in the place of one of its lines.
+const MOST_CHANGES: &[(usize, Option<&str>, Seen)] = &[
+    (2, Some("backlog 5"), Seen::Wrong(Reason::WrongBacklog)),
+    (3, Some("idle a/0"), Seen::Wrong(Reason::WrongBacklog)),
+    (4, Some("work a/1 x"), Seen::Wrong(Reason::WrongBacklog)),
+    (5, Some("short need 2 have 2"), Seen::Altered),
+    (6, Some("in x need 2"), Seen::Altered),
+];
+
+/// Whole texts for the settings with a greatest number of one. Which of the two workers has the function is free.
+const MOST_TEXTS: &[(&str, Seen)] = &[
+    (
+        "report 1\nbacklog 9\nidle a/0\nwork a/1 x\nshort need 3 have 2\nin x need 3\nend\n",
+        Seen::Report,
+    ),
+    (
+        "report 1\nbacklog 5\nwork a/0 x\nwork a/1 x\nshort need 3 have 2\nin x need 3\nend\n",
+        Seen::Wrong(Reason::AboveMost),
+    ),
+    (
+        "report 1\nbacklog 5\nwork a/0 x\nwork a/1 x\nend\n",
+        Seen::Wrong(Reason::SetMissing),
+    ),
+    (
+        "report 1\nunserved 9\nidle a/0\nidle a/1\nshort need 3 have 2\nin x need 3\nend\n",
+        Seen::Wrong(Reason::NotShort),
+    ),
+];
+
+#[test]
+fn greatest_numbers(rt: HostRuntime) {
+    let alloc = rt.alloc();
+    for example in [MOST_ONE, MOST_NONE, LEAST_ABOVE_MOST] {
+        assert!(rt; example.see(alloc, example.report) == Ok(Seen::Report));
+    }
+    for (number, line, seen) in MOST_CHANGES {
+        assert!(rt; MOST_ONE.see_edited(alloc, *number, *line) == Ok(*seen));
+    }
+    for (text, seen) in MOST_TEXTS {
+        assert!(rt; MOST_ONE.see(alloc, text) == Ok(*seen));
+    }
+    let reason = Reason::AboveMost;
+    assert!(rt; (reason.label().number(), reason.label().name()) == (8, "AboveMost"));
 }
 
 #[test]
