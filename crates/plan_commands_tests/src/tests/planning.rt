@@ -46,6 +46,66 @@ in x need 3
 end
 ";
 
+/// At most one of the two workers may do x.
+const PAIR_MOST_ONE: &[u8] = b"version = 2
+[functions.x]
+most = 1
+[machines.a]
+workers = 2
+functions = [\"x\"]
+";
+
+const PAIR_FIRST: &[u8] = b"report 1
+backlog 9
+work a/0 x
+idle a/1
+short need 3 have 2
+in x need 3
+end
+";
+
+const PAIR_SECOND: &[u8] = b"report 1
+backlog 9
+idle a/0
+work a/1 x
+short need 3 have 2
+in x need 3
+end
+";
+
+const PAIR_MOST_NONE: &[u8] = b"version = 2
+[functions.x]
+most = 0
+[machines.a]
+workers = 2
+functions = [\"x\"]
+";
+
+const PAIR_UNSERVED: &[u8] = b"report 1
+unserved 9
+idle a/0
+idle a/1
+short need 3 have 2
+in x need 3
+end
+";
+
+const PAIR_LEAST_ABOVE_MOST: &[u8] = b"version = 2
+[functions.x]
+least = 2
+most = 1
+[machines.a]
+workers = 2
+functions = [\"x\"]
+";
+
+const PAIR_NO_PLAN: &[u8] = b"report 1
+noplan
+short need 3 have 2
+in x need 3
+end
+";
+
 const PAIR_ONE: &[u8] = b"report 1
 backlog 1
 work a/0 x
@@ -324,6 +384,34 @@ fn counts_where_the_worker_is_free(rt: HostRuntime) {
     let alloc = rt.alloc();
     assert!(rt; workers_on_x(alloc, THREE, b"backlog 5\n") == Some(2));
     assert!(rt; workers_on_x(alloc, THREE_LEAST, b"backlog 10\n") == Some(1));
+}
+
+/// Which of two equal workers has the function is the planner's choice.
+#[test]
+fn reports_with_greatest_numbers(rt: HostRuntime) {
+    let alloc = rt.alloc();
+    let status = b"x\t9\t0\t0\n.\n";
+    assert!(rt;
+        plans(alloc, PAIR_MOST_ONE, &[], status, PAIR_FIRST, 0)
+            || plans(alloc, PAIR_MOST_ONE, &[], status, PAIR_SECOND, 0)
+    );
+    assert!(rt; plans(alloc, PAIR_MOST_NONE, &[], status, PAIR_UNSERVED, 0));
+    assert!(rt; plans(alloc, PAIR_LEAST_ABOVE_MOST, &[], status, PAIR_NO_PLAN, 1));
+}
+
+#[test]
+fn verdicts_with_greatest_numbers(rt: HostRuntime) {
+    let alloc = rt.alloc();
+    let status = b"x\t9\t0\t0\n.\n";
+    let above = b"not shown 8 AboveMost\n";
+    assert!(rt; checks(alloc, PAIR_MOST_ONE, &[], status, PAIR_NINE, above));
+    assert!(rt; checks(alloc, PAIR_MOST_ONE, &[], status, PAIR_FIRST, b"shown\n"));
+    assert!(rt; checks(alloc, PAIR_MOST_ONE, &[], status, PAIR_SECOND, b"shown\n"));
+    let other = b"not shown 4 NotShort\n";
+    assert!(rt; checks(alloc, PAIR_MOST_ONE, &[], status, PAIR_UNSERVED, other));
+    assert!(rt; checks(alloc, PAIR, &[], status, PAIR_FIRST, other));
+    let least = b"not shown 2 BelowLeast\n";
+    assert!(rt; checks(alloc, PAIR_LEAST_ABOVE_MOST, &[], status, PAIR_FIRST, least));
 }
 
 #[test]
