@@ -53,7 +53,8 @@ pub(super) fn input(
     for row in example.may {
         may.push(functions(alloc, row)?)?;
     }
-    let all = vec![in alloc; live.len() as u32; example.least.len()]?;
+    let workers = u32::try_from(live.len()).unwrap_or(u32::MAX);
+    let all = vec![in alloc; workers; example.least.len()]?;
     let most = example.most.unwrap_or(&all);
     Ok(Input::new(alloc, &live, &may, example.least, most, example.waiting))
 }
