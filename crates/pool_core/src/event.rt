@@ -9,7 +9,7 @@ use std::marker::Model;
 use std::sync::ArcSlice;
 use worker_state::{Cause, EndKind, Ticket, WorkerName};
 
-/// The name of a function, any bytes, which its copies share. Clauses see it as its bytes.
+/// The name of a function, any bytes, which several owners may share. Clauses see it as its bytes.
 #[derive(Drop)]
 pub struct FunctionName {
     bytes: ArcSlice<u8>,
@@ -34,7 +34,7 @@ impl FunctionName {
     }
 
     /// The same name, which shares the bytes.
-    pub fn copy(&self) -> Result<FunctionName, AllocError>
+    pub fn shared(&self) -> Result<FunctionName, AllocError>
         ensures { IfOk result (λ n. n ≡ self.now) }
     {
         let bytes = self.bytes.clone()?;

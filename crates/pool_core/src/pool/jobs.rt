@@ -51,7 +51,7 @@ impl Pool {
             return Err(refusal);
         }
         let function = FunctionName::copied(self.alloc, function)?;
-        let noted = function.copy()?;
+        let noted = function.shared()?;
         table::reserve_job(
             &mut self.jobs,
             &mut self.standings,

@@ -25,7 +25,7 @@ invariant_of-self-2 c =
     kept_grab p.settings p.chapters p.events.items (state_of p) p.owed p.reported p.lost _ c.self.invariant
     w c.args.handle c.args.function.now c.args.now_ms
     (ap (λ (b : Book). grab_refusal b w) c.self.view_is ∙ (sym c.grab_refusal.ensures ∙ c.in_default.is))
-    c.push_reserved-3.new.self.items (logged ∙ ap (λ (es : List Event). es ++ event.Grab w c.args.handle c.in_ok-noted.noted c.args.now_ms ∷ []) c.in_ok-reserve_job.ensures.events ∙ ap (λ (f : List ℕ). p.events.items ++ event.Grab w c.args.handle f c.args.now_ms ∷ []) c.in_ok-noted.ensures)
+    c.push_reserved-3.new.self.items (logged ∙ ap (λ (es : List Event). es ++ event.Grab w c.args.handle c.in_ok-noted.noted c.args.now_ms ∷ []) c.in_ok-reserve_job.ensures.events ∙ ap (λ (f : List ℕ). p.events.items ++ event.Grab w c.args.handle f c.args.now_ms ∷ []) (c.in_ok-noted.ensures ∙ c.in_ok-function.ensures))
     c.put_slot.new.slots.items (c.put_slot.ensures ∙ ap (λ (k : ℕ). slice_set p.slots.items w.slot (Live w.generation c.run_count-runs.result (Some k))) c.new-ticket.ensures ∙ ap (λ (n : ℕ). slice_set p.slots.items w.slot (Live w.generation n (Some (c.len.result + 1)))) runs ∙ ap (λ (n : ℕ). slice_set p.slots.items w.slot (Live w.generation (run_count (slot_in p.slots.items w.slot)) (Some (n + 1)))) given)
     c.put_time.new.times.items c.put_time.ensures
     c.push_reserved.new.self.items (assigned ∙ ap (λ (xs : List Job). xs ++ record { handle = c.copy.result; function = c.in_ok-function.function } ∷ []) c.in_ok-reserve_job.ensures.jobs ∙ ap (λ (h : List ℕ). p.jobs.items ++ record { handle = h; function = c.in_ok-function.function } ∷ []) c.copy.ensures ∙ ap (λ (f : List ℕ). p.jobs.items ++ record { handle = c.args.handle; function = f } ∷ []) c.in_ok-function.ensures)
