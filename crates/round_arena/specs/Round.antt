@@ -3,7 +3,7 @@ use Rattle.std.specs.Prelude.{◌≡◌, ℕ, ◌<◌, ◌^◌, Bool, List, Opti
 use Rattle.std.specs.List.{range_with_len}
 use Rattle.std.specs.List.Sorted.{IsStrictlyIncreasing, IsPermutation}
 use Rattle.round_arena.specs.declared.tables.Tables.{Tables}
-use Rattle.round_arena.specs.Plan.{IsGraph, IsAssigned, IsCounted, Represents}
+use Rattle.round_arena.specs.Plan.{IsGraph, IsAssigned, IsCounted, AreWithin, Represents}
 
 -- The tables fit together, for that many functions.
 pub record IsSound (functions : ℕ) (t : Tables) : Type 0 where
@@ -12,6 +12,8 @@ pub record IsSound (functions : ℕ) (t : Tables) : Type 0 where
   pub last : slice_index t.pairs.first.now functions ≡ length t.pairs.workers.now
   pub assigned : IsAssigned functions t.pairs.first.now t.pairs.workers.now t.owner.now
   pub counted : IsCounted functions t.owner.now t.count.now
+  pub limits : length t.most.now ≡ functions
+  pub within : AreWithin functions t.most.now t.owner.now
   pub staff : length t.machine.now ≡ length t.owner.now
   pub slots : length t.slot.now ≡ length t.owner.now
   pub rising : IsStrictlyIncreasing t.slot.now
@@ -21,9 +23,10 @@ pub record IsSound (functions : ℕ) (t : Tables) : Type 0 where
 abbrev pub Holds : (ℕ → ℕ → Bool) → ℕ → Tables → Type 0
 Holds permits functions t = Represents permits t.machine.now t.pairs.first.now t.pairs.workers.now functions
 
--- The permissions, machines, slots and the order of the functions stay.
+-- The permissions, greatest numbers, machines, slots and the order of the functions stay.
 pub record SamePairs (old new : Tables) : Type 0 where
   pub pairs : new.pairs ≡ old.pairs
+  pub most : new.most ≡ old.most
   pub machine : new.machine ≡ old.machine
   pub slot : new.slot ≡ old.slot
   pub order : new.order ≡ old.order

@@ -27,12 +27,14 @@ pub struct Tables<'a> {
     pub machine: &'a [MachineId],
     /// Which worker may do which function.
     pub pairs: Pairs<'a>,
+    /// The greatest number of workers of each function.
+    pub most: &'a [u32],
     /// All functions, in the order in which the search serves them: those that the fewest workers may
     /// do first. No contract speaks of this order.
     pub order: &'a [u32],
     /// The function of each worker, or the number of functions where it is idle.
     pub owner: &'a mut [u32],
-    /// How many workers are on each function, and last how many are idle.
+    /// How many workers are on each function, at most its greatest number, and last how many are idle.
     pub count: &'a mut [u32],
     /// How many pairs have been looked at since the tables were built.
     pub looks: u64,
