@@ -11,7 +11,10 @@ use Rattle.round_arena.proofs.Ranges.{range-below}
 use Rattle.std.proofs.lemmas.List.Sums.{sum_by-cons}
 use Rattle.augment.specs.declared.search.Tree.{Tree}
 use Rattle.round_arena.specs.declared.tables.Pairs.{Pairs}
-use Rattle.round_arena.specs.Plan.{IsAssigned, IsCounted, count_on}
+use Rattle.round_arena.specs.declared.tables.Tables.{Tables}
+use Rattle.round_arena.specs.Round.{IsSound}
+use Rattle.augment.specs.Round.{AreLimited}
+use Rattle.round_arena.specs.Plan.{IsAssigned, IsCounted, AreWithin, count_on}
 use Rattle.augment.specs.Tree.{HasRoom}
 use Rattle.augment.specs.Moves.{one_if_equal, GainsOne}
 use Rattle.augment.proofs.Totals.{total, served_up_to, total-cong, total-le, total-add, total-zeros, total-change, total-one_if_equal}
@@ -191,3 +194,12 @@ looks-le pairs order need before owner count tree looks_before looks_now done s 
     let few : length pairs.workers.now * served_up_to (length need) need owner ≤ length pairs.workers.now * length before =
     mul-le-mul_left (length pairs.workers.now) (omega (arith, served-le (length need) need owner, s.size)) in
     omega (arith, few, s.looks)
+
+-- needs that are within the greatest numbers give no function more
+pub AreWithin-served : (need : List ℕ) (t : Tables) (after : List ℕ) → IsSound (length need) t → AreLimited need t → ((f : ℕ) → f < length need → get_or need f 0 ≤ length t.owner.now)
+    → ((f : ℕ) → f < length need → count_on after f ≤ max (get_or need f 0) (count_on t.owner.now f)) → AreWithin (length need) t.most.now after
+AreWithin-served need t after s limited few capped f l =
+    elim (limited f l) [
+      | inl within ↦ omega (arith, within, capped f l, s.within f l)
+      | inr above ↦ absurd (omega (arith, above, few f l))
+    ]

@@ -3,7 +3,7 @@ use Rattle.std.proofs.Common.{◌≡◌, ℕ, zero, suc, ◌+◌, ◌-◌, ◌<�
 use Rattle.std.specs.List.{list_any, range_with_len}
 use Rattle.std.specs.List.Sorted.{IsStrictlyIncreasing}
 use Rattle.std.proofs.lemmas.Bool.{cases_eq, eq-eqb, ltb-true, lt-ltb, or_cases, or_left, or_right, false≢true}
-use Rattle.std.proofs.lemmas.List.Sums.{sum_by-cons, sum_by-append}
+use Rattle.std.proofs.lemmas.List.Sums.{count_by-le-length, sum_by-cons, sum_by-append}
 use Rattle.std.proofs.lemmas.List.Folds.{list_any-append}
 use Rattle.std.proofs.lemmas.List.Elements.{All-filter, filter-append}
 use Rattle.std.proofs.lemmas.List.Kept.{IsStrictlyIncreasing-filter}
@@ -170,3 +170,14 @@ IsShort-stuck permits machines pairs owner count need t root r e c l s =
       within = marked-below place functions;
       short = subst (λ (z : List ℕ). neighbours permits machines z < sum_by (λ f. get_or need f 0) z) (marks-marked place functions) (omega (arith, few, less, sum_by-marks (count_on owner) place functions, sum_by-marks (λ f. get_or need f 0) place functions));
     }
+
+-- a function that needs more workers than there are is short alone
+pub LacksWorkers-alone : (permits : ℕ → ℕ → Bool) (machines : List ℕ) (functions : ℕ) (need : ℕ → ℕ) (f : ℕ) → f < functions → length machines < need f → LacksWorkers permits machines functions need (f ∷ [])
+LacksWorkers-alone permits machines functions need f below above = record {
+  rising = λ k l. absurd (omega (arith, l));
+  within = λ k d l. elim (cases_eq k 0) [
+    | inl q ↦ omega (arith, below, ap (λ z. get_or (f ∷ []) z d) q)
+    | inr ne ↦ absurd (omega (arith, l, ne))
+  ];
+  short = omega (arith, above, count_by-le-length (λ m. list_any (permits m) (f ∷ [])) machines, sum_by-cons need f []);
+}

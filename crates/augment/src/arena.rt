@@ -1,7 +1,7 @@
-ghost use Rattle.std.specs.Prelude.{◌≡◌, ℕ, ◌+◌, ◌*◌, ◌^◌, ◌<◌, ◌≤◌, length, IfOk, OnErr};
+ghost use Rattle.std.specs.Prelude.{◌≡◌, ℕ, ◌+◌, ◌*◌, ◌^◌, ◌<◌, ◌≤◌, length, slice_index, IfOk, OnErr, IfSome, IfNone};
 ghost use Rattle.augment.specs.Short.{marked};
 ghost use Rattle.round_arena.specs.Round.{IsSound, SamePairs};
-ghost use Rattle.augment.specs.Round.{IsServed, KeepsServed, IsCapped, IsWithinLooks, PaysForWorkers};
+ghost use Rattle.augment.specs.Round.{AreLimited, IsServed, KeepsServed, IsCapped, IsWithinLooks, PaysForWorkers};
 
 use crate::search::Tree;
 use crate::serving::{Served, collect, serve_all};
@@ -13,7 +13,12 @@ use std::alloc::AllocError;
 /// nobody can serve these needs). In both cases each worker does at most one function, a permitted
 /// one.
 ///
-/// No function falls below the smaller of its need and its number before, nor rises above the larger.
+/// The condition on the needs is that each is at most the function's greatest number of workers, or above
+/// the number of workers. Where one is above the number of workers, the set is its function alone, nothing
+/// is looked at and nobody moves.
+///
+/// No function falls below the smaller of its need and its number before, nor rises above the larger. None
+/// gets more workers than its greatest number.
 ///
 /// For L workers and P permitted pairs it looks at most at L * P pairs where all is served, and at
 /// (L + 1) * P where a set is short; so many looks must fit into the tables' counter. It looks at least once for each worker who
@@ -23,6 +28,7 @@ use std::alloc::AllocError;
 /// tables are as before.
 pub fn serve<'a>(tables: &mut Tables<'a>, need: &[u32]) -> Result<Served<'a>, AllocError>
     requires sound { IsSound (length need.now) tables.old }
+    requires limited { AreLimited need.now tables.old }
     requires looks { tables.old.looks + (length tables.old.owner.now + 1) * length tables.old.pairs.workers.now < 2 ^ 64 }
     ensures sound { IsSound (length need.now) tables.new }
     ensures same { SamePairs tables.old tables.new }
@@ -35,6 +41,10 @@ pub fn serve<'a>(tables: &mut Tables<'a>, need: &[u32]) -> Result<Served<'a>, Al
 {
     let functions = need.len();
     let bump = tables.bump;
+    if let Some(alone) = beyond(need, tables.owner.len()) {
+        let set = bump.try_alloc_slice_copy(&[FuncId::new(alone)])?;
+        return Ok(Served::Short(set));
+    }
     let set = bump.try_alloc_slice_fill_clone(functions, FuncId::new(0))?;
     let mut tree = Tree {
         reached: bump.try_alloc_slice_fill_clone(functions, 0)?,
@@ -56,6 +66,20 @@ pub fn serve<'a>(tables: &mut Tables<'a>, need: &[u32]) -> Result<Served<'a>, Al
         return Ok(Served::All);
     }
     Ok(Served::Short(reached(&tree, set)))
+}
+
+// The first function that needs more workers than there are.
+fn beyond(need: &[u32], workers: usize) -> Option<u32>
+    requires functions { length need.now < 2 ^ 32 }
+    ensures above { IfSome result (λ f. (f < length need.now) × (workers < slice_index need.now f)) }
+    ensures within { IfNone result ((f : ℕ) → f < length need.now → slice_index need.now f ≤ workers) }
+{
+    for f in 0..need.len() {
+        if need[f] as usize > workers {
+            return Some(f as u32);
+        }
+    }
+    None
 }
 
 // The functions that the tree marks, in order.
