@@ -8,7 +8,8 @@ use Rattle.round_arena.specs.Round.{IsSound, SamePairs, entries_of, plan_of}
 use Rattle.level_search.specs.Levels.{Fits, AreMet}
 use Rattle.level_search.specs.Answered.{evidence}
 use Rattle.level_search.proofs.Bisecting.{Fits-same}
-use Rattle.level_search.proofs.Showing.{Tells, IsFull, plan_of-is, shown-plan}
+use Rattle.level_search.specs.Filled.{IsFull}
+use Rattle.level_search.proofs.Showing.{Tells, plan_of-is, shown-plan}
 
 -- filling keeps what the tables tell
 pub Tells-filled : (i : Instance) (t u : Tables) → Fits i t → t.slot.now ≡ map (λ worker. worker.0) i.live → IsSound (length i.least) u → SamePairs t u → Tells i u

@@ -16,16 +16,17 @@ use Rattle.level_search.specs.Levels.{AreNeeds, Fits, AreMet}
 use Rattle.level_search.specs.Found.{IsProbed, KeepsMet}
 
 pub SamePairs-refl : (t : Tables) → SamePairs t t
-SamePairs-refl t = record { pairs = refl; machine = refl; slot = refl; order = refl; staff = refl }
+SamePairs-refl t = record { pairs = refl; most = refl; machine = refl; slot = refl; order = refl; staff = refl }
 
 pub SamePairs-trans : (t u v : Tables) → SamePairs t u → SamePairs u v → SamePairs t v
-SamePairs-trans t u v a b = record { pairs = b.pairs ∙ a.pairs; machine = b.machine ∙ a.machine; slot = b.slot ∙ a.slot; order = b.order ∙ a.order; staff = b.staff ∙ a.staff }
+SamePairs-trans t u v a b = record { pairs = b.pairs ∙ a.pairs; most = b.most ∙ a.most; machine = b.machine ∙ a.machine; slot = b.slot ∙ a.slot; order = b.order ∙ a.order; staff = b.staff ∙ a.staff }
 
 pub Fits-same : (i : Instance) (t u : Tables) → SamePairs t u → Fits i t → Fits i u
 Fits-same i t u s h =
     let machine : u.machine.now ≡ t.machine.now = ap (λ m. m.now) s.machine in
     record {
       machines = machine ∙ h.machines;
+      most = ap (λ m. m.now) s.most ∙ h.most;
       holds = subst (λ (m : List ℕ). Represents (may_do i) m u.pairs.first.now u.pairs.workers.now (length i.least)) (sym machine)
           (subst (λ (p : Pairs). Represents (may_do i) t.machine.now p.first.now p.workers.now (length i.least)) (sym s.pairs) h.holds);
     }

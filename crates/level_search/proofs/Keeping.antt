@@ -1,18 +1,16 @@
 -- the previous plan, where it is best
-use Rattle.std.proofs.Common.{◌≡◌, ℕ, ◌<◌, ◌≤◌, ◌||◌, true, false, eqb, ltb, List, [], Option, Some, None, is_some, length, get_or, map, sym, ap, ◌∙◌, subst, arith, inl, inr}
-use Rattle.std.proofs.lemmas.Bool.{cases_lt, cond-false, le-ltb, or_cases, eqb-true, false≢true}
-use Rattle.std.specs.List.{list_any}
+use Rattle.std.proofs.Common.{◌≡◌, ℕ, ◌<◌, ◌≤◌, ◌||◌, Bool, true, eqb, leb, ltb, List, [], ◌∷◌, Option, Some, None, is_some, length, get_or, map, sym, ap, ◌∙◌, subst, arith, inl, inr}
+use Rattle.std.proofs.lemmas.Bool.{cases_lt, cond-false, le-ltb, leb-true, or_cases, and_parts, eqb-true, false≢true}
+use Rattle.std.specs.List.{list_any, list_all}
 use Rattle.std.proofs.lemmas.List.{ext_get_or}
-use Rattle.std.proofs.lemmas.List.Elements.{All-from_get_or}
-use Rattle.std.proofs.lemmas.List.Folds.{list_any_none}
 use Rattle.std.proofs.lemmas.List.Sums.{AllPass-from_list_all}
-use Rattle.plan_model.specs.Planning.{Instance, IsInstance, IsSound, IsBest, Assignment, assigned, backlog_of, is_full, may_do, top_level}
+use Rattle.plan_model.specs.Planning.{Instance, IsInstance, IsSound, IsBest, Assignment, assigned, backlog_of, is_full, is_filled, may_do, workers_on, top_level}
 use Rattle.plan_model.specs.declared.answer.Answer.{Answer}
 use Rattle.plan_model.proofs.Hall.{need-le-workers_on, hall_count, backlog-le-top}
 use Rattle.plan_model.proofs.Reached.{needs-met}
 use Rattle.round_arena.specs.declared.tables.Tables.{Tables}
 use Rattle.round_arena.specs.Input.{cut_plan}
-use Rattle.round_arena.specs.Plan.{IsAssigned, IsCounted}
+use Rattle.round_arena.specs.Plan.{IsAssigned, IsCounted, AreWithin, count_on}
 use Rattle.round_arena.specs.Round as round
 use Rattle.round_arena.specs.Round.{SamePairs, entries_of, function_at}
 use Rattle.round_arena.specs.declared.tables.Pairs.{Pairs}
@@ -25,7 +23,7 @@ use Rattle.level_search.specs.Found.{IsFound, Serves}
 use Rattle.level_search.specs.Answered.{Starts}
 use Rattle.level_search.specs.Steady.{HasPlan, IsSteady, IsSeed}
 use Rattle.level_search.proofs.Bisecting.{Fits-same, SamePairs-trans}
-use Rattle.level_search.proofs.Showing.{Tells, plan_of, plan_of-is, plan-at, machine-at, many, workers_on-is, is_permitted-plan}
+use Rattle.level_search.proofs.Showing.{Tells, plan_of, plan_of-is, plan-at, machine-at, many, workers_on-is, is_permitted-plan, meets_most-plan}
 
 -- tables that serve the level that was found
 pub IsFound-kept : (i : Instance) (t u : Tables) (owner : List ℕ) (found : Found) → u.owner.now ≡ owner → IsFound i t found → Serves i owner found → IsFound i u found
@@ -38,13 +36,14 @@ IsSeed-later n t u seed s same eo ec = record {
   size = ap length eo ∙ sym same.staff;
   assigned = subst (λ (p : Pairs). IsAssigned n p.first.now p.workers.now seed.owner.now) (sym same.pairs) (subst (λ (o : List ℕ). IsAssigned n t.pairs.first.now t.pairs.workers.now o) (sym eo) s.assigned);
   counted = subst (λ (o : List ℕ). IsCounted n o seed.count.now) (sym eo) (subst (λ (c : List ℕ). IsCounted n t.owner.now c) (sym ec) s.counted);
+  within = subst (λ (m : List ℕ). AreWithin n m seed.owner.now) (sym (ap (λ m. m.now) same.most)) (subst (λ (o : List ℕ). AreWithin n t.most.now o) (sym eo) s.within);
 }
 
 -- a best plan meets the needs of each level that some sound plan is within
 best-serves : (i : Instance) (t kept : Tables) (level : ℕ) → Tells i t → Tells i kept → AreMet i t.owner.now level → IsBest i (assigned (plan_of i kept)) → AreMet i kept.owner.now level
 best-serves i t kept level h k met best f l =
     let reach = needs-met i (assigned (plan_of i t)) level (λ g m. omega (arith, met g m, workers_on-is i t h g m)) in
-    let sound : IsSound i (assigned (plan_of i t)) = record { permitted = is_permitted-plan i t h; enough = reach.0 } in
+    let sound : IsSound i (assigned (plan_of i t)) = record { permitted = is_permitted-plan i t h; enough = reach.0; at_most = meets_most-plan i t h } in
     let within : backlog_of i (assigned (plan_of i kept)) ≤ level = omega (arith, best.best (assigned (plan_of i t)) sound, reach.1) in
     omega (arith, need-le-workers_on i (assigned (plan_of i kept)) level f best.sound within l, workers_on-is i kept k f l)
 
@@ -54,27 +53,37 @@ best-found i t kept (Level level set) valid h k found best = best-serves i t kep
 best-found i t kept (Nothing set) valid h k found best =
     absurd (omega (arith, hall_count i top_level set.now (assigned (plan_of i kept)) found best.sound, backlog-le-top i (assigned (plan_of i kept)) valid.counted))
 
--- no machine may do anything whose row is empty
-nothing-empty : (row : List ℕ) (f : ℕ) → length row ≡ 0 → list_any (λ g. eqb g f) row ≡ true → ⊥
-nothing-empty row f empty can = false≢true (sym (list_any_none (λ g. eqb g f) row (All-from_get_or (λ g. eqb g f ≡ false) row 0 (λ k inside. absurd (omega (arith, empty, inside))))) ∙ can)
+-- what holds of each of a list holds of one that is there
+each-there : (p : ℕ → Bool) (row : List ℕ) (f : ℕ) → list_all p row ≡ true → list_any (λ g. eqb g f) row ≡ true → p f ≡ true
+each-there p [] f all there = absurd (false≢true there)
+each-there p (g ∷ row) f all there =
+    let parts = and_parts (p g) (list_all p row) all in
+    elim (or_cases (eqb g f) (list_any (λ h. eqb h f) row) there) [
+      | inl here ↦ ap p (sym (eqb-true g f here)) ∙ parts.0
+      | inr later ↦ each-there p row f parts.1 later
+    ]
 
--- who is idle in a full plan may do nothing
-idle-empty : (i : Instance) (t : Tables) → Tells i t → is_full i (assigned (plan_of i t)) ≡ true → (w : ℕ) → w < length i.live → length i.least ≤ get_or t.owner.now w 0 → length (get_or i.may (get_or t.machine.now w 0) []) ≡ 0
-idle-empty i t h full w inside idle =
+-- what an idle worker may do in a full plan is at its greatest number
+idle-filled : (i : Instance) (t : Tables) → Tells i t → is_full i (assigned (plan_of i t)) ≡ true → (w f : ℕ) → w < length i.live → length i.least ≤ get_or t.owner.now w 0 → f < length i.least
+    → may_do i (get_or t.machine.now w 0) f ≡ true → get_or i.most f 0 ≤ count_on t.owner.now f
+idle-filled i t h full w f inside idle below can =
     let plan : Assignment = assigned (plan_of i t) in
     let worker : ℕ × ℕ = get_or i.live w (0, 0) in
-    let here : (is_some (plan worker.0) || eqb (length (get_or i.may worker.1 [])) 0) ≡ true = AllPass-from_list_all (λ worker. is_some (plan worker.0) || eqb (length (get_or i.may worker.1 [])) 0) i.live full w (0, 0) inside in
+    let here : (is_some (plan worker.0) || list_all (is_filled i plan) (get_or i.may worker.1 [])) ≡ true = AllPass-from_list_all (λ worker. is_some (plan worker.0) || list_all (is_filled i plan) (get_or i.may worker.1 [])) i.live full w (0, 0) inside in
     let none : plan worker.0 ≡ None = plan-at i t h w inside ∙ cond-false (ltb (get_or t.owner.now w 0) (length i.least)) (Some (get_or t.owner.now w 0)) None (le-ltb (get_or t.owner.now w 0) (length i.least) idle) in
-    elim (or_cases (is_some (plan worker.0)) (eqb (length (get_or i.may worker.1 [])) 0) here) [
+    elim (or_cases (is_some (plan worker.0)) (list_all (is_filled i plan) (get_or i.may worker.1 [])) here) [
       | inl some ↦ absurd (false≢true (sym (ap is_some none) ∙ some))
-      | inr empty ↦ ap (λ m. length (get_or i.may m [])) (sym (machine-at i t h w inside)) ∙ eqb-true (length (get_or i.may worker.1 [])) 0 empty
+      | inr all ↦
+          let may : may_do i worker.1 f ≡ true = ap (λ m. may_do i m f) (machine-at i t h w inside) ∙ can in
+          let filled : leb (get_or i.most f 0) (workers_on i plan f) ≡ true = each-there (is_filled i plan) (get_or i.may worker.1 []) f all may in
+          omega (arith, leb-true _ _ filled, workers_on-is i t h f below)
     ]
 
 pub Tells-now : (i : Instance) (t : Tables) → round.IsSound (length i.least) t → Fits i t → t.slot.now ≡ map (λ worker. worker.0) i.live → Tells i t
 Tells-now i t sound fits slots = record { sound = sound; fits = fits; slots = slots }
 
 -- filling changes nothing where the plan is full
-pub filled-full : (i : Instance) (t u : Tables) → Tells i t → IsFilled (length i.least) t.pairs t.owner.now u.owner.now u.count.now → is_full i (assigned (round.plan_of t)) ≡ true → u.owner.now ≡ t.owner.now
+pub filled-full : (i : Instance) (t u : Tables) → Tells i t → IsFilled (length i.least) t.pairs t.most.now t.owner.now u.owner.now u.count.now → is_full i (assigned (round.plan_of t)) ≡ true → u.owner.now ≡ t.owner.now
 filled-full i t u h filled full' =
     let full : is_full i (assigned (plan_of i t)) ≡ true = ap (λ z. is_full i (assigned z)) (sym (plan_of-is i t h)) ∙ full' in
     ext_get_or 0 u.owner.now t.owner.now filled.size
@@ -85,7 +94,8 @@ filled-full i t u h filled full' =
       | inr idle ↦ elim (cases_lt (get_or u.owner.now w 0) (length i.least)) [
         | inl moved ↦
             let can : may_do i (get_or t.machine.now w 0) (get_or u.owner.now w 0) ≡ true = h.fits.holds.permitted w (get_or u.owner.now w 0) moved (filled.assigned.permitted w l moved) in
-            absurd (nothing-empty (get_or i.may (get_or t.machine.now w 0) []) (get_or u.owner.now w 0) (idle-empty i t h full w inside idle) can)
+            let most : get_or t.most.now (get_or u.owner.now w 0) 0 ≡ get_or i.most (get_or u.owner.now w 0) 0 = ap (λ m. get_or m (get_or u.owner.now w 0) 0) h.fits.most in
+            absurd (omega (arith, most, idle-filled i t h full w (get_or u.owner.now w 0) inside idle moved can, filled.room w (omega (arith, l, filled.size)) idle moved))
         | inr stays ↦ omega (arith, idle, stays, h.sound.assigned.below w (omega (arith, l, filled.size)), filled.assigned.below w l)
       ]
     ])

@@ -1,13 +1,13 @@
 -- the plan that is copied from the tables is shown
-use Rattle.std.proofs.Common.{◌≡◌, ◌≢◌, ℕ, zero, suc, ◌+◌, ◌-◌, ◌<◌, ◌≤◌, Bool, true, false, cond, eqb, ltb, ◌||◌, ◌&&◌, List, [], ◌∷◌, length, map, get_or, count_by, is_some, Option, None, Some, refl, sym, ap, ◌∙◌, subst, arith, inl, inr}
+use Rattle.std.proofs.Common.{◌≡◌, ◌≢◌, ℕ, zero, suc, ◌+◌, ◌-◌, ◌<◌, ◌≤◌, Bool, true, false, cond, eqb, leb, ltb, ◌||◌, ◌&&◌, List, [], ◌∷◌, length, map, get_or, count_by, is_some, Option, None, Some, refl, sym, ap, ◌∙◌, subst, arith, inl, inr}
 use Rattle.std.specs.List.{list_any, list_all, range_with_len}
 use Rattle.std.specs.List.Sorted.{IsStrictlyIncreasing}
-use Rattle.std.proofs.lemmas.Bool.{cases_Bool, cases_eq, cases_lt, eq-eqb, eqb-true, eqb-false, ne_eqb, ltb-true, ltb-false, or_left, or_right, cond-true, cond-false}
+use Rattle.std.proofs.lemmas.Bool.{cases_Bool, cases_eq, eq-eqb, eqb-true, eqb-false, ne_eqb, le-leb, ltb-true, ltb-false, or_left, or_right, cond-true, cond-false}
 use Rattle.std.proofs.lemmas.List.{get_or-map, length-map}
 use Rattle.std.proofs.lemmas.List.Sums.{sum_by-cons, list_all-from_AllPass}
 use Rattle.std.proofs.lemmas.List.Elements.{All-from_get_or}
 use Rattle.std.proofs.lemmas.List.FromFn.{get_or-map-range_with_len, length-map-range_with_len}
-use Rattle.plan_model.specs.Planning.{Instance, IsInstance, IsSound, IsShort, Assignment, assigned, is_live, is_on, may_do, may_have, is_permitted, is_full, workers_on}
+use Rattle.plan_model.specs.Planning.{Instance, IsInstance, IsSound, IsShort, Assignment, assigned, functions, is_live, is_on, may_do, may_have, is_permitted, is_full, is_filled, meets_most, workers_on}
 use Rattle.plan_model.specs.Shown.{IsShownPlan, IsEvidence}
 use Rattle.plan_model.proofs.Reached.{needs-met, backlog-exact}
 use Rattle.round_arena.specs.declared.tables.Tables.{Tables}
@@ -15,22 +15,14 @@ use Rattle.round_arena.specs.Plan.{IsPair, count_on}
 use Rattle.round_arena.specs.Round.{entries_of, function_at}
 use Rattle.round_arena.specs.Round as round
 use Rattle.round_arena.proofs.Lists.{order-size}
+use Rattle.round_arena.proofs.Ranges.{range-below}
+use Rattle.round_arena.proofs.Seats.{rises, on-function}
+use Rattle.level_search.specs.Filled.{IsFull}
 use Rattle.level_search.specs.Levels.{Fits, AreMet}
 use Rattle.level_search.specs.Answered.{evidence}
 
--- later numbers of a rising list are larger
-later : (xs : List ℕ) → IsStrictlyIncreasing xs → (j d : ℕ) → j + suc d < length xs → get_or xs j 0 < get_or xs (j + suc d) 0
-later xs h j zero l =
-    let next : j + 1 ≡ j + suc zero = omega arith in
-    omega (arith, h j (omega arith), ap (λ k. get_or xs k 0) next)
-later xs h j (suc d) l =
-    let next : j + suc d + 1 ≡ j + suc (suc d) = omega arith in
-    omega (arith, later xs h j d (omega arith), h (j + suc d) (omega arith), ap (λ k. get_or xs k 0) next)
-
 apart : (xs : List ℕ) → IsStrictlyIncreasing xs → (j k : ℕ) → j < k → k < length xs → get_or xs j 0 ≢ get_or xs k 0
-apart xs h j k l m q =
-    let there : j + suc (k - j - 1) ≡ k = omega arith in
-    absurd (omega (arith, q, later xs h j (k - j - 1) (omega arith), ap (λ z. get_or xs z 0) there))
+apart xs h j k l m q = absurd (omega (arith, q, rises xs h j k l m))
 
 -- a listed map gives each slot its own function
 assigned-range : (slot : ℕ → ℕ) (function : ℕ → Option ℕ) (from many w : ℕ) → ((j k : ℕ) → j < k → k < from + many → slot j ≢ slot k) → from ≤ w → w < from + many
@@ -64,12 +56,6 @@ any-at : {X : Type 0} (p : X → Bool) (xs : List X) (d : X) (k : ℕ) → k < l
 any-at p [] d k l h = absurd (omega arith)
 any-at p (x ∷ xs) d zero l h = or_left (p x) (list_any p xs) h
 any-at p (x ∷ xs) d (suc k) l h = or_right (p x) (list_any p xs) (any-at p xs d k (omega arith) h)
-
-on-function : (functions o f : ℕ) → f < functions → is_on f (function_at functions o) ≡ eqb o f
-on-function functions o f l = elim (cases_Bool (ltb o functions)) [
-  | inl busy ↦ ap (is_on f) (cond-true (ltb o functions) (Some o) None busy)
-  | inr idle ↦ ap (is_on f) (cond-false (ltb o functions) (Some o) None idle) ∙ sym (ne_eqb o f (λ q. omega (arith, q, ltb-false o functions idle)))
-]
 
 -- what the tables say of the plan that is copied from them
 pub record Tells (i : Instance) (t : Tables) : Type 0 where
@@ -133,38 +119,47 @@ are_live-plan i t h =
     ap listed here
     ∙ any-at (λ worker. eqb worker.0 (get_or t.slot.now w 0)) i.live (0, 0) w there (eq-eqb (get_or i.live w (0, 0)).0 (get_or t.slot.now w 0) (slot-at i t h w there))))
 
--- who stands in any pair is not idle
-abbrev pub IsFull : ℕ → Tables → Type 0
-IsFull functions t = (w f : ℕ) → f < functions → IsPair t.pairs.first.now t.pairs.workers.now w f → get_or t.owner.now w 0 < functions
+-- no function has more than its greatest number
+pub meets_most-plan : (i : Instance) (t : Tables) → Tells i t → meets_most i (assigned (plan_of i t)) ≡ true
+meets_most-plan i t h =
+    list_all-from_AllPass (λ f. leb (workers_on i (assigned (plan_of i t)) f) (get_or i.most f 0)) (functions i)
+    (λ k d l.
+    let below : get_or (functions i) k d < length i.least = range-below (length i.least) k d l in
+    le-leb _ _ (omega (arith, workers_on-is i t h (get_or (functions i) k d) below, h.sound.within (get_or (functions i) k d) below, ap (λ m. get_or m (get_or (functions i) k d) 0) h.fits.most)))
 
-empty-row : (i : Instance) (t : Tables) → IsInstance i → Tells i t → IsFull (length i.least) t → (w : ℕ) → w < length i.live → length i.least ≤ get_or t.owner.now w 0 → length (get_or i.may (get_or t.machine.now w 0) []) ≡ 0
-empty-row i t valid h full w l idle =
+-- what an idle worker may do is at its greatest number
+idle-row : (i : Instance) (t : Tables) → IsInstance i → Tells i t → IsFull (length i.least) t → (w : ℕ) → w < length i.live → length i.least ≤ get_or t.owner.now w 0
+    → list_all (is_filled i (assigned (plan_of i t))) (get_or i.may (get_or t.machine.now w 0) []) ≡ true
+idle-row i t valid h full w l idle =
     let m : ℕ = get_or t.machine.now w 0 in
     let row : List ℕ = get_or i.may m [] in
-    elim (cases_lt 0 (length row)) [
-      | inl some ↦
-          let known : m < length i.may = omega (arith, valid.machines w (0, 0) l, machine-at i t h w l) in
-          let f : ℕ = get_or row 0 0 in
-          let inside : f < length i.least = valid.within m [] known 0 0 some in
-          let can : may_do i m f ≡ true = any-at (λ g. eqb g f) row 0 0 some (eq-eqb f f refl) in
-          let pair = h.fits.holds.listed w f (omega (arith, l, many i t h, h.sound.slots, h.sound.staff)) inside can in
-          absurd (omega (arith, full w f inside pair, idle))
-      | inr none ↦ omega arith
-    ]
+    let known : m < length i.may = omega (arith, valid.machines w (0, 0) l, machine-at i t h w l) in
+    list_all-from_AllPass (is_filled i (assigned (plan_of i t))) row
+    (All-from_get_or (λ f. is_filled i (assigned (plan_of i t)) f ≡ true) row 0
+    (λ k inside.
+    let f : ℕ = get_or row k 0 in
+    let below : f < length i.least = valid.within m [] known k 0 inside in
+    let can : may_do i m f ≡ true = any-at (λ g. eqb g f) row 0 k inside (eq-eqb f f refl) in
+    let pair = h.fits.holds.listed w f (omega (arith, l, many i t h, h.sound.slots, h.sound.staff)) below can in
+    elim (full w f below pair) [
+      | inl busy ↦ absurd (omega (arith, busy, idle))
+      | inr filled ↦ le-leb _ _ (omega (arith, filled, workers_on-is i t h f below, ap (λ z. get_or z f 0) h.fits.most))
+    ]))
 
-full-at : (i : Instance) (functions o m : ℕ) → (functions ≤ o → length (get_or i.may m []) ≡ 0) → (is_some (function_at functions o) || eqb (length (get_or i.may m [])) 0) ≡ true
-full-at i functions o m h = elim (cases_Bool (ltb o functions)) [
-  | inl busy ↦ or_left (is_some (function_at functions o)) (eqb (length (get_or i.may m [])) 0) (ap is_some (cond-true (ltb o functions) (Some o) None busy))
-  | inr idle ↦ or_right (is_some (function_at functions o)) (eqb (length (get_or i.may m [])) 0) (eq-eqb (length (get_or i.may m [])) 0 (h (ltb-false o functions idle)))
+full-at : (functions o : ℕ) (row : Bool) → (functions ≤ o → row ≡ true) → (is_some (function_at functions o) || row) ≡ true
+full-at functions o row h = elim (cases_Bool (ltb o functions)) [
+  | inl busy ↦ or_left (is_some (function_at functions o)) row (ap is_some (cond-true (ltb o functions) (Some o) None busy))
+  | inr idle ↦ or_right (is_some (function_at functions o)) row (h (ltb-false o functions idle))
 ]
 
 is_full-plan : (i : Instance) (t : Tables) → IsInstance i → Tells i t → IsFull (length i.least) t → is_full i (assigned (plan_of i t)) ≡ true
 is_full-plan i t valid h full =
-    list_all-from_AllPass (λ worker. is_some (assigned (plan_of i t) worker.0) || eqb (length (get_or i.may worker.1 [])) 0) i.live
-    (All-from_get_or (λ worker. (is_some (assigned (plan_of i t) worker.0) || eqb (length (get_or i.may worker.1 [])) 0) ≡ true) i.live (0, 0)
-    (λ w l. ap (λ o. is_some o || eqb (length (get_or i.may (get_or i.live w (0, 0)).1 [])) 0) (plan-at i t h w l)
-    ∙ ap (λ m. is_some (function_at (length i.least) (get_or t.owner.now w 0)) || eqb (length (get_or i.may m [])) 0) (machine-at i t h w l)
-    ∙ full-at i (length i.least) (get_or t.owner.now w 0) (get_or t.machine.now w 0) (empty-row i t valid h full w l)))
+    let plan : Assignment = assigned (plan_of i t) in
+    list_all-from_AllPass (λ worker. is_some (plan worker.0) || list_all (is_filled i plan) (get_or i.may worker.1 [])) i.live
+    (All-from_get_or (λ worker. (is_some (plan worker.0) || list_all (is_filled i plan) (get_or i.may worker.1 [])) ≡ true) i.live (0, 0)
+    (λ w l. ap (λ o. is_some o || list_all (is_filled i plan) (get_or i.may (get_or i.live w (0, 0)).1 [])) (plan-at i t h w l)
+    ∙ ap (λ m. is_some (function_at (length i.least) (get_or t.owner.now w 0)) || list_all (is_filled i plan) (get_or i.may m [])) (machine-at i t h w l)
+    ∙ full-at (length i.least) (get_or t.owner.now w 0) (list_all (is_filled i plan) (get_or i.may (get_or t.machine.now w 0) [])) (idle-row i t valid h full w l)))
 
 both : (a b : Bool) → a ≡ true → b ≡ true → (a && b) ≡ true
 both true b h k = k
@@ -185,10 +180,12 @@ shown-plan i t level set valid h full met short =
     let plan : Assignment = assigned (plan_of i t) in
     let reach = needs-met i plan level (λ f l. omega (arith, met f l, workers_on-is i t h f l)) in
     let permitted : is_permitted i plan ≡ true = is_permitted-plan i t h in
-    let sound : IsSound i plan = record { permitted = permitted; enough = reach.0 } in
+    let at_most = meets_most-plan i t h in
+    let sound : IsSound i plan = record { permitted = permitted; enough = reach.0; at_most = at_most } in
     record {
       permitted = both (list_all (λ entry. is_live i entry.0) (plan_of i t)) (is_permitted i plan) (are_live-plan i t h) permitted;
       enough = reach.0;
+      at_most = at_most;
       full = is_full-plan i t valid h full;
       exact = backlog-exact i plan level set sound reach.1 short;
       evidence = is-evidence i level set short;

@@ -1,5 +1,6 @@
 ghost use Rattle.std.specs.Prelude.{◌≡◌, IfOk, IfSome};
 
+mod greatest;
 mod plain;
 mod refusals;
 mod rows;
@@ -10,8 +11,7 @@ use plan_model::{
 };
 use std::alloc::{AllocError, Global};
 
-/// An input: its workers as slot and machine, the functions of each machine, and for each function the
-/// least number of its workers and its waiting jobs. None where it is refused.
+/// As `bounded_input_of`, with the number of workers as each function's greatest number.
 pub fn input_of(
     alloc: Global,
     live: &[(u32, u32)],
@@ -20,6 +20,26 @@ pub fn input_of(
     waiting: &[u32],
 ) -> Result<Option<Input>, AllocError>
     ensures { IfOk result (λ made. IfSome made (λ input. input.least ≡ least.now)) }
+{
+    let mut most = Vec::new(alloc);
+    for _ in least {
+        most.push(live.len() as u32)?;
+    }
+    bounded_input_of(alloc, live, may, least, &most, waiting)
+}
+
+/// An input: its workers as slot and machine, the functions of each machine, and for each function the
+/// least and greatest number of its workers and its waiting jobs. None where it is refused.
+pub fn bounded_input_of(
+    alloc: Global,
+    live: &[(u32, u32)],
+    may: &[&[u32]],
+    least: &[u32],
+    most: &[u32],
+    waiting: &[u32],
+) -> Result<Option<Input>, AllocError>
+    ensures least { IfOk result (λ made. IfSome made (λ input. input.least ≡ least.now)) }
+    ensures most { IfOk result (λ made. IfSome made (λ input. input.most ≡ most.now)) }
 {
     let mut workers = Vec::new(alloc);
     for (slot, machine) in live {
@@ -33,7 +53,7 @@ pub fn input_of(
         }
         rows.push(row)?;
     }
-    Ok(Input::new(alloc, &workers, &rows, least, waiting).ok())
+    Ok(Input::new(alloc, &workers, &rows, least, most, waiting).ok())
 }
 
 /// A plan of slots with their functions. None where the slots do not rise.

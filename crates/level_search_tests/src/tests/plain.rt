@@ -13,6 +13,7 @@ struct Case {
     machine: [u32; 4],
     may: [[bool; 3]; 3],
     least: [u32; 3],
+    most: [u32; 3],
     waiting: [u32; 3],
 }
 
@@ -37,6 +38,7 @@ impl Case {
             machine: [0; 4],
             may: [[false; 3]; 3],
             least: [0; 3],
+            most: [0; 3],
             waiting: [0; 3],
         };
         for machine in &mut case.machine {
@@ -49,6 +51,9 @@ impl Case {
         }
         for least in &mut case.least {
             *least = draw(seed, 8) / 6;
+        }
+        for most in &mut case.most {
+            *most = draw(seed, 6);
         }
         for waiting in &mut case.waiting {
             *waiting = draw(seed, 12);
@@ -66,17 +71,36 @@ impl Case {
         worker < self.workers && row.get(function as usize) == Some(&true)
     }
 
-    /// What the plan costs for one function, None where it has fewer workers than its least number.
-    fn cost(&self, held: &Held, function: u32) -> Option<u64> {
+    /// How many workers have the function.
+    fn count(&self, held: &Held, function: u32) -> u32 {
         let mut count: u32 = 0;
-        let mut stranded = true;
         for worker in 0..self.workers {
-            stranded = stranded && !self.may(worker, function);
             if held.get(worker) == Some(&Some(function)) {
                 count = count.saturating_add(1);
             }
         }
-        if count < *self.least.get(function as usize)? {
+        count
+    }
+
+    /// Whether the function has fewer workers than its greatest number.
+    fn has_room(&self, held: &Held, function: u32) -> bool {
+        match self.most.get(function as usize) {
+            Some(most) => self.count(held, function) < *most,
+            None => false,
+        }
+    }
+
+    /// What the plan costs for one function, None where it has fewer workers than its least number, or more
+    /// than its greatest.
+    fn cost(&self, held: &Held, function: u32) -> Option<u64> {
+        let count = self.count(held, function);
+        let mut stranded = true;
+        for worker in 0..self.workers {
+            stranded = stranded && !self.may(worker, function);
+        }
+        if count < *self.least.get(function as usize)?
+            || count > *self.most.get(function as usize)?
+        {
             return None;
         }
         let waiting = *self.waiting.get(function as usize)?;
@@ -125,11 +149,12 @@ impl Case {
         best
     }
 
-    /// Whether each worker who may do something has a function.
+    /// Whether each worker has a function who may do one that is below its greatest number.
     fn is_full(&self, held: &Held) -> bool {
         for worker in 0..self.workers {
             for function in 0..3 {
-                if held.get(worker) == Some(&None) && self.may(worker, function) {
+                let is_idle = held.get(worker) == Some(&None);
+                if is_idle && self.may(worker, function) && self.has_room(held, function) {
                     return false;
                 }
             }
@@ -152,7 +177,7 @@ impl Case {
             }
             rows.push(row)?;
         }
-        Ok(Input::new(alloc, &live, &rows, &self.least, &self.waiting).ok())
+        Ok(Input::new(alloc, &live, &rows, &self.least, &self.most, &self.waiting).ok())
     }
 }
 
@@ -180,13 +205,16 @@ fn held_by(plan: &Plan) -> Held {
     held
 }
 
-/// The plan, cut to what the workers may do.
+/// The plan, cut to what the workers may do and to the greatest numbers, the lowest slots first.
 fn cut(case: &Case, plan: &Plan) -> Held {
-    let mut held = held_by(plan);
-    for (worker, function) in held.iter_mut().enumerate() {
-        if let Some(number) = *function {
-            if !case.may(worker, number) {
-                *function = None;
+    let mut held: Held = [None; 4];
+    for (worker, function) in held_by(plan).iter().enumerate() {
+        let Some(number) = *function else {
+            continue;
+        };
+        if case.may(worker, number) && case.has_room(&held, number) {
+            if let Some(left) = held.get_mut(worker) {
+                *left = Some(number);
             }
         }
     }

@@ -152,17 +152,18 @@ fn looks_of(
 fn looks_by_hand(rt: HostRuntime) -> Result<(), Fail> {
     let alloc = rt.alloc();
 
-    // One worker for one function: one look finds him, one more is stuck at level 0, and one is for the filling.
+    // One worker for one function: one look finds him, level 0 needs more workers than there are, and one look is for the filling.
     let looks = looks_of(alloc, &[(0, 0)], &[&[0]], &[0], &[1])?;
-    assert_eq!(rt; looks, Some(3));
+    assert_eq!(rt; looks, Some(2));
 
     // Each function finds its worker at the first look, and levels 3 and 5 are stuck after three looks each.
     let looks = looks_of(alloc, &[(0, 0), (1, 1)], &[&[0], &[0, 1]], &[0, 0], &[6, 2])?;
     assert_eq!(rt; looks, Some(11));
 
-    // One look and two at the first level, three more at level 7, and six at each of the levels 3 and 4, which are stuck.
+    // One look and two at the first level, three more at level 7, none at level 3, which needs more workers than there are, six at
+    // level 4, which is stuck, and six for the filling.
     let three = [(0, 0), (1, 0), (2, 0)];
     let looks = looks_of(alloc, &three, &[&[0, 1]], &[0, 0], &[10, 4])?;
-    assert_eq!(rt; looks, Some(24));
+    assert_eq!(rt; looks, Some(18));
     Ok(())
 }

@@ -1,4 +1,4 @@
-use super::{input_of, plan_of};
+use super::{bounded_input_of, plan_of};
 use augment::{Served, serve};
 use bumpalo::Bump;
 use level_search::solve;
@@ -15,7 +15,9 @@ fn serves_or_shows_a_short_set(rt: HostRuntime) -> Result<(), Fail> {
         assert!(rt; false, "the plan is refused");
         return Ok(());
     };
-    let Some(input) = input_of(alloc, &[(0, 0), (1, 1)], &[&[0], &[0, 1]], &[0, 0], &[6, 2])? else {
+    let live = [(0, 0), (1, 1)];
+    let Some(input) = bounded_input_of(alloc, &live, &[&[0], &[0, 1]], &[0, 0], &[2, 2], &[6, 2])?
+    else {
         assert!(rt; false, "the input is refused");
         return Ok(());
     };

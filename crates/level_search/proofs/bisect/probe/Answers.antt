@@ -1,7 +1,12 @@
 use Rattle.std.proofs.Common.{ℕ, subst}
 use Rattle.augment.specs.Round.{Hires}
 use Rattle.level_search.proofs.Bisecting.{AreMet-kept, Fits-same, IsProbed-served}
+use Rattle.level_search.proofs.Limits.{AreLimited-needs}
 use Rattle.level_search.proofs.bisect.probe.Goals as goal
+
+pub serve-requires-clause-limited : goal.serve-requires-clause-limited
+serve-requires-clause-limited c =
+    AreLimited-needs c.args.input.now c.fill_needs.new.needs c.args.level c.args.tables.now c.fill_needs.ensures c.requires.sound c.requires.fits
 
 pub returns-clause-probed : goal.returns-clause-probed
 returns-clause-probed c =

@@ -1,4 +1,4 @@
-use Rattle.std.proofs.Common.{◌≡◌, ◌≢◌, ℕ, List, ◌+◌, ◌-◌, ◌<◌, ◌≤◌, length, get_or, set, eqb, ap, sym, subst, refl, ◌∙◌, arith, rules}
+use Rattle.std.proofs.Common.{◌≡◌, ◌≢◌, ℕ, List, ◌+◌, ◌-◌, ◌<◌, ◌≤◌, ◌⊎◌, length, get_or, set, eqb, ap, sym, subst, refl, ◌∙◌, arith, rules, inl, inr}
 use Rattle.std.proofs.lemmas.List.{get_or-set_same, get_or-set_other}
 use Rattle.std.proofs.lemmas.List.Sums.{count_by-le-length}
 use Rattle.round_arena.specs.Plan.{IsPair, count_on}
@@ -6,7 +6,7 @@ use Rattle.level_search.specs.Filled.{IsFilled, IsBusyUpTo}
 use Rattle.augment.proofs.Trees.{IsPair-at}
 use Rattle.level_search.proofs.Filling.{IsFilled-set, IsFilled-trans, IsBusyUpTo-filled, IsBusyUpTo-more}
 use Rattle.level_search.proofs.fill.fill_function.Goals as goal
-use Rattle.level_search.proofs.fill.fill_function.Goals.{then-owner-w, else-owner-w}
+use Rattle.level_search.proofs.fill.fill_function.Goals.{then-owner-w+then-count-f, else-owner-w, else-owner-w-via-then-owner-w+else-count-f, else-owner-w-via-else-owner-w}
 
 pub overflow_add-count : goal.overflow_add-count
 overflow_add-count c =
@@ -22,6 +22,7 @@ overflow_add-count c =
 pub loop-k-preserved : goal.loop-k-preserved
 loop-k-preserved c =
     let p = c.args.pairs.now in
+    let most = c.args.most.now in
     let f = c.args.f in
     let functions = c.args.functions in
     let owner = c.loop-k.owner in
@@ -30,24 +31,30 @@ loop-k-preserved c =
     let i = c.loop-k.invariant in
     let wl : w < length owner = omega (arith, c.requires.graph.known c.loop-k.k (search rules), i.filled.size) in
     let pr : IsPair p.first.now p.workers.now w f = IsPair-at p.first.now p.workers.now f c.loop-k.k f c.loop-k.auto.k c.loop-k-test.true refl in
+    let counted : get_or count f 0 ≡ count_on owner f = i.filled.counted.counts f (omega (arith, c.requires.f)) in
     elim c.if-owner-w.branch [
-      | then-owner-w b ↦
-          let step : IsFilled functions p owner c.if-owner-w.owner c.if-owner-w.count =
-          subst (λ (z : List ℕ). IsFilled functions p owner z c.if-owner-w.count) (sym b.owner-is)
-          (subst (λ (z : List ℕ). IsFilled functions p owner (set owner w f) z) (sym b.count-is)
-          (IsFilled-set functions p owner count w f i.filled.assigned i.filled.counted wl c.requires.f b.if-owner-w.true pr)) in
+      | then-owner-w+then-count-f b ↦
+          let low : count_on owner f < get_or most f 0 = omega (arith, counted, b.if-count-f.true) in
+          let step : IsFilled functions p most owner c.if-owner-w.owner c.if-owner-w.count =
+          subst (λ (z : List ℕ). IsFilled functions p most owner z c.if-owner-w.count) (sym b.owner-is)
+          (subst (λ (z : List ℕ). IsFilled functions p most owner (set owner w f) z) (sym b.count-is)
+          (IsFilled-set functions p most owner count w f i.filled.assigned i.filled.counted i.filled.within wl c.requires.f b.if-owner-w.true pr low)) in
           let here : get_or c.if-owner-w.owner w 0 ≡ f = ap (λ z. get_or z w 0) b.owner-is ∙ get_or-set_same owner w f 0 wl in
           record {
-            filled = IsFilled-trans functions p c.args.owner.now owner c.if-owner-w.owner count c.if-owner-w.count i.filled step;
-            busy = IsBusyUpTo-more functions p c.if-owner-w.owner f c.loop-k.k (IsBusyUpTo-filled functions p owner c.if-owner-w.owner c.if-owner-w.count f c.loop-k.k step i.busy) (omega (arith, here));
+            filled = IsFilled-trans functions p most c.args.owner.now owner c.if-owner-w.owner count c.if-owner-w.count i.filled step;
+            busy = IsBusyUpTo-more functions p most c.if-owner-w.owner f c.loop-k.k (IsBusyUpTo-filled functions p most owner c.if-owner-w.owner c.if-owner-w.count f c.loop-k.k step c.requires.f i.busy) (inl (omega (arith, here, c.requires.f)));
             looks = omega (arith, i.looks);
           }
       | else-owner-w b ↦
-          let busy_here : get_or owner w 0 < functions = omega (arith, i.filled.assigned.below w wl, b.if-owner-w.false) in
+          let busy_here : (get_or owner w 0 < functions) ⊎ (get_or most f 0 ≤ count_on owner f) =
+          elim b.else-owner-w.branch [
+            | else-owner-w-via-then-owner-w+else-count-f d ↦ inr (omega (arith, counted, d.if-count-f.false))
+            | else-owner-w-via-else-owner-w d ↦ inl (omega (arith, i.filled.assigned.below w wl, d.if-owner-w.false))
+          ] in
           record {
-            filled = subst (λ (z : List ℕ). IsFilled functions p c.args.owner.now z c.if-owner-w.count) (sym b.owner-is)
-                (subst (λ (z : List ℕ). IsFilled functions p c.args.owner.now owner z) (sym b.count-is) i.filled);
-            busy = subst (λ (z : List ℕ). IsBusyUpTo p z functions f (c.loop-k.k + 1)) (sym b.owner-is) (IsBusyUpTo-more functions p owner f c.loop-k.k i.busy busy_here);
+            filled = subst (λ (z : List ℕ). IsFilled functions p most c.args.owner.now z c.if-owner-w.count) (sym b.owner-is)
+                (subst (λ (z : List ℕ). IsFilled functions p most c.args.owner.now owner z) (sym b.count-is) i.filled);
+            busy = subst (λ (z : List ℕ). IsBusyUpTo p most z functions f (c.loop-k.k + 1)) (sym b.owner-is) (IsBusyUpTo-more functions p most owner f c.loop-k.k i.busy busy_here);
             looks = omega (arith, i.looks);
           }
     ]

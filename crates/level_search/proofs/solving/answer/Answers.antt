@@ -4,8 +4,7 @@ use Rattle.level_search.specs.declared.bisect.Found.{Found}
 use Rattle.level_search.specs.declared.bisect.Found.TheVariants.{Level}
 use Rattle.round_arena.specs.Round.{IsSound}
 use Rattle.level_search.specs.Found.{IsFound}
-use Rattle.level_search.proofs.Showing.{IsFull}
-use Rattle.level_search.specs.Filled.{IsFilled}
+use Rattle.level_search.specs.Filled.{IsFilled, IsFull}
 use Rattle.round_arena.proofs.Lists.{order-size}
 use Rattle.level_search.proofs.Answering.{shown-filled}
 use Rattle.level_search.proofs.Keeping.{Tells-now, plan_of-same, filled-full}
@@ -27,7 +26,7 @@ returns-in_ok-short-in-Level-clause-kept c serves full =
     let i = c.args.input.now in
     let t = c.args.tables.now in
     let u = c.fill_idle.new.tables in
-    let filled : IsFilled (length i.least) t.pairs t.owner.now u.owner.now u.count.now = subst (λ (n : ℕ). IsFilled n t.pairs t.owner.now u.owner.now u.count.now) c.functions.ensures.all c.fill_idle.ensures.filled in
+    let filled : IsFilled (length i.least) t.pairs t.most.now t.owner.now u.owner.now u.count.now = subst (λ (n : ℕ). IsFilled n t.pairs t.most.now t.owner.now u.owner.now u.count.now) c.functions.ensures.all c.fill_idle.ensures.filled in
     c.in_ok-plan-in-Level.ensures
     ∙ plan_of-same t u c.fill_idle.ensures.same (filled-full i t u (Tells-now i t c.requires.sound c.requires.fits c.requires.slots) filled full)
 
