@@ -18,7 +18,7 @@ echo 'planning_bench: level_search, plan_model, bumpalo, anyhow' >> "$scratch/cr
 (cd "$scratch/crates/planning_bench" && rt run -- all > "$scratch/build.log" 2>&1) || { tail -20 "$scratch/build.log"; exit 1; }
 bench="$scratch/crates/planning_bench/out/planning_bench"
 printf '%-10s %12s %12s %10s %10s %12s %12s\n' input backlog looks seconds 'peak KiB' 'plan seconds' 'plan KiB'
-for kind in all half sparse chains triangle detour; do
+for kind in all half sparse chains triangle detour steps; do
     figures=$(/usr/bin/time -o "$scratch/time" -f '%U %S %M' "$bench" "$kind")
     read -r user system peak < "$scratch/time"
     whole='- - -'

@@ -1,7 +1,7 @@
 #!/usr/bin/env python3
 """Writes settings and a status text of 256 machines, 1,024 functions and 4,096 workers: generate.py KIND FOLDER
 
-The kinds are those of main.rt beside this file: all, half, sparse, chains, triangle, detour.
+The kinds are those of main.rt beside this file: all, half, sparse, chains, triangle, detour, steps.
 """
 import os
 import sys
@@ -15,6 +15,7 @@ def mixed(machine, function):
 
 MAY = {
     "all": lambda machine, function: True,
+    "steps": lambda machine, function: True,
     "half": lambda machine, function: mixed(machine, function) % 2 == 0,
     "sparse": lambda machine, function: mixed(machine, function) % 128 == 0,
     "chains": lambda machine, function: function // 4 in (machine, machine + 1),
@@ -26,6 +27,8 @@ MAY = {
 def waiting(kind, function):
     if kind == "triangle":
         return 1000
+    if kind == "steps":
+        return 2260 if function < 312 else 218 if function < 646 else 0
     if kind == "detour":
         return 1000 if function < 184 else 1200 if function < 500 else 256000 if function == 500 else 0
     return function * 7919 % 1000 + 1

@@ -31,8 +31,8 @@ pub record IsFlipping (pairs : Pairs) (functions : ℕ) (t : Tree) (before owner
   pub size : length owner ≡ length before
   pub worker : w < length owner
   pub within : at < t.tail
-  pub pair : IsPair pairs.first.now pairs.workers.now w (get_or t.reached.now at 0)
-  pub assigned : IsAssigned functions pairs.first.now pairs.workers.now owner
+  pub pair : IsPair pairs w (get_or t.reached.now at 0)
+  pub assigned : IsAssigned functions pairs owner
   pub holds : (i : ℕ) → 0 < i → i ≤ at → get_or owner (get_or t.by.now i 0) 0 ≡ get_or t.reached.now i 0
   pub apart : (i : ℕ) → i ≤ at → get_or owner w 0 ≢ get_or t.reached.now i 0
   pub counts : (f : ℕ) → count_on owner f + one_if_equal source f ≡ count_on before f + one_if_equal (get_or owner w 0) f
@@ -45,7 +45,7 @@ not_reached-spare pairs owner count need t w i h spare l q =
       | inr rich ↦ not_reached {pairs = pairs} {owner = owner} {count = count} {need = need} t (get_or owner w 0) i h rich.1 l (sym q)
     ]
 
-pub IsFlipping-start : (pairs : Pairs) (owner count need : List ℕ) (t : Tree) (w at : ℕ) → IsTree pairs owner count need t → IsWayOut pairs owner count need t w at → IsAssigned (length need) pairs.first.now pairs.workers.now owner
+pub IsFlipping-start : (pairs : Pairs) (owner count need : List ℕ) (t : Tree) (w at : ℕ) → IsTree pairs owner count need t → IsWayOut pairs owner count need t w at → IsAssigned (length need) pairs owner
     → IsFlipping pairs (length need) t owner owner (get_or owner w 0) w at
 IsFlipping-start pairs owner count need t w at h way a = record {
   size = refl;
@@ -59,8 +59,8 @@ IsFlipping-start pairs owner count need t w at h way a = record {
 }
 
 -- the plan with one worker moved to a function that he may do
-pub IsAssigned-set : (functions : ℕ) (first workers owner : List ℕ) (w x : ℕ) → IsAssigned functions first workers owner → w < length owner → x < functions → IsPair first workers w x → IsAssigned functions first workers (set owner w x)
-IsAssigned-set functions first workers owner w x a l b pr = record {
+pub IsAssigned-set : (functions : ℕ) (pairs : Pairs) (owner : List ℕ) (w x : ℕ) → IsAssigned functions pairs owner → w < length owner → x < functions → IsPair pairs w x → IsAssigned functions pairs (set owner w x)
+IsAssigned-set functions pairs owner w x a l b pr = record {
   below = λ v k. elim (cases_eq v w) [
     | inl q ↦
         let here : get_or (set owner w x) v 0 ≡ x = ap (λ z. get_or (set owner w x) z 0) q ∙ get_or-set_same owner w x 0 l in
@@ -72,10 +72,10 @@ IsAssigned-set functions first workers owner w x a l b pr = record {
   permitted = λ v k m. elim (cases_eq v w) [
     | inl q ↦
         let here : get_or (set owner w x) v 0 ≡ x = ap (λ z. get_or (set owner w x) z 0) q ∙ get_or-set_same owner w x 0 l in
-        subst (λ (z : ℕ). IsPair first workers z (get_or (set owner w x) v 0)) (sym q) (subst (λ (z : ℕ). IsPair first workers w z) (sym here) pr)
+        subst (λ (z : ℕ). IsPair pairs z (get_or (set owner w x) v 0)) (sym q) (subst (λ (z : ℕ). IsPair pairs w z) (sym here) pr)
     | inr ne ↦
         let there : get_or (set owner w x) v 0 ≡ get_or owner v 0 = get_or-set_other owner w v x 0 ne in
-        subst (λ (z : ℕ). IsPair first workers v z) (sym there) (a.permitted v (omega (arith, length-set owner w x)) (omega arith))
+        subst (λ (z : ℕ). IsPair pairs v z) (sym there) (a.permitted v (omega (arith, length-set owner w x)) (omega arith))
   ];
 }
 
@@ -95,7 +95,7 @@ IsFlipping-step pairs owner0 count need t owner source w at h s p =
       worker = omega (arith, length-set owner w x);
       within = omega (arith, s.within);
       pair = h.permitted at p s.within;
-      assigned = IsAssigned-set (length need) pairs.first.now pairs.workers.now owner w x s.assigned s.worker (h.known at s.within) s.pair;
+      assigned = IsAssigned-set (length need) pairs owner w x s.assigned s.worker (h.known at s.within) s.pair;
       holds = λ i q l. stays i q (omega arith);
       apart = λ i l q. (IsInjective-tree {pairs = pairs} {owner = owner0} {count = count} {need = need} t h).apart i at (omega arith) s.within (sym q ∙ here);
       counts = λ f. omega (arith, count_on-set owner w x f s.worker, s.counts f, ap (λ z. one_if_equal z f) here);
@@ -104,7 +104,7 @@ IsFlipping-step pairs owner0 count need t owner source w at h s p =
 -- after the last move
 pub record IsFlipped (pairs : Pairs) (functions : ℕ) (before after : List ℕ) (source root : ℕ) : Type 0 where
   pub size : length after ≡ length before
-  pub assigned : IsAssigned functions pairs.first.now pairs.workers.now after
+  pub assigned : IsAssigned functions pairs after
   pub counts : (f : ℕ) → count_on after f + one_if_equal source f ≡ count_on before f + one_if_equal root f
 
 pub IsFlipped-end : (pairs : Pairs) (owner0 count need : List ℕ) (t : Tree) (owner : List ℕ) (source w at root : ℕ) → IsTree pairs owner0 count need t → IsFlipping pairs (length need) t owner0 owner source w at → at ≡ 0 → get_or t.reached.now 0 0 ≡ root → root < length need
@@ -113,7 +113,7 @@ IsFlipped-end pairs owner0 count need t owner source w at root h s z r l =
     let same : get_or t.reached.now at 0 ≡ root = ap (λ n. get_or t.reached.now n 0) z ∙ r in
     record {
       size = length-set owner w root ∙ s.size;
-      assigned = IsAssigned-set (length need) pairs.first.now pairs.workers.now owner w root s.assigned s.worker l (subst (λ (x : ℕ). IsPair pairs.first.now pairs.workers.now w x) same s.pair);
+      assigned = IsAssigned-set (length need) pairs owner w root s.assigned s.worker l (subst (λ (x : ℕ). IsPair pairs w x) same s.pair);
       counts = λ f. omega (arith, count_on-set owner w root f s.worker, s.counts f);
     }
 

@@ -14,7 +14,7 @@ use Rattle.round_arena.specs.declared.tables.Pairs.{Pairs}
 use Rattle.round_arena.specs.declared.tables.Tables.{Tables}
 use Rattle.round_arena.specs.Round.{IsSound}
 use Rattle.augment.specs.Round.{AreLimited}
-use Rattle.round_arena.specs.Plan.{IsAssigned, IsCounted, AreWithin, count_on}
+use Rattle.round_arena.specs.Plan.{pair_total, machine_count, IsAssigned, IsCounted, AreWithin, count_on}
 use Rattle.augment.specs.Tree.{HasRoom}
 use Rattle.augment.specs.Moves.{one_if_equal, GainsOne}
 use Rattle.augment.proofs.Totals.{total, served_up_to, total-cong, total-le, total-add, total-zeros, total-change, total-one_if_equal}
@@ -99,12 +99,12 @@ module _ {functions root : ℕ} {need before after : List ℕ} where
 -- how far the serving has come: the functions before place `done` of the order have what they need
 pub record IsServing (pairs : Pairs) (order need before owner count : List ℕ) (tree : Tree) (looks_before looks_now done : ℕ) : Type 0 where
   pub size : length owner ≡ length before
-  pub assigned : IsAssigned (length need) pairs.first.now pairs.workers.now owner
+  pub assigned : IsAssigned (length need) pairs owner
   pub counted : IsCounted (length need) owner count
-  pub room : HasRoom (length need) tree
+  pub room : HasRoom (length need) (machine_count pairs) tree
   pub kept : (f : ℕ) → f < length need → min (get_or need f 0) (count_on before f) ≤ count_on owner f
   pub capped : (f : ℕ) → f < length need → count_on owner f ≤ max (get_or need f 0) (count_on before f)
-  pub looks : looks_now ≤ looks_before + length pairs.workers.now * served_up_to (length need) need owner
+  pub looks : looks_now ≤ looks_before + pair_total pairs * served_up_to (length need) need owner
   pub more : looks_before ≤ looks_now
   -- looks pay for the workers gained for the needs, and for idle ones who got a function
   pub paid : looks_before + served_up_to (length need) need owner ≤ looks_now + served_up_to (length need) need before
@@ -122,7 +122,7 @@ order-place n order perm f l =
     let there : Contains order f = Contains-permutation (range_with_len 0 n) order f perm here in
     (there.0, there.1, get_or_default order there.0 0 f there.1 ∙ there.2)
 
-pub IsServing-start : (pairs : Pairs) (order need owner count : List ℕ) (tree : Tree) (looks : ℕ) → IsAssigned (length need) pairs.first.now pairs.workers.now owner → IsCounted (length need) owner count → HasRoom (length need) tree → IsServing pairs order need owner owner count tree looks looks 0
+pub IsServing-start : (pairs : Pairs) (order need owner count : List ℕ) (tree : Tree) (looks : ℕ) → IsAssigned (length need) pairs owner → IsCounted (length need) owner count → HasRoom (length need) (machine_count pairs) tree → IsServing pairs order need owner owner count tree looks looks 0
 IsServing-start pairs order need owner count tree looks a c r = record {
   size = refl;
   assigned = a;
@@ -140,8 +140,8 @@ IsServing-start pairs order need owner count tree looks a c r = record {
 pub IsServing-gains : (pairs : Pairs) (order need before owner count after count' : List ℕ) (tree tree' : Tree) (looks_before looks_now looks_then done root : ℕ)
     → IsPermutation (range_with_len 0 (length need)) order → done ≤ length order
     → IsServing pairs order need before owner count tree looks_before looks_now done → root < length need → get_or count root 0 < get_or need root 0
-    → GainsOne (length need) root need owner after → IsAssigned (length need) pairs.first.now pairs.workers.now after → IsCounted (length need) after count' → HasRoom (length need) tree'
-    → looks_now < looks_then → looks_then ≤ looks_now + length pairs.workers.now → IsServing pairs order need before after count' tree' looks_before looks_then done
+    → GainsOne (length need) root need owner after → IsAssigned (length need) pairs after → IsCounted (length need) after count' → HasRoom (length need) (machine_count pairs) tree'
+    → looks_now < looks_then → looks_then ≤ looks_now + pair_total pairs → IsServing pairs order need before after count' tree' looks_before looks_then done
 IsServing-gains pairs order need before owner count after count' tree tree' looks_before looks_now looks_then done root perm within s l lack g a c r looked spent =
     let lacking : count_on owner root < get_or need root 0 = omega (arith, s.counted.counts root (omega arith)) in
     record {
@@ -152,7 +152,7 @@ IsServing-gains pairs order need before owner count after count' tree tree' look
       kept = λ f k. GainsOne-keeps g f (min (get_or need f 0) (count_on before f)) k (omega arith) (s.kept f k);
       capped = λ f k. GainsOne-caps g f (max (get_or need f 0) (count_on before f)) l lacking (omega arith) (s.capped f k);
       looks =
-          let more : length pairs.workers.now * served_up_to (length need) need after ≡ length pairs.workers.now * (served_up_to (length need) need owner + 1) = ap (λ n. length pairs.workers.now * n) (served-gains g l lacking) in
+          let more : pair_total pairs * served_up_to (length need) need after ≡ pair_total pairs * (served_up_to (length need) need owner + 1) = ap (λ n. pair_total pairs * n) (served-gains g l lacking) in
           omega (arith, more, s.looks);
       more = omega (arith, s.more, looked);
       paid = omega (arith, served-gains g l lacking, s.paid, looked);
@@ -189,10 +189,10 @@ IsServing-all pairs order need before owner count tree looks_before looks_now do
 
 -- the looks of the searches that found a worker
 pub looks-le : (pairs : Pairs) (order need before owner count : List ℕ) (tree : Tree) (looks_before looks_now done : ℕ)
-    → IsServing pairs order need before owner count tree looks_before looks_now done → looks_now ≤ looks_before + length before * length pairs.workers.now
+    → IsServing pairs order need before owner count tree looks_before looks_now done → looks_now ≤ looks_before + length before * pair_total pairs
 looks-le pairs order need before owner count tree looks_before looks_now done s =
-    let few : length pairs.workers.now * served_up_to (length need) need owner ≤ length pairs.workers.now * length before =
-    mul-le-mul_left (length pairs.workers.now) (omega (arith, served-le (length need) need owner, s.size)) in
+    let few : pair_total pairs * served_up_to (length need) need owner ≤ pair_total pairs * length before =
+    mul-le-mul_left (pair_total pairs) (omega (arith, served-le (length need) need owner, s.size)) in
     omega (arith, few, s.looks)
 
 -- needs that are within the greatest numbers give no function more

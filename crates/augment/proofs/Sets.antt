@@ -117,10 +117,10 @@ cond-le true m n h = h refl
 cond-le false m n h = omega arith
 
 -- each function reached is closed
-pub IsClosed-marked : (pairs : Pairs) (owner count need : List ℕ) (t : Tree) (root f : ℕ) → IsStuck pairs owner count need t root → f < length need → 0 < get_or t.place.now f 0 → IsClosed pairs owner (length need) t f
+pub IsClosed-marked : (pairs : Pairs) (owner count need : List ℕ) (t : Tree) (root f : ℕ) → IsStuck pairs owner count need t root → f < length need → 0 < get_or t.place.now f 0 → IsClosed pairs t f
 IsClosed-marked pairs owner count need t root f s l m =
     let at = s.tree_holds.marked f l m in
-    subst (λ (z : ℕ). IsClosed pairs owner (length need) t z) at.1 (s.closed (get_or t.place.now f 0 - 1) (omega (arith, at.0)))
+    subst (λ (z : ℕ). IsClosed pairs t z) at.1 (s.closed (get_or t.place.now f 0 - 1) (omega (arith, at.0)))
 
 tight-marked : (pairs : Pairs) (owner count need : List ℕ) (t : Tree) (root f : ℕ) → IsStuck pairs owner count need t root → IsCounted (length need) owner count → f < length need → 0 < get_or t.place.now f 0 → count_on owner f ≤ get_or need f 0
 tight-marked pairs owner count need t root f s c l m =
@@ -144,7 +144,7 @@ marked-below place n = All-filter (λ f. ltb 0 (get_or place f 0)) (λ f. f < n)
 -- The set of the functions that a stuck search has reached is short: each worker who may do one of
 -- them is on one of them, none has more workers than it needs, and the root has fewer.
 pub IsShort-stuck : (permits : ℕ → ℕ → Bool) (machines : List ℕ) (pairs : Pairs) (owner count need : List ℕ) (t : Tree) (root : ℕ)
-    → Represents permits machines pairs.first.now pairs.workers.now (length need) → length machines ≡ length owner → IsCounted (length need) owner count → root < length need
+    → Represents permits machines pairs (length need) → length machines ≡ length owner → IsCounted (length need) owner count → root < length need
     → IsStuck pairs owner count need t root → LacksWorkers permits machines (length need) (λ f. get_or need f 0) (marked t.place.now (length need))
 IsShort-stuck permits machines pairs owner count need t root r e c l s =
     let functions : ℕ = length need in
@@ -154,9 +154,14 @@ IsShort-stuck permits machines pairs owner count need t root r e c l s =
     λ w k q.
     let f = Finds-from_any (permits (get_or machines w 0)) place functions q in
     let pair = r.listed w f.at k f.below f.passes in
-    let closed = IsClosed-marked pairs owner count need t root f.at s f.below f.mark pair.0 pair.1 pair.2 in
-    let same : get_or owner (get_or pairs.workers.now pair.0 0) 0 ≡ get_or owner w 0 = ap (λ z. get_or owner z 0) pair.3 in
-    any-from_mark (eqb (get_or owner w 0)) place functions (get_or owner w 0) (omega (arith, closed.0)) (omega (arith, closed.1, ap (λ z. get_or place z 0) same)) (eq-eqb (get_or owner w 0) (get_or owner w 0) refl) in
+    let m : ℕ = pair.0 in
+    let of_function = pair.1 in
+    let of_machine = pair.2 in
+    let closed = IsClosed-marked pairs owner count need t root f.at s f.below f.mark of_function.0 of_function.1 of_function.2 in
+    let passed : get_or t.passed.now m false ≡ true = ap (λ z. get_or t.passed.now z false) (sym of_function.3) ∙ closed in
+    let reached = s.tree_holds.passed m passed of_machine.0 of_machine.1 of_machine.2 in
+    let same : get_or owner (get_or pairs.workers.items.now of_machine.0 0) 0 ≡ get_or owner w 0 = ap (λ z. get_or owner z 0) of_machine.3 in
+    any-from_mark (eqb (get_or owner w 0)) place functions (get_or owner w 0) (omega (arith, reached.0)) (omega (arith, reached.1, ap (λ z. get_or place z 0) same)) (eq-eqb (get_or owner w 0) (get_or owner w 0) refl) in
     let few : neighbours permits machines set ≤ sum_by (count_on owner) set = count_by-union (λ m. list_any (permits m) set) machines owner set e on_set in
     let root_mark : get_or place root 0 ≡ 1 = ap (λ z. get_or place z 0) (sym s.first) ∙ s.tree_holds.placed 0 s.some in
     let marked_root : ltb 0 (get_or place root 0) ≡ true = lt-ltb 0 (get_or place root 0) (omega arith) in

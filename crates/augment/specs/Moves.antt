@@ -22,5 +22,5 @@ pub record IsStuck (pairs : Pairs) (owner count need : List ℕ) (tree : Tree) (
   pub tree_holds : IsTree pairs owner count need tree
   pub some : 0 < tree.tail
   pub first : slice_index tree.reached.now 0 ≡ root
-  pub closed : AreClosed pairs owner (length need) tree tree.tail
+  pub closed : AreClosed pairs tree tree.tail
   pub lacking : slice_index count root < slice_index need root

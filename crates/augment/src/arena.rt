@@ -1,5 +1,6 @@
 ghost use Rattle.std.specs.Prelude.{◌≡◌, ℕ, ◌+◌, ◌*◌, ◌^◌, ◌<◌, ◌≤◌, length, slice_index, IfOk, OnErr, IfSome, IfNone};
 ghost use Rattle.augment.specs.Short.{marked};
+ghost use Rattle.round_arena.specs.Plan.{pair_total};
 ghost use Rattle.round_arena.specs.Round.{IsSound, SamePairs};
 ghost use Rattle.augment.specs.Round.{AreLimited, IsServed, KeepsServed, IsCapped, IsWithinLooks, PaysForWorkers};
 
@@ -29,7 +30,7 @@ use std::alloc::AllocError;
 pub fn serve<'a>(tables: &mut Tables<'a>, need: &[u32]) -> Result<Served<'a>, AllocError>
     requires sound { IsSound (length need.now) tables.old }
     requires limited { AreLimited need.now tables.old }
-    requires looks { tables.old.looks + (length tables.old.owner.now + 1) * length tables.old.pairs.workers.now < 2 ^ 64 }
+    requires looks { tables.old.looks + (length tables.old.owner.now + 1) * pair_total tables.old.pairs < 2 ^ 64 }
     ensures sound { IsSound (length need.now) tables.new }
     ensures same { SamePairs tables.old tables.new }
     ensures served { IfOk result (IsServed need.now tables.new) }
@@ -45,6 +46,8 @@ pub fn serve<'a>(tables: &mut Tables<'a>, need: &[u32]) -> Result<Served<'a>, Al
         let set = bump.try_alloc_slice_copy(&[FuncId::new(alone)])?;
         return Ok(Served::Short(set));
     }
+    let pairs = tables.pairs;
+    let machines = pairs.workers.first.len() - 1;
     let set = bump.try_alloc_slice_fill_clone(functions, FuncId::new(0))?;
     let mut tree = Tree {
         reached: bump.try_alloc_slice_fill_clone(functions, 0)?,
@@ -52,8 +55,8 @@ pub fn serve<'a>(tables: &mut Tables<'a>, need: &[u32]) -> Result<Served<'a>, Al
         from: bump.try_alloc_slice_fill_clone(functions, 0)?,
         place: bump.try_alloc_slice_fill_clone(functions, 0)?,
         tail: 0,
+        passed: bump.try_alloc_slice_fill_clone(machines, false)?,
     };
-    let pairs = tables.pairs;
     if serve_all(
         &pairs,
         tables.order,

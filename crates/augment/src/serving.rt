@@ -2,7 +2,7 @@ ghost use Rattle.std.specs.Prelude.{◌≡◌, ℕ, ◌+◌, ◌-◌, ◌*◌, �
 ghost use Rattle.std.specs.Bool.{OnTrue, OnFalse};
 ghost use Rattle.std.specs.List.{range_with_len};
 ghost use Rattle.std.specs.List.Sorted.{IsPermutation};
-ghost use Rattle.round_arena.specs.Plan.{IsGraph, IsAssigned, IsCounted, count_on};
+ghost use Rattle.round_arena.specs.Plan.{IsGraph, IsAssigned, IsCounted, count_on, machine_count, pair_total};
 ghost use Rattle.augment.specs.Tree.{HasRoom};
 ghost use Rattle.augment.specs.Moves.{GainsOne, IsStuck};
 ghost use Rattle.round_arena.specs.Planning.{LacksWorkers};
@@ -32,17 +32,17 @@ fn serve_one(
     tree: &mut Tree,
     looks: &mut u64,
 ) -> bool
-    requires graph { IsGraph (length need.now) (length owner.old) pairs.now.first.now pairs.now.workers.now }
-    requires assigned { IsAssigned (length need.now) pairs.now.first.now pairs.now.workers.now owner.old }
+    requires graph { IsGraph (length need.now) (length owner.old) pairs.now }
+    requires assigned { IsAssigned (length need.now) pairs.now owner.old }
     requires counted { IsCounted (length need.now) owner.old count.old }
-    requires room { HasRoom (length need.now) tree.old }
+    requires room { HasRoom (length need.now) (machine_count pairs.now) tree.old }
     requires root { root < length need.now }
     requires lacking { slice_index count.old root < slice_index need.now root }
-    requires looks { looks.old + length pairs.now.workers.now < 2 ^ 64 }
-    ensures assigned { IsAssigned (length need.now) pairs.now.first.now pairs.now.workers.now owner.new }
+    requires looks { looks.old + pair_total pairs.now < 2 ^ 64 }
+    ensures assigned { IsAssigned (length need.now) pairs.now owner.new }
     ensures counted { IsCounted (length need.now) owner.new count.new }
-    ensures room { HasRoom (length need.now) tree.new }
-    ensures looks { looks.new ≤ looks.old + length pairs.now.workers.now }
+    ensures room { HasRoom (length need.now) (machine_count pairs.now) tree.new }
+    ensures looks { looks.new ≤ looks.old + pair_total pairs.now }
     ensures more { looks.old ≤ looks.new }
     ensures looked { OnTrue result (looks.old < looks.new) }
     ensures gained { OnTrue result (GainsOne (length need.now) root need.now owner.old owner.new) }
@@ -78,23 +78,23 @@ pub fn serve_all(
     looks: &mut u64,
 ) -> bool
     requires order { IsPermutation (range_with_len 0 (length need.now)) order.now }
-    requires graph { IsGraph (length need.now) (length owner.old) pairs.now.first.now pairs.now.workers.now }
-    requires assigned { IsAssigned (length need.now) pairs.now.first.now pairs.now.workers.now owner.old }
+    requires graph { IsGraph (length need.now) (length owner.old) pairs.now }
+    requires assigned { IsAssigned (length need.now) pairs.now owner.old }
     requires counted { IsCounted (length need.now) owner.old count.old }
-    requires room { HasRoom (length need.now) tree.old }
-    requires looks { looks.old + (length owner.old + 1) * length pairs.now.workers.now < 2 ^ 64 }
+    requires room { HasRoom (length need.now) (machine_count pairs.now) tree.old }
+    requires looks { looks.old + (length owner.old + 1) * pair_total pairs.now < 2 ^ 64 }
     ensures size { length owner.new ≡ length owner.old }
-    ensures assigned { IsAssigned (length need.now) pairs.now.first.now pairs.now.workers.now owner.new }
+    ensures assigned { IsAssigned (length need.now) pairs.now owner.new }
     ensures counted { IsCounted (length need.now) owner.new count.new }
-    ensures room { HasRoom (length need.now) tree.new }
+    ensures room { HasRoom (length need.now) (machine_count pairs.now) tree.new }
 
     // No function falls below the smaller of its need and its number before.
     ensures kept { (f : ℕ) → f < length need.now → min (slice_index need.now f) (count_on owner.old f) ≤ count_on owner.new f }
     ensures capped { (f : ℕ) → f < length need.now → count_on owner.new f ≤ max (slice_index need.now f) (count_on owner.old f) }
     ensures served { OnTrue result ((f : ℕ) → f < length need.now → slice_index need.now f ≤ count_on owner.new f) }
-    ensures short { OnFalse result ((permits : ℕ → ℕ → Bool) (machines : List ℕ) → length machines ≡ length owner.old → Represents permits machines pairs.now.first.now pairs.now.workers.now (length need.now) → LacksWorkers permits machines (length need.now) (λ f. slice_index need.now f) (marked tree.new.place.now (length need.now))) }
-    ensures looks_served { OnTrue result (looks.new ≤ looks.old + length owner.old * length pairs.now.workers.now) }
-    ensures looks { looks.new ≤ looks.old + (length owner.old + 1) * length pairs.now.workers.now }
+    ensures short { OnFalse result ((permits : ℕ → ℕ → Bool) (machines : List ℕ) → length machines ≡ length owner.old → Represents permits machines pairs.now (length need.now) → LacksWorkers permits machines (length need.now) (λ f. slice_index need.now f) (marked tree.new.place.now (length need.now))) }
+    ensures looks_served { OnTrue result (looks.new ≤ looks.old + length owner.old * pair_total pairs.now) }
+    ensures looks { looks.new ≤ looks.old + (length owner.old + 1) * pair_total pairs.now }
 
     // Each worker who is gained for a need costs a look at least, and so does each idle worker who gets a function.
     ensures more { looks.old ≤ looks.new }

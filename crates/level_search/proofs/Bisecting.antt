@@ -7,7 +7,7 @@ use Rattle.plan_model.proofs.Hall.{sum_by-le_each}
 use Rattle.plan_model.proofs.Reached.{need-falls}
 use Rattle.round_arena.specs.declared.tables.Tables.{Tables}
 use Rattle.round_arena.specs.declared.tables.Pairs.{Pairs}
-use Rattle.round_arena.specs.Plan.{Represents}
+use Rattle.round_arena.specs.Plan.{pair_total, Represents}
 use Rattle.round_arena.specs.Round.{IsSound, SamePairs, Holds}
 use Rattle.augment.specs.declared.serving.Served.{Served}
 use Rattle.augment.specs.declared.serving.Served.TheVariants.{All as Full, Short}
@@ -27,8 +27,8 @@ Fits-same i t u s h =
     record {
       machines = machine ∙ h.machines;
       most = ap (λ m. m.now) s.most ∙ h.most;
-      holds = subst (λ (m : List ℕ). Represents (may_do i) m u.pairs.first.now u.pairs.workers.now (length i.least)) (sym machine)
-          (subst (λ (p : Pairs). Represents (may_do i) t.machine.now p.first.now p.workers.now (length i.least)) (sym s.pairs) h.holds);
+      holds = subst (λ (m : List ℕ). Represents (may_do i) m u.pairs (length i.least)) (sym machine)
+          (subst (λ (p : Pairs). Represents (may_do i) t.machine.now p (length i.least)) (sym s.pairs) h.holds);
     }
 
 pub AreMet-kept : (i : Instance) (needs : List ℕ) (level higher : ℕ) (t u : Tables) → AreNeeds i level needs → KeepsServed needs t u
@@ -64,7 +64,7 @@ pub record IsBisecting (i : Instance) (before now : Tables) (low high round : �
   pub met : AreMet i now.owner.now high
   pub short : 0 < low → IsShort i (low - 1) set
   pub hired : Hires (length i.least) before now
-  pub looks : now.looks ≤ before.looks + length before.owner.now * length before.pairs.workers.now + round * ((length before.owner.now + 1) * length before.pairs.workers.now)
+  pub looks : now.looks ≤ before.looks + length before.owner.now * pair_total before.pairs + round * ((length before.owner.now + 1) * pair_total before.pairs)
 
 half_width : (round : ℕ) → round < 33 → 2 ^ (33 - round) ≡ 2 ^ (33 - (round + 1)) + 2 ^ (33 - (round + 1))
 half_width round l =
@@ -73,30 +73,30 @@ half_width round l =
 
 -- the looks that are left for one probe more
 pub looks-left : (i : Instance) (set : List ℕ) (before now : Tables) (low high round : ℕ) → IsBisecting i before now low high round set → round < 33
-    → now.looks + (length now.owner.now + 1) * length now.pairs.workers.now ≤ before.looks + 34 * ((length before.owner.now + 1) * length before.pairs.workers.now)
+    → now.looks + (length now.owner.now + 1) * pair_total now.pairs ≤ before.looks + 34 * ((length before.owner.now + 1) * pair_total before.pairs)
 looks-left i set before now low high round h l =
-    let q : ℕ = (length before.owner.now + 1) * length before.pairs.workers.now in
+    let q : ℕ = (length before.owner.now + 1) * pair_total before.pairs in
     let rounds : q * round ≤ q * 32 = mul-le-mul_left q (omega arith) in
     let swap : round * q ≡ q * round = mul_comm round q in
     let staff : length now.owner.now ≡ length before.owner.now = h.same.staff in
-    let pairs : length now.pairs.workers.now ≡ length before.pairs.workers.now = ap (λ p. length p.workers.now) h.same.pairs in
-    let one : (length now.owner.now + 1) * length now.pairs.workers.now ≡ q = ap (λ n. (n + 1) * length now.pairs.workers.now) staff ∙ ap (λ n. (length before.owner.now + 1) * n) pairs in
-    let part : length before.owner.now * length before.pairs.workers.now ≤ q = omega arith in
+    let pairs : pair_total now.pairs ≡ pair_total before.pairs = ap pair_total h.same.pairs in
+    let one : (length now.owner.now + 1) * pair_total now.pairs ≡ q = ap (λ n. (n + 1) * pair_total now.pairs) staff ∙ ap (λ n. (length before.owner.now + 1) * n) pairs in
+    let part : length before.owner.now * pair_total before.pairs ≤ q = omega arith in
     omega (arith, h.looks)
 
-spent-le : (old new : Tables) (served : Served) → IsWithinLooks old new served → new.looks ≤ old.looks + (length old.owner.now + 1) * length old.pairs.workers.now
+spent-le : (old new : Tables) (served : Served) → IsWithinLooks old new served → new.looks ≤ old.looks + (length old.owner.now + 1) * pair_total old.pairs
 spent-le old new Full h = omega arith
 spent-le old new (Short set) h = h
 
 -- the looks after one probe more
 looks-more : (i : Instance) (set : List ℕ) (before now then : Tables) (low high round : ℕ) (served : Served) → IsBisecting i before now low high round set → IsWithinLooks now then served
-    → then.looks ≤ before.looks + length before.owner.now * length before.pairs.workers.now + (round + 1) * ((length before.owner.now + 1) * length before.pairs.workers.now)
+    → then.looks ≤ before.looks + length before.owner.now * pair_total before.pairs + (round + 1) * ((length before.owner.now + 1) * pair_total before.pairs)
 looks-more i set before now then low high round served h w =
-    let q : ℕ = (length before.owner.now + 1) * length before.pairs.workers.now in
+    let q : ℕ = (length before.owner.now + 1) * pair_total before.pairs in
     let staff : length now.owner.now ≡ length before.owner.now = h.same.staff in
-    let pairs : length now.pairs.workers.now ≡ length before.pairs.workers.now = ap (λ p. length p.workers.now) h.same.pairs in
-    let one : (length now.owner.now + 1) * length now.pairs.workers.now ≡ q = ap (λ n. (n + 1) * length now.pairs.workers.now) staff ∙ ap (λ n. (length before.owner.now + 1) * n) pairs in
-    let spent : then.looks ≤ now.looks + (length now.owner.now + 1) * length now.pairs.workers.now = spent-le now then served w in
+    let pairs : pair_total now.pairs ≡ pair_total before.pairs = ap pair_total h.same.pairs in
+    let one : (length now.owner.now + 1) * pair_total now.pairs ≡ q = ap (λ n. (n + 1) * pair_total now.pairs) staff ∙ ap (λ n. (length before.owner.now + 1) * n) pairs in
+    let spent : then.looks ≤ now.looks + (length now.owner.now + 1) * pair_total now.pairs = spent-le now then served w in
     let product : (round + 1) * q ≡ round * q + q = omega arith in
     omega (arith, h.looks)
 
@@ -141,7 +141,7 @@ IsBisecting-short i set before now then low high round middle found more h r l m
 pub IsBisecting-idle : (i : Instance) (set : List ℕ) (before now : Tables) (low high round : ℕ) → IsBisecting i before now low high round set → round < 33 → high ≤ low
     → IsBisecting i before now low high (round + 1) set
 IsBisecting-idle i set before now low high round h r l =
-    let q : ℕ = (length before.owner.now + 1) * length before.pairs.workers.now in
+    let q : ℕ = (length before.owner.now + 1) * pair_total before.pairs in
     let half : 2 ^ (33 - round) ≡ 2 ^ (33 - (round + 1)) + 2 ^ (33 - (round + 1)) = half_width round r in
     let product : (round + 1) * q ≡ round * q + q = omega arith in
     record {

@@ -7,12 +7,12 @@ use Rattle.std.proofs.lemmas.List.{get_or-set_same, get_or-set_other, length-set
 use Rattle.round_arena.specs.declared.tables.Pairs.{Pairs}
 use Rattle.augment.specs.Moves.{one_if_equal}
 use Rattle.round_arena.specs.declared.tables.Tables.{Tables}
-use Rattle.round_arena.specs.Plan.{IsPair, IsGraph, IsAssigned, IsCounted, AreWithin, count_on}
+use Rattle.round_arena.specs.Plan.{IsPair, IsGraph, IsAssigned, IsCounted, AreWithin, count_on, machine_count}
 use Rattle.round_arena.specs.Round.{IsSound, SamePairs}
-use Rattle.level_search.specs.Filled.{IsFilled, IsBusyUpTo}
+use Rattle.level_search.specs.Filled.{IsFilled, AreBusy, AreBusyUpTo, IsBusyUpTo}
 use Rattle.augment.proofs.Flips.{one_if_equal-same, one_if_equal-other, count_on-set, count_on-positive, IsAssigned-set, IsCounted-move}
 
-pub IsFilled-refl : (functions : ℕ) (pairs : Pairs) (most owner count : List ℕ) → IsAssigned functions pairs.first.now pairs.workers.now owner → IsCounted functions owner count → AreWithin functions most owner
+pub IsFilled-refl : (functions : ℕ) (pairs : Pairs) (most owner count : List ℕ) → IsAssigned functions pairs owner → IsCounted functions owner count → AreWithin functions most owner
     → IsFilled functions pairs most owner owner count
 IsFilled-refl functions pairs most owner count a c within = record {
   size = refl;
@@ -41,8 +41,8 @@ IsFilled-trans functions pairs most before now after count count' a b = record {
 }
 
 -- an idle worker goes to f
-pub IsFilled-set : (functions : ℕ) (pairs : Pairs) (most owner count : List ℕ) (w f : ℕ) → IsAssigned functions pairs.first.now pairs.workers.now owner → IsCounted functions owner count → AreWithin functions most owner
-    → w < length owner → f < functions → get_or owner w 0 ≡ functions → IsPair pairs.first.now pairs.workers.now w f → count_on owner f < get_or most f 0
+pub IsFilled-set : (functions : ℕ) (pairs : Pairs) (most owner count : List ℕ) (w f : ℕ) → IsAssigned functions pairs owner → IsCounted functions owner count → AreWithin functions most owner
+    → w < length owner → f < functions → get_or owner w 0 ≡ functions → IsPair pairs w f → count_on owner f < get_or most f 0
     → IsFilled functions pairs most owner (set owner w f) (set (set count functions (get_or count functions 0 - 1)) f (get_or (set count functions (get_or count functions 0 - 1)) f 0 + 1))
 IsFilled-set functions pairs most owner count w f a c within l b idle pr low =
     let moved : (g : ℕ) → count_on (set owner w f) g + one_if_equal functions g ≡ count_on owner g + one_if_equal f g =
@@ -50,7 +50,7 @@ IsFilled-set functions pairs most owner count w f a c within l b idle pr low =
     let some : 0 < count_on owner functions = omega (arith, count_on-positive owner w l, ap (count_on owner) idle) in
     record {
       size = length-set owner w f;
-      assigned = IsAssigned-set functions pairs.first.now pairs.workers.now owner w f a l b pr;
+      assigned = IsAssigned-set functions pairs owner w f a l b pr;
       counted = IsCounted-move functions owner (set owner w f) count functions f c (omega arith) b (λ q. omega (arith, q)) some moved;
       kept = λ v k. get_or-set_other owner w v f 0 (λ q. omega (arith, ap (λ z. get_or owner z 0) q));
       grows = λ g k. omega (arith, moved g, one_if_equal-other functions g (λ q. omega (arith, q)));
@@ -67,39 +67,61 @@ IsFilled-set functions pairs most owner count w f a c within l b idle pr low =
     }
 
 -- busy workers stay so, and functions at their greatest number
-pub IsBusyUpTo-filled : (functions : ℕ) (pairs : Pairs) (most before after count : List ℕ) (f end : ℕ) → IsFilled functions pairs most before after count → f < functions → IsBusyUpTo pairs most before functions f end → IsBusyUpTo pairs most after functions f end
-IsBusyUpTo-filled functions pairs most before after count f end h below b k l m =
-    elim (b k l m) [
-      | inl busy ↦ inl (omega (arith, h.kept (get_or pairs.workers.now k 0) busy, busy))
+pub AreBusyUpTo-filled : (functions : ℕ) (pairs : Pairs) (most before after count : List ℕ) (f m end : ℕ) → IsFilled functions pairs most before after count → f < functions
+    → AreBusyUpTo pairs most before functions f m end → AreBusyUpTo pairs most after functions f m end
+AreBusyUpTo-filled functions pairs most before after count f m end h below b k l n =
+    elim (b k l n) [
+      | inl busy ↦ inl (omega (arith, h.kept (get_or pairs.workers.items.now k 0) busy, busy))
       | inr filled ↦ inr (omega (arith, h.grows f below, filled))
     ]
 
-pub IsBusyUpTo-more : (functions : ℕ) (pairs : Pairs) (most owner : List ℕ) (f end : ℕ) → IsBusyUpTo pairs most owner functions f end
-    → (get_or owner (get_or pairs.workers.now end 0) 0 < functions) ⊎ (get_or most f 0 ≤ count_on owner f) → IsBusyUpTo pairs most owner functions f (end + 1)
-IsBusyUpTo-more functions pairs most owner f end b here k l m =
+pub AreBusyUpTo-more : (functions : ℕ) (pairs : Pairs) (most owner : List ℕ) (f m end : ℕ) → AreBusyUpTo pairs most owner functions f m end
+    → (get_or owner (get_or pairs.workers.items.now end 0) 0 < functions) ⊎ (get_or most f 0 ≤ count_on owner f) → AreBusyUpTo pairs most owner functions f m (end + 1)
+AreBusyUpTo-more functions pairs most owner f m end b here k l n =
     elim (cases_eq k end) [
-      | inl q ↦ subst (λ (z : ℕ). (get_or owner (get_or pairs.workers.now z 0) 0 < functions) ⊎ (get_or most f 0 ≤ count_on owner f)) (sym q) here
+      | inl q ↦ subst (λ (z : ℕ). (get_or owner (get_or pairs.workers.items.now z 0) 0 < functions) ⊎ (get_or most f 0 ≤ count_on owner f)) (sym q) here
       | inr ne ↦ b k l (omega (arith, ne))
     ]
 
+pub IsBusyUpTo-filled : (functions : ℕ) (pairs : Pairs) (most before after count : List ℕ) (f end : ℕ) → IsFilled functions pairs most before after count → f < functions → IsBusyUpTo pairs most before functions f end → IsBusyUpTo pairs most after functions f end
+IsBusyUpTo-filled functions pairs most before after count f end h below b k l n =
+    let m = get_or pairs.machines.items.now k 0 in
+    AreBusyUpTo-filled functions pairs most before after count f m (get_or pairs.workers.first.now (m + 1) 0) h below (b k l n)
+
+pub IsBusyUpTo-more : (functions : ℕ) (pairs : Pairs) (most owner : List ℕ) (f end : ℕ) → IsBusyUpTo pairs most owner functions f end → AreBusy pairs most owner functions f (get_or pairs.machines.items.now end 0)
+    → IsBusyUpTo pairs most owner functions f (end + 1)
+IsBusyUpTo-more functions pairs most owner f end b here k l n =
+    elim (cases_eq k end) [
+      | inl q ↦ subst (λ (z : ℕ). AreBusy pairs most owner functions f (get_or pairs.machines.items.now z 0)) (sym q) here
+      | inr ne ↦ b k l (omega (arith, ne))
+    ]
+
+-- the worker of a pair is there
+pub known-pair : (pairs : Pairs) (functions staff w f : ℕ) → IsGraph functions staff pairs → f < functions → IsPair pairs w f → w < staff
+known-pair pairs functions staff w f g l pair =
+    let m : ℕ = pair.0 in
+    let of_function = pair.1 in
+    let of_machine = pair.2 in
+    let listed : m < machine_count pairs = omega (arith, of_function.3, g.machines.known of_function.0 (omega (arith, of_function.2, g.machines.ends (f + 1) (omega (arith, l))))) in
+    omega (arith, of_machine.3, g.workers.known of_machine.0 (omega (arith, of_machine.2, g.workers.ends (m + 1) (omega (arith, listed)))))
+
 -- the tables with other owners and counts
-pub IsSound-moved : {functions : ℕ} {u : Tables} (t : Tables) (owner count : List ℕ) → IsSound functions t → length owner ≡ length t.owner.now → IsAssigned functions t.pairs.first.now t.pairs.workers.now owner → IsCounted functions owner count
+pub IsSound-moved : {functions : ℕ} {u : Tables} (t : Tables) (owner count : List ℕ) → IsSound functions t → length owner ≡ length t.owner.now → IsAssigned functions t.pairs owner → IsCounted functions owner count
     → AreWithin functions t.most.now owner → SamePairs t u → u.owner.now ≡ owner → u.count.now ≡ count → IsSound functions u
 IsSound-moved {functions = functions} {u = u} t owner count s same_size a c within same eo ec =
     let size : length u.owner.now ≡ length t.owner.now = ap length eo ∙ same_size in
-    let graph : IsGraph functions (length u.owner.now) u.pairs.first.now u.pairs.workers.now =
-    subst (λ (p : Pairs). IsGraph functions (length u.owner.now) p.first.now p.workers.now) (sym same.pairs)
-    (subst (λ (n : ℕ). IsGraph functions n t.pairs.first.now t.pairs.workers.now) (sym size) s.graph) in
-    let assigned : IsAssigned functions u.pairs.first.now u.pairs.workers.now u.owner.now =
-    subst (λ (p : Pairs). IsAssigned functions p.first.now p.workers.now u.owner.now) (sym same.pairs)
-    (subst (λ (o : List ℕ). IsAssigned functions t.pairs.first.now t.pairs.workers.now o) (sym eo) a) in
+    let graph : IsGraph functions (length u.owner.now) u.pairs =
+    subst (λ (p : Pairs). IsGraph functions (length u.owner.now) p) (sym same.pairs)
+    (subst (λ (n : ℕ). IsGraph functions n t.pairs) (sym size) s.graph) in
+    let assigned : IsAssigned functions u.pairs u.owner.now =
+    subst (λ (p : Pairs). IsAssigned functions p u.owner.now) (sym same.pairs)
+    (subst (λ (o : List ℕ). IsAssigned functions t.pairs o) (sym eo) a) in
     let counted : IsCounted functions u.owner.now u.count.now =
     subst (λ (o : List ℕ). IsCounted functions o u.count.now) (sym eo) (subst (λ (n : List ℕ). IsCounted functions owner n) (sym ec) c) in
     let most : u.most.now ≡ t.most.now = ap (λ m. m.now) same.most in
     record {
       few = s.few;
       graph = graph;
-      last = subst (λ (p : Pairs). get_or p.first.now functions 0 ≡ length p.workers.now) (sym same.pairs) s.last;
       assigned = assigned;
       counted = counted;
       limits = ap length most ∙ s.limits;
@@ -113,14 +135,14 @@ IsSound-moved {functions = functions} {u = u} t owner count s same_size a c with
 pub IsSound-filled : {functions : ℕ} {u : Tables} (t : Tables) (pairs : Pairs) (most owner count : List ℕ) → IsSound functions t → t.pairs ≡ pairs → t.most.now ≡ most → IsFilled functions pairs most t.owner.now owner count
     → SamePairs t u → u.owner.now ≡ owner → u.count.now ≡ count → IsSound functions u
 IsSound-filled {functions} {u} t pairs most owner count s e em h same eo ec =
-    IsSound-moved {functions = functions} {u = u} t owner count s h.size (subst (λ (p : Pairs). IsAssigned functions p.first.now p.workers.now owner) (sym e) h.assigned) h.counted
+    IsSound-moved {functions = functions} {u = u} t owner count s h.size (subst (λ (p : Pairs). IsAssigned functions p owner) (sym e) h.assigned) h.counted
     (subst (λ (m : List ℕ). AreWithin functions m owner) (sym em) h.within) same eo ec
 
 pub busy_more : (functions : ℕ) (pairs : Pairs) (most before after count : List ℕ) (f : ℕ) → IsFilled functions pairs most before after count → f < functions
-    → ((g : ℕ) → g < f → IsBusyUpTo pairs most before functions g (get_or pairs.first.now (g + 1) 0)) → IsBusyUpTo pairs most after functions f (get_or pairs.first.now (f + 1) 0)
-    → (g : ℕ) → g < f + 1 → IsBusyUpTo pairs most after functions g (get_or pairs.first.now (g + 1) 0)
+    → ((g : ℕ) → g < f → IsBusyUpTo pairs most before functions g (get_or pairs.machines.first.now (g + 1) 0)) → IsBusyUpTo pairs most after functions f (get_or pairs.machines.first.now (f + 1) 0)
+    → (g : ℕ) → g < f + 1 → IsBusyUpTo pairs most after functions g (get_or pairs.machines.first.now (g + 1) 0)
 busy_more functions pairs most before after count f h below old here g l =
     elim (cases_eq g f) [
-      | inl q ↦ subst (λ (z : ℕ). IsBusyUpTo pairs most after functions z (get_or pairs.first.now (z + 1) 0)) (sym q) here
-      | inr ne ↦ IsBusyUpTo-filled functions pairs most before after count g (get_or pairs.first.now (g + 1) 0) h (omega (arith, below, l)) (old g (omega (arith, ne)))
+      | inl q ↦ subst (λ (z : ℕ). IsBusyUpTo pairs most after functions z (get_or pairs.machines.first.now (z + 1) 0)) (sym q) here
+      | inr ne ↦ IsBusyUpTo-filled functions pairs most before after count g (get_or pairs.machines.first.now (g + 1) 0) h (omega (arith, below, l)) (old g (omega (arith, ne)))
     ]

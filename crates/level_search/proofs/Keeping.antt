@@ -34,7 +34,7 @@ IsFound-kept i t u owner (Nothing set) e h s = absurd s
 pub IsSeed-later : (n : ℕ) (t u : Tables) (seed : Seed) → round.IsSound n t → SamePairs t u → seed.owner.now ≡ t.owner.now → seed.count.now ≡ t.count.now → IsSeed n u seed
 IsSeed-later n t u seed s same eo ec = record {
   size = ap length eo ∙ sym same.staff;
-  assigned = subst (λ (p : Pairs). IsAssigned n p.first.now p.workers.now seed.owner.now) (sym same.pairs) (subst (λ (o : List ℕ). IsAssigned n t.pairs.first.now t.pairs.workers.now o) (sym eo) s.assigned);
+  assigned = subst (λ (p : Pairs). IsAssigned n p seed.owner.now) (sym same.pairs) (subst (λ (o : List ℕ). IsAssigned n t.pairs o) (sym eo) s.assigned);
   counted = subst (λ (o : List ℕ). IsCounted n o seed.count.now) (sym eo) (subst (λ (c : List ℕ). IsCounted n t.owner.now c) (sym ec) s.counted);
   within = subst (λ (m : List ℕ). AreWithin n m seed.owner.now) (sym (ap (λ m. m.now) same.most)) (subst (λ (o : List ℕ). AreWithin n t.most.now o) (sym eo) s.within);
 }

@@ -7,6 +7,7 @@ use Rattle.std.proofs.lemmas.List.FromFn.{length-range_with_len}
 use Rattle.plan_model.specs.Planning.{Instance, IsInstance, functions, may_do, machines_of}
 use Rattle.round_arena.specs.Input.{pair_count}
 use Rattle.round_arena.specs.declared.tables.Tables.{Tables}
+use Rattle.round_arena.specs.Plan.{pair_total}
 use Rattle.round_arena.specs.Round.{SamePairs}
 use Rattle.level_search.specs.Answered.{Starts}
 
@@ -32,11 +33,11 @@ looks-few i h =
 pub staff-starts : (i : Instance) (t : Tables) → Starts i t → length t.owner.now ≡ length i.live
 staff-starts i t s = omega (arith, s.sound.slots, ap length s.slots, length-map i.live (λ worker. worker.0))
 
-pub looks-start : (i : Instance) (t : Tables) → Starts i t → t.looks + 34 * ((length t.owner.now + 1) * length t.pairs.workers.now) ≡ 34 * ((length i.live + 1) * pair_count i)
+pub looks-start : (i : Instance) (t : Tables) → Starts i t → t.looks + 34 * ((length t.owner.now + 1) * pair_total t.pairs) ≡ 34 * ((length i.live + 1) * pair_count i)
 looks-start i t s =
-    let product : (length t.owner.now + 1) * length t.pairs.workers.now ≡ (length i.live + 1) * pair_count i =
-    ap (λ n. (n + 1) * length t.pairs.workers.now) (staff-starts i t s) ∙ ap (λ n. (length i.live + 1) * n) s.pairs in
+    let product : (length t.owner.now + 1) * pair_total t.pairs ≡ (length i.live + 1) * pair_count i =
+    ap (λ n. (n + 1) * pair_total t.pairs) (staff-starts i t s) ∙ ap (λ n. (length i.live + 1) * n) s.pairs in
     omega (arith, product, s.looks)
 
-pub pairs-same : (t u : Tables) → SamePairs t u → length u.pairs.workers.now ≡ length t.pairs.workers.now
-pairs-same t u s = ap (λ p. length p.workers.now) s.pairs
+pub pairs-same : (t u : Tables) → SamePairs t u → pair_total u.pairs ≡ pair_total t.pairs
+pairs-same t u s = ap pair_total s.pairs

@@ -1,5 +1,5 @@
 -- the looks that a plan takes at least
-use Rattle.std.proofs.Common.{◌≡◌, ℕ, zero, suc, ◌+◌, ◌<◌, ◌≤◌, Option, None, Some, List, [], ◌∷◌, All, Bool, true, false, eqb, ltb, cond, length, get_or, map, count_by, sum_by, is_some, refl, sym, ap, ◌∙◌, arith}
+use Rattle.std.proofs.Common.{◌≡◌, ℕ, suc, ◌+◌, ◌<◌, ◌≤◌, Option, None, Some, List, [], ◌∷◌, Bool, true, false, eqb, ltb, cond, length, get_or, map, count_by, sum_by, is_some, refl, sym, ap, ◌∙◌, arith}
 use Rattle.std.specs.List.{range_with_len}
 use Rattle.std.proofs.lemmas.Bool.Decides.{nat_tests}
 use Rattle.std.proofs.lemmas.List.Elements.{recursion_from_All}
@@ -9,13 +9,13 @@ use Rattle.plan_model.specs.Planning.{Instance, functions, need}
 use Rattle.plan_model.proofs.Hall.{count_by-map, sum_by-le_each}
 use Rattle.round_arena.specs.declared.tables.Tables.{Tables}
 use Rattle.round_arena.specs.Input.{cut_plan}
-use Rattle.round_arena.specs.Plan.{count_on}
+use Rattle.round_arena.specs.Plan.{pair_total, count_on}
 use Rattle.round_arena.specs.Round.{IsSound, SamePairs, function_at, plan_of}
 use Rattle.round_arena.proofs.Lists.{order-size}
 use Rattle.round_arena.proofs.Ranges.{range-below}
 use Rattle.augment.specs.Round.{Hires}
 use Rattle.augment.proofs.Gains.{total-count_on}
-use Rattle.augment.proofs.Totals.{total, total-range}
+use Rattle.augment.proofs.Totals.{total-range}
 use Rattle.level_search.specs.Levels.{AreMet}
 use Rattle.plan_model.specs.declared.answer.Answer.{Answer}
 use Rattle.plan_model.specs.declared.answer.Answer.TheVariants.{Planned, NoPlan}
@@ -78,7 +78,7 @@ paid_by_then i t u plan level sound same fresh kept hired met =
 
 -- and at the end, where the tables v are those of u with other owners
 pub paid_by_end : (i : Instance) (t u v : Tables) (plan : List (ℕ × Option ℕ)) (found : Found) (answer : Answer) (looks : ℕ) → Starts i t → SamePairs t u → SamePairs u v
-    → plan_of t ≡ cut_plan i plan → Hires (length i.least) t u → IsFound i u found → v.looks ≡ u.looks → Fills found (length v.pairs.workers.now) v.looks looks answer
+    → plan_of t ≡ cut_plan i plan → Hires (length i.least) t u → IsFound i u found → v.looks ≡ u.looks → Fills found (pair_total v.pairs) v.looks looks answer
     → PaysForPlan i plan answer looks
 paid_by_end i t u v plan found (NoPlan set) looks starts tu uv kept hired is same fills = tt
 paid_by_end i t u v plan (Nothing none) (Planned entries backlog set) looks starts tu uv kept hired is same fills = absurd fills.0

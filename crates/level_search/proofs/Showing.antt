@@ -11,7 +11,7 @@ use Rattle.plan_model.specs.Planning.{Instance, IsInstance, IsSound, IsShort, As
 use Rattle.plan_model.specs.Shown.{IsShownPlan, IsEvidence}
 use Rattle.plan_model.proofs.Reached.{needs-met, backlog-exact}
 use Rattle.round_arena.specs.declared.tables.Tables.{Tables}
-use Rattle.round_arena.specs.Plan.{IsPair, count_on}
+use Rattle.round_arena.specs.Plan.{count_on}
 use Rattle.round_arena.specs.Round.{entries_of, function_at}
 use Rattle.round_arena.specs.Round as round
 use Rattle.round_arena.proofs.Lists.{order-size}

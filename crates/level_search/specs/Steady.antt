@@ -21,6 +21,6 @@ IsSteady i previous answer =
 -- The owners and counts fit the tables' pairs and greatest numbers.
 pub record IsSeed (functions : ℕ) (t : Tables) (seed : Seed) : Type 0 where
   pub size : length seed.owner.now ≡ length t.owner.now
-  pub assigned : IsAssigned functions t.pairs.first.now t.pairs.workers.now seed.owner.now
+  pub assigned : IsAssigned functions t.pairs seed.owner.now
   pub counted : IsCounted functions seed.owner.now seed.count.now
   pub within : AreWithin functions t.most.now seed.owner.now

@@ -1,4 +1,5 @@
 ghost use Rattle.std.specs.Prelude.{◌≡◌, ℕ, ◌+◌, ◌*◌, ◌^◌, ◌<◌, ◌≤◌, length, IfOk, OnOk};
+ghost use Rattle.round_arena.specs.Plan.{pair_total};
 ghost use Rattle.round_arena.specs.Round.{IsSound, SamePairs};
 ghost use Rattle.augment.specs.Round.{Hires, IsWithinLooks};
 ghost use Rattle.level_search.specs.Levels.{AreNeeds, Fits};
@@ -32,7 +33,7 @@ fn fill_needs(input: &Input, level: u64, needs: &mut [u32])
 fn probe<'a>(tables: &mut Tables<'a>, input: &Input, level: u64) -> Result<Served<'a>, AllocError>
     requires sound { IsSound (length input.now.least) tables.old }
     requires fits { Fits input.now tables.old }
-    requires looks { tables.old.looks + (length tables.old.owner.now + 1) * length tables.old.pairs.workers.now < 2 ^ 64 }
+    requires looks { tables.old.looks + (length tables.old.owner.now + 1) * pair_total tables.old.pairs < 2 ^ 64 }
     ensures sound { IsSound (length input.now.least) tables.new }
     ensures same { SamePairs tables.old tables.new }
     ensures probed { IfOk result (IsProbed input.now level tables.new) }
@@ -53,11 +54,11 @@ fn probe<'a>(tables: &mut Tables<'a>, input: &Input, level: u64) -> Result<Serve
 pub fn solve_levels<'a>(tables: &mut Tables<'a>, input: &Input) -> Result<Found<'a>, AllocError>
     requires sound { IsSound (length input.now.least) tables.old }
     requires fits { Fits input.now tables.old }
-    requires looks { tables.old.looks + 34 * ((length tables.old.owner.now + 1) * length tables.old.pairs.workers.now) < 2 ^ 64 }
+    requires looks { tables.old.looks + 34 * ((length tables.old.owner.now + 1) * pair_total tables.old.pairs) < 2 ^ 64 }
     ensures sound { IsSound (length input.now.least) tables.new }
     ensures same { SamePairs tables.old tables.new }
     ensures found { IfOk result (IsFound input.now tables.new) }
-    ensures looks { OnOk result (tables.new.looks + length tables.old.pairs.workers.now ≤ tables.old.looks + 34 * ((length tables.old.owner.now + 1) * length tables.old.pairs.workers.now)) }
+    ensures looks { OnOk result (tables.new.looks + pair_total tables.old.pairs ≤ tables.old.looks + 34 * ((length tables.old.owner.now + 1) * pair_total tables.old.pairs)) }
     ensures hired { OnOk result (Hires (length input.now.least) tables.old tables.new) }
 {
     if let Served::Short(set) = probe(tables, input, TOP_LEVEL)? {

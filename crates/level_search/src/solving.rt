@@ -3,6 +3,7 @@ ghost use Rattle.std.specs.List.Sorted.{IsStrictlyIncreasing};
 ghost use Rattle.plan_model.specs.Planning.{assigned, is_full};
 ghost use Rattle.plan_model.specs.Shown.{Shown};
 ghost use Rattle.round_arena.specs.Input.{pair_count, cut_plan};
+ghost use Rattle.round_arena.specs.Plan.{pair_total};
 ghost use Rattle.round_arena.specs.Round.{IsSound, plan_of};
 ghost use Rattle.level_search.specs.Levels.{Fits};
 ghost use Rattle.level_search.specs.Found.{IsFound, Serves};
@@ -90,12 +91,12 @@ fn answer<'a>(
     requires fits { Fits input.now tables.old }
     requires slots { tables.old.slot.now ≡ map (λ worker. worker.0) input.now.live }
     requires found { IsFound input.now tables.old found }
-    requires looks { tables.old.looks + length tables.old.pairs.workers.now < 2 ^ 64 }
+    requires looks { tables.old.looks + pair_total tables.old.pairs < 2 ^ 64 }
     ensures shown { IfOk result (Shown input.now) }
 
     // Where nobody is idle for nothing, the answer's plan is the tables'.
     ensures kept { IfOk result (λ answer. Serves input.now tables.old.owner.now found.entry → IsTrue (is_full input.now (assigned (plan_of tables.old))) → HasPlan (plan_of tables.old) answer) }
-    ensures looks { IfOk result (Fills found.entry (length tables.old.pairs.workers.now) tables.old.looks tables.new.looks) }
+    ensures looks { IfOk result (Fills found.entry (pair_total tables.old.pairs) tables.old.looks tables.new.looks) }
 {
     let _live = input.live();
     match found {

@@ -8,9 +8,8 @@ use Rattle.round_arena.specs.Plan.{IsGraph, IsAssigned, IsCounted, AreWithin, Re
 -- The tables fit together, for that many functions.
 pub record IsSound (functions : ℕ) (t : Tables) : Type 0 where
   pub few : functions < 2 ^ 32
-  pub graph : IsGraph functions (length t.owner.now) t.pairs.first.now t.pairs.workers.now
-  pub last : slice_index t.pairs.first.now functions ≡ length t.pairs.workers.now
-  pub assigned : IsAssigned functions t.pairs.first.now t.pairs.workers.now t.owner.now
+  pub graph : IsGraph functions (length t.owner.now) t.pairs
+  pub assigned : IsAssigned functions t.pairs t.owner.now
   pub counted : IsCounted functions t.owner.now t.count.now
   pub limits : length t.most.now ≡ functions
   pub within : AreWithin functions t.most.now t.owner.now
@@ -21,7 +20,7 @@ pub record IsSound (functions : ℕ) (t : Tables) : Type 0 where
 
 -- The tables hold the permitted pairs and no others, where `permits` says which machine may do which function.
 abbrev pub Holds : (ℕ → ℕ → Bool) → ℕ → Tables → Type 0
-Holds permits functions t = Represents permits t.machine.now t.pairs.first.now t.pairs.workers.now functions
+Holds permits functions t = Represents permits t.machine.now t.pairs functions
 
 -- The permissions, greatest numbers, machines, slots and the order of the functions stay.
 pub record SamePairs (old new : Tables) : Type 0 where

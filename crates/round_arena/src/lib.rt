@@ -9,4 +9,4 @@ mod tables;
 pub use building::build;
 pub use copying::{copy_plan, looks};
 pub use plan_model::FuncId;
-pub use tables::{Pairs, Tables};
+pub use tables::{Groups, Pairs, Tables};

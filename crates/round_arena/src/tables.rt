@@ -1,15 +1,25 @@
 use bumpalo::Bump;
 use plan_model::{MachineId, SlotId};
 
-/// The permitted pairs of a function and a worker, by function: the workers who may do function `f`
-/// are `workers[first[f]..first[f + 1]]`.
+/// Groups of numbers, one after the other: the numbers of group `g` are
+/// `items[first[g]..first[g + 1]]`.
+#[derive(Clone, Copy)]
+pub struct Groups<'p> {
+    /// For each group the place of its first number, and last the place behind the last group.
+    pub first: &'p [usize],
+    /// The numbers of one group after the other.
+    pub items: &'p [u32],
+}
+
+/// The permitted pairs of a function and a worker. All workers of a machine may do the same, so a
+/// pair is a machine of the function and a worker of that machine.
 #[derive(Clone, Copy)]
 pub struct Pairs<'p> {
-    /// For each function the place of its first worker, and last the number of pairs.
-    pub first: &'p [usize],
-    /// The workers of one function after the other, those whose machines may do the fewest functions
-    /// first. No contract speaks of this order.
-    pub workers: &'p [u32],
+    /// For each function the machines that may do it, those that may do the fewest functions first.
+    /// No contract speaks of this order.
+    pub machines: Groups<'p>,
+    /// For each machine its workers, side by side.
+    pub workers: Groups<'p>,
 }
 
 /// The tables of a planning round, all of them slices of one arena. A worker is its place in the

@@ -156,14 +156,15 @@ fn looks_by_hand(rt: HostRuntime) -> Result<(), Fail> {
     let looks = looks_of(alloc, &[(0, 0)], &[&[0]], &[0], &[1])?;
     assert_eq!(rt; looks, Some(2));
 
-    // Each function finds its worker at the first look, and levels 3 and 5 are stuck after three looks each.
+    // Each function finds its worker at the first look, levels 3 and 5 are stuck after two looks each, one at each machine's worker, and
+    // three looks are for the filling.
     let looks = looks_of(alloc, &[(0, 0), (1, 1)], &[&[0], &[0, 1]], &[0, 0], &[6, 2])?;
-    assert_eq!(rt; looks, Some(11));
+    assert_eq!(rt; looks, Some(9));
 
-    // One look and two at the first level, three more at level 7, none at level 3, which needs more workers than there are, six at
-    // level 4, which is stuck, and six for the filling.
+    // One look and two at the first level, three more at level 7, none at level 3, which needs more workers than there are, three
+    // at level 4, which is stuck as the machine is passed over for the second function, and six for the filling.
     let three = [(0, 0), (1, 0), (2, 0)];
     let looks = looks_of(alloc, &three, &[&[0, 1]], &[0, 0], &[10, 4])?;
-    assert_eq!(rt; looks, Some(18));
+    assert_eq!(rt; looks, Some(15));
     Ok(())
 }

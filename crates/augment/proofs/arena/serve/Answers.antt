@@ -32,8 +32,7 @@ returns-clause-sound c =
     let t = c.args.tables.now in
     record {
       few = s.few;
-      graph = subst (λ (n : ℕ). IsGraph (length c.args.need.now) n t.pairs.first.now t.pairs.workers.now) (sym e.size) s.graph;
-      last = s.last;
+      graph = subst (λ (n : ℕ). IsGraph (length c.args.need.now) n t.pairs) (sym e.size) s.graph;
       assigned = e.assigned;
       counted = e.counted;
       limits = s.limits;
@@ -51,8 +50,7 @@ returns-then-serve_all-clause-sound c =
     let t = c.args.tables.now in
     record {
       few = s.few;
-      graph = subst (λ (n : ℕ). IsGraph (length c.args.need.now) n t.pairs.first.now t.pairs.workers.now) (sym e.size) s.graph;
-      last = s.last;
+      graph = subst (λ (n : ℕ). IsGraph (length c.args.need.now) n t.pairs) (sym e.size) s.graph;
       assigned = e.assigned;
       counted = e.counted;
       limits = s.limits;

@@ -1,6 +1,6 @@
-use Rattle.std.proofs.Common.{◌≡◌, length, ap, refl, sym, subst, ◌∙◌, arith}
+use Rattle.std.proofs.Common.{◌+◌, length, get_or, ap, refl, arith}
+use Rattle.round_arena.proofs.Counts.{pairs_up_to-le, pairs_up_to-step}
 use Rattle.round_arena.specs.Round.{SamePairs}
-use Rattle.round_arena.specs.declared.tables.Tables.{Tables}
 use Rattle.level_search.proofs.Filling.{IsFilled-trans, IsSound-filled, busy_more}
 use Rattle.level_search.proofs.Bisecting.{SamePairs-trans}
 use Rattle.level_search.proofs.fill.fill_idle.Goals as goal
@@ -20,5 +20,11 @@ loop-f-preserved c =
       same = SamePairs-trans c.args.tables.now t _ s.same more;
       filled = IsFilled-trans c.args.functions p most c.args.tables.now.owner.now t.owner.now owner t.count.now count s.filled step;
       busy = busy_more c.args.functions p most t.owner.now owner count c.loop-f.f step c.loop-f-test.true s.busy c.fill_function.ensures.busy;
-      looks = omega (arith, s.looks, c.fill_function.ensures.looks, c.requires.sound.graph.rises c.loop-f.f c.loop-f-test.true);
+      looks = omega (arith, s.looks, c.fill_function.ensures.looks, pairs_up_to-step p c.args.functions (length c.args.tables.now.owner.now) c.loop-f.f c.requires.sound.graph c.loop-f-test.true);
     }
+
+pub fill_function-requires-clause-looks : goal.fill_function-requires-clause-looks
+fill_function-requires-clause-looks c =
+    let p = c.args.tables.now.pairs in
+    let step = pairs_up_to-step p c.args.functions (length c.args.tables.now.owner.now) c.loop-f.f c.requires.sound.graph c.loop-f-test.true in
+    omega (arith, step, c.loop-f.invariant.looks, c.requires.looks, pairs_up_to-le p (get_or p.machines.first.now (c.loop-f.f + 1) 0))
