@@ -1,8 +1,9 @@
 -- laws of the bisection of levels
-use Rattle.std.proofs.Common.{◌≡◌, ℕ, suc, ◌+◌, ◌-◌, ◌*◌, ◌/◌, ◌^◌, ◌<◌, ◌≤◌, List, All, length, sum_by, get_or, refl, sym, ap, ◌∙◌, subst, arith}
+use Rattle.std.proofs.Common.{◌≡◌, ℕ, suc, ◌+◌, ◌-◌, ◌*◌, ◌/◌, ◌^◌, ◌<◌, ◌≤◌, List, All, length, sum_by, get_or, refl, sym, ap, ◌∙◌, subst, ltb, arith, inl, inr}
+use Rattle.std.proofs.lemmas.Bool.{cases_lt, cond-true, cond-false, lt-ltb, le-ltb}
 use Rattle.std.proofs.Math.Nat.{mul-le-mul_left, mul_comm, two-pow-succ}
 use Rattle.std.proofs.lemmas.List.Elements.{recursion_from_All}
-use Rattle.plan_model.specs.Planning.{Instance, may_do, need, neighbours, LacksWorkers, IsShort}
+use Rattle.plan_model.specs.Planning.{Instance, may_do, need, neighbours, LacksWorkers, IsShort, top_level}
 use Rattle.plan_model.proofs.Hall.{sum_by-le_each}
 use Rattle.plan_model.proofs.Reached.{need-falls}
 use Rattle.round_arena.specs.declared.tables.Tables.{Tables}
@@ -14,6 +15,7 @@ use Rattle.augment.specs.declared.serving.Served.TheVariants.{All as Full, Short
 use Rattle.augment.specs.Round.{Hires, IsServed, KeepsServed, IsWithinLooks}
 use Rattle.level_search.specs.Levels.{AreNeeds, Fits, AreMet}
 use Rattle.level_search.specs.Found.{IsProbed, KeepsMet}
+use Rattle.level_search.specs.Paid.{passes_at}
 
 pub SamePairs-refl : (t : Tables) → SamePairs t t
 SamePairs-refl t = record { pairs = refl; most = refl; machine = refl; slot = refl; order = refl; staff = refl }
@@ -65,6 +67,8 @@ pub record IsBisecting (i : Instance) (before now : Tables) (low high round : �
   pub short : 0 < low → IsShort i (low - 1) set
   pub hired : Hires (length i.least) before now
   pub looks : now.looks ≤ before.looks + length before.owner.now * pair_total before.pairs + round * ((length before.owner.now + 1) * pair_total before.pairs)
+  -- a probe that was served, below the top level, took one pass fewer
+  pub left : high < top_level → now.looks + pair_total before.pairs ≤ before.looks + length before.owner.now * pair_total before.pairs + round * ((length before.owner.now + 1) * pair_total before.pairs)
 
 half_width : (round : ℕ) → round < 33 → 2 ^ (33 - round) ≡ 2 ^ (33 - (round + 1)) + 2 ^ (33 - (round + 1))
 half_width round l =
@@ -100,6 +104,44 @@ looks-more i set before now then low high round served h w =
     let product : (round + 1) * q ≡ round * q + q = omega arith in
     omega (arith, h.looks)
 
+-- and the pass that is left
+left-more : (i : Instance) (set : List ℕ) (before now then : Tables) (low high round : ℕ) (served : Served) → IsBisecting i before now low high round set → IsWithinLooks now then served → high < top_level
+    → then.looks + pair_total before.pairs ≤ before.looks + length before.owner.now * pair_total before.pairs + (round + 1) * ((length before.owner.now + 1) * pair_total before.pairs)
+left-more i set before now then low high round served h w below =
+    let q : ℕ = (length before.owner.now + 1) * pair_total before.pairs in
+    let staff : length now.owner.now ≡ length before.owner.now = h.same.staff in
+    let pairs : pair_total now.pairs ≡ pair_total before.pairs = ap pair_total h.same.pairs in
+    let one : (length now.owner.now + 1) * pair_total now.pairs ≡ q = ap (λ n. (n + 1) * pair_total now.pairs) staff ∙ ap (λ n. (length before.owner.now + 1) * n) pairs in
+    let spent : then.looks ≤ now.looks + (length now.owner.now + 1) * pair_total now.pairs = spent-le now then served w in
+    let product : (round + 1) * q ≡ round * q + q = omega arith in
+    omega (arith, h.left below)
+
+left-met : (i : Instance) (set : List ℕ) (before now then : Tables) (low high round : ℕ) → IsBisecting i before now low high round set → IsWithinLooks now then Full
+    → then.looks + pair_total before.pairs ≤ before.looks + length before.owner.now * pair_total before.pairs + (round + 1) * ((length before.owner.now + 1) * pair_total before.pairs)
+left-met i set before now then low high round h w =
+    let q : ℕ = (length before.owner.now + 1) * pair_total before.pairs in
+    let staff : length now.owner.now ≡ length before.owner.now = h.same.staff in
+    let pairs : pair_total now.pairs ≡ pair_total before.pairs = ap pair_total h.same.pairs in
+    let one : length now.owner.now * pair_total now.pairs ≡ length before.owner.now * pair_total before.pairs = ap (λ n. n * pair_total now.pairs) staff ∙ ap (λ n. length before.owner.now * n) pairs in
+    let whole : q ≡ length before.owner.now * pair_total before.pairs + pair_total before.pairs = omega arith in
+    let product : (round + 1) * q ≡ round * q + q = omega arith in
+    omega (arith, h.looks, w)
+
+-- the passes for which the bound leaves room once the level is found
+pub passes-left : (i : Instance) (set : List ℕ) (before now : Tables) (low high : ℕ) → IsBisecting i before now low high 33 set
+    → now.looks + passes_at high * pair_total before.pairs ≤ before.looks + 34 * ((length before.owner.now + 1) * pair_total before.pairs)
+passes-left i set before now low high h =
+    let p : ℕ = pair_total before.pairs in
+    let whole : (length before.owner.now + 1) * p ≡ length before.owner.now * p + p = omega arith in
+    elim (cases_lt high top_level) [
+      | inl below ↦
+          let two : passes_at high * p ≡ 2 * p = ap (λ n. n * p) (cond-true (ltb high top_level) 2 1 (lt-ltb high top_level below)) in
+          omega (arith, h.left below)
+      | inr above ↦
+          let one : passes_at high * p ≡ 1 * p = ap (λ n. n * p) (cond-false (ltb high top_level) 2 1 (le-ltb high top_level above)) in
+          omega (arith, h.looks)
+    ]
+
 -- the middle level was served
 pub IsBisecting-met : (i : Instance) (set : List ℕ) (before now then : Tables) (low high round middle : ℕ) → IsBisecting i before now low high round set → round < 33 → low < high → middle ≡ low + (high - low) / 2
     → IsSound (length i.least) then → SamePairs now then → AreMet i then.owner.now middle → IsWithinLooks now then Full → Hires (length i.least) now then
@@ -116,6 +158,7 @@ IsBisecting-met i set before now then low high round middle h r l m sound same m
       short = λ p. h.short p;
       hired = omega (arith, h.hired, more);
       looks = looks-more i set before now then low high round Full h w;
+      left = λ _. left-met i set before now then low high round h w;
     }
 
 -- the middle level is short
@@ -135,6 +178,7 @@ IsBisecting-short i set before now then low high round middle found more h r l m
       short = λ _. subst (λ (n : ℕ). IsShort i n more) (sym back) short;
       hired = omega (arith, h.hired, hired);
       looks = looks-more i set before now then low high round found h w;
+      left = left-more i set before now then low high round found h w;
     }
 
 -- there is no level between
@@ -154,6 +198,7 @@ IsBisecting-idle i set before now low high round h r l =
       hired = h.hired;
       width = omega (arith, h.width);
       looks = omega (arith, h.looks);
+      left = λ below. omega (arith, h.left below);
     }
 
 pub IsBisecting-is : (i : Instance) (before t u : Tables) (low low' high high' round : ℕ) (set set' : List ℕ) → u ≡ t → low' ≡ low → high' ≡ high → set' ≡ set

@@ -1,8 +1,7 @@
 -- the previous plan, where it is best
 use Rattle.std.proofs.Common.{◌≡◌, ℕ, ◌<◌, ◌≤◌, ◌||◌, Bool, true, eqb, leb, ltb, List, [], ◌∷◌, Option, Some, None, is_some, length, get_or, map, sym, ap, ◌∙◌, subst, arith, inl, inr}
-use Rattle.std.proofs.lemmas.Bool.{cases_lt, cond-false, le-ltb, leb-true, or_cases, and_parts, eqb-true, false≢true}
+use Rattle.std.proofs.lemmas.Bool.{cond-false, le-ltb, leb-true, or_cases, and_parts, eqb-true, false≢true}
 use Rattle.std.specs.List.{list_any, list_all}
-use Rattle.std.proofs.lemmas.List.{ext_get_or}
 use Rattle.std.proofs.lemmas.List.Sums.{AllPass-from_list_all}
 use Rattle.plan_model.specs.Planning.{Instance, IsInstance, IsSound, IsBest, Assignment, assigned, backlog_of, is_full, is_filled, may_do, workers_on, top_level}
 use Rattle.plan_model.specs.declared.answer.Answer.{Answer}
@@ -18,12 +17,11 @@ use Rattle.level_search.specs.declared.bisect.Found.{Found}
 use Rattle.level_search.specs.declared.bisect.Found.TheVariants.{Level, Nothing}
 use Rattle.level_search.specs.declared.previous.Seed.{Seed}
 use Rattle.level_search.specs.Levels.{AreMet, Fits}
-use Rattle.level_search.specs.Filled.{IsFilled}
 use Rattle.level_search.specs.Found.{IsFound, Serves}
 use Rattle.level_search.specs.Answered.{Starts}
 use Rattle.level_search.specs.Steady.{HasPlan, IsSteady, IsSeed}
 use Rattle.level_search.proofs.Bisecting.{Fits-same, SamePairs-trans}
-use Rattle.level_search.proofs.Showing.{Tells, plan_of, plan_of-is, plan-at, machine-at, many, workers_on-is, is_permitted-plan, meets_most-plan}
+use Rattle.level_search.proofs.Showing.{Tells, plan_of, plan_of-is, plan-at, machine-at, workers_on-is, is_permitted-plan, meets_most-plan}
 
 -- tables that serve the level that was found
 pub IsFound-kept : (i : Instance) (t u : Tables) (owner : List ℕ) (found : Found) → u.owner.now ≡ owner → IsFound i t found → Serves i owner found → IsFound i u found
@@ -64,7 +62,7 @@ each-there p (g ∷ row) f all there =
     ]
 
 -- what an idle worker may do in a full plan is at its greatest number
-idle-filled : (i : Instance) (t : Tables) → Tells i t → is_full i (assigned (plan_of i t)) ≡ true → (w f : ℕ) → w < length i.live → length i.least ≤ get_or t.owner.now w 0 → f < length i.least
+pub idle-filled : (i : Instance) (t : Tables) → Tells i t → is_full i (assigned (plan_of i t)) ≡ true → (w f : ℕ) → w < length i.live → length i.least ≤ get_or t.owner.now w 0 → f < length i.least
     → may_do i (get_or t.machine.now w 0) f ≡ true → get_or i.most f 0 ≤ count_on t.owner.now f
 idle-filled i t h full w f inside idle below can =
     let plan : Assignment = assigned (plan_of i t) in
@@ -82,24 +80,6 @@ idle-filled i t h full w f inside idle below can =
 pub Tells-now : (i : Instance) (t : Tables) → round.IsSound (length i.least) t → Fits i t → t.slot.now ≡ map (λ worker. worker.0) i.live → Tells i t
 Tells-now i t sound fits slots = record { sound = sound; fits = fits; slots = slots }
 
--- filling changes nothing where the plan is full
-pub filled-full : (i : Instance) (t u : Tables) → Tells i t → IsFilled (length i.least) t.pairs t.most.now t.owner.now u.owner.now u.count.now → is_full i (assigned (round.plan_of t)) ≡ true → u.owner.now ≡ t.owner.now
-filled-full i t u h filled full' =
-    let full : is_full i (assigned (plan_of i t)) ≡ true = ap (λ z. is_full i (assigned z)) (sym (plan_of-is i t h)) ∙ full' in
-    ext_get_or 0 u.owner.now t.owner.now filled.size
-    (λ w l.
-    let inside : w < length i.live = omega (arith, l, filled.size, many i t h, h.sound.slots) in
-    elim (cases_lt (get_or t.owner.now w 0) (length i.least)) [
-      | inl busy ↦ filled.kept w busy
-      | inr idle ↦ elim (cases_lt (get_or u.owner.now w 0) (length i.least)) [
-        | inl moved ↦
-            let can : may_do i (get_or t.machine.now w 0) (get_or u.owner.now w 0) ≡ true = h.fits.holds.permitted w (get_or u.owner.now w 0) moved (filled.assigned.permitted w l moved) in
-            let most : get_or t.most.now (get_or u.owner.now w 0) 0 ≡ get_or i.most (get_or u.owner.now w 0) 0 = ap (λ m. get_or m (get_or u.owner.now w 0) 0) h.fits.most in
-            absurd (omega (arith, most, idle-filled i t h full w (get_or u.owner.now w 0) inside idle moved can, filled.room w (omega (arith, l, filled.size)) idle moved))
-        | inr stays ↦ omega (arith, idle, stays, h.sound.assigned.below w (omega (arith, l, filled.size)), filled.assigned.below w l)
-      ]
-    ])
-
 -- the plan of tables with the same workers on the same functions
 pub plan_of-same : (t u : Tables) → SamePairs t u → u.owner.now ≡ t.owner.now → round.plan_of u ≡ round.plan_of t
 plan_of-same t u same e =
@@ -112,11 +92,11 @@ pub Tells-start : (i : Instance) (t : Tables) → Starts i t → Tells i t
 Tells-start i t starts = record { sound = starts.sound; fits = starts.fits; slots = starts.slots }
 
 -- the previous plan stays, from the tables at the start, after the search and put back
-pub steady-kept : (i : Instance) (t0 t1 t2 : Tables) (seed : Seed) (found : Found) (previous : List (ℕ × Option ℕ)) (answer : Answer) → IsInstance i → Starts i t0 → round.plan_of t0 ≡ cut_plan i previous → seed.owner.now ≡ t0.owner.now
+pub steady-kept : (i : Instance) (t0 t1 t2 : Tables) (kept : Bool) (seed : Seed) (found : Found) (previous : List (ℕ × Option ℕ)) (answer : Answer) → IsInstance i → Starts i t0 → round.plan_of t0 ≡ cut_plan i previous → seed.owner.now ≡ t0.owner.now
     → SamePairs t0 t1 → round.IsSound (length i.least) t1 → IsFound i t1 found → SamePairs t1 t2 → (Serves i seed.owner.now found → t2.owner.now ≡ seed.owner.now)
-    → (Serves i t2.owner.now found → is_full i (assigned (round.plan_of t2)) ≡ true → HasPlan (round.plan_of t2) answer)
+    → (Serves i seed.owner.now found → kept ≡ true) → (kept ≡ true → Serves i t2.owner.now found → is_full i (assigned (round.plan_of t2)) ≡ true → HasPlan (round.plan_of t2) answer)
     → IsSteady i previous answer
-steady-kept i t0 t1 t2 seed found previous answer valid starts cut eo same1 sound found_at same2 put_back answers best full =
+steady-kept i t0 t1 t2 kept seed found previous answer valid starts cut eo same1 sound found_at same2 put_back is_kept answers best full =
     let tells0 : Tells i t0 = Tells-start i t0 starts in
     let tells1 : Tells i t1 = Tells-same i t0 t1 starts sound same1 in
     let plan0 : plan_of i t0 ≡ cut_plan i previous = sym (plan_of-is i t0 tells0) ∙ cut in
@@ -125,4 +105,4 @@ steady-kept i t0 t1 t2 seed found previous answer valid starts cut eo same1 soun
     let owner : t2.owner.now ≡ t0.owner.now = put_back serves ∙ eo in
     let plan : round.plan_of t2 ≡ cut_plan i previous = plan_of-same t0 t2 (SamePairs-trans t0 t1 t2 same1 same2) owner ∙ cut in
     subst (λ (z : List (ℕ × Option ℕ)). HasPlan z answer) plan
-    (answers (subst (λ (o : List ℕ). Serves i o found) (sym owner) serves0) (ap (λ z. is_full i (assigned z)) plan ∙ full))
+    (answers (is_kept serves) (subst (λ (o : List ℕ). Serves i o found) (sym owner) serves0) (ap (λ z. is_full i (assigned z)) plan ∙ full))

@@ -9,7 +9,11 @@ use Rattle.round_arena.specs.Input.{pair_count}
 use Rattle.round_arena.specs.declared.tables.Tables.{Tables}
 use Rattle.round_arena.specs.Plan.{pair_total}
 use Rattle.round_arena.specs.Round.{SamePairs}
+use Rattle.plan_model.specs.declared.answer.Answer.{Answer}
+use Rattle.plan_model.specs.declared.answer.Answer.TheVariants.{Planned, NoPlan}
+use Rattle.level_search.specs.declared.bisect.Found.{Found}
 use Rattle.level_search.specs.Answered.{Starts}
+use Rattle.level_search.specs.Paid.{Fills, passes}
 
 sum_by-few : (xs : List ℕ) (b : ℕ) (g : ℕ → ℕ) → ((k : ℕ) → g k ≤ b) → sum_by g xs ≤ b * length xs
 sum_by-few [] b g h = omega arith
@@ -41,3 +45,8 @@ looks-start i t s =
 
 pub pairs-same : (t u : Tables) → SamePairs t u → pair_total u.pairs ≡ pair_total t.pairs
 pairs-same t u s = ap pair_total s.pairs
+
+-- the looks at the end, from those when the level was found
+pub looks-end : (found : Found) (answer : Answer) (pairs old new bound : ℕ) → Fills found pairs old new answer → old + passes found * pairs ≤ bound → new ≤ bound
+looks-end found (Planned entries backlog set) pairs old new bound fills room = omega (arith, fills.2, room)
+looks-end found (NoPlan set) pairs old new bound fills room = omega (arith, fills, room)

@@ -52,7 +52,7 @@ count_by-same p q d e (x ∷ xs) (y ∷ ys) s h =
     let here : cond (p x) 1 0 ≡ cond (q y) 1 0 = ap {B = ℕ} (λ b. cond b 1 0) (h 0 (omega arith)) in
     omega (arith, sum_by-cons (λ z. cond (p z) 1 0) x xs, sum_by-cons (λ z. cond (q z) 1 0) y ys, rest, here)
 
-any-at : {X : Type 0} (p : X → Bool) (xs : List X) (d : X) (k : ℕ) → k < length xs → p (get_or xs k d) ≡ true → list_any p xs ≡ true
+pub any-at : {X : Type 0} (p : X → Bool) (xs : List X) (d : X) (k : ℕ) → k < length xs → p (get_or xs k d) ≡ true → list_any p xs ≡ true
 any-at p [] d k l h = absurd (omega arith)
 any-at p (x ∷ xs) d zero l h = or_left (p x) (list_any p xs) h
 any-at p (x ∷ xs) d (suc k) l h = or_right (p x) (list_any p xs) (any-at p xs d k (omega arith) h)

@@ -4,3 +4,4 @@ pub mod Found
 pub mod Answered
 pub mod Steady
 pub mod Paid
+pub mod Spread

@@ -1,6 +1,6 @@
 -- How many looks a plan takes at least.
-use Rattle.std.specs.Prelude.{◌≡◌, ℕ, ◌+◌, ◌≤◌, List, Option, is_some, count_by, sum_by}
-use Rattle.plan_model.specs.Planning.{Instance, functions, need}
+use Rattle.std.specs.Prelude.{◌≡◌, ℕ, ◌+◌, ◌*◌, ◌≤◌, nat_lt, if◌then◌else◌, List, Option, is_some, count_by, sum_by}
+use Rattle.plan_model.specs.Planning.{Instance, functions, need, top_level}
 use Rattle.plan_model.specs.declared.answer.Answer.{Answer}
 use Rattle.plan_model.specs.declared.answer.Answer.TheVariants.{Planned, NoPlan}
 use Rattle.round_arena.specs.Input.{cut_plan, pair_count}
@@ -22,7 +22,15 @@ abbrev pub IsLevel : Found → ℕ → Type 0
 IsLevel (Level level set) backlog = backlog ≡ level
 IsLevel (Nothing set) backlog = ⊥
 
--- The backlog of a plan is the level that was found, and each of so many pairs was looked at once more.
+-- How many passes over all pairs may follow once the level is found: one to fill idle workers in, and below the top level one more
+abbrev pub passes_at : ℕ → ℕ
+passes_at level = if nat_lt level top_level then 2 else 1
+
+abbrev pub passes : Found → ℕ
+passes (Level level set) = passes_at level
+passes (Nothing set) = 1
+
+-- The backlog of a plan is the level that was found, and each of so many pairs was looked at once more, and once again at most.
 abbrev pub Fills : Found → ℕ → ℕ → ℕ → Answer → Type 0
-Fills found pairs old new (Planned entries backlog set) = IsLevel found backlog × (new ≡ old + pairs)
+Fills found pairs old new (Planned entries backlog set) = IsLevel found backlog × (old + pairs ≤ new) × (new ≤ old + passes found * pairs)
 Fills found pairs old new (NoPlan set) = new ≡ old

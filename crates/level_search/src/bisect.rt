@@ -1,9 +1,10 @@
-ghost use Rattle.std.specs.Prelude.{◌≡◌, ℕ, ◌+◌, ◌*◌, ◌^◌, ◌<◌, ◌≤◌, length, IfOk, OnOk};
+ghost use Rattle.std.specs.Prelude.{◌≡◌, ◌+◌, ◌*◌, ◌^◌, ◌<◌, ◌≤◌, length, IfOk, OnOk};
 ghost use Rattle.round_arena.specs.Plan.{pair_total};
 ghost use Rattle.round_arena.specs.Round.{IsSound, SamePairs};
 ghost use Rattle.augment.specs.Round.{Hires, IsWithinLooks};
 ghost use Rattle.level_search.specs.Levels.{AreNeeds, Fits};
 ghost use Rattle.level_search.specs.Found.{IsProbed, KeepsMet, IsFound};
+ghost use Rattle.level_search.specs.Paid.{passes};
 
 use augment::{Served, serve};
 use plan_model::{FuncId, Input, TOP_LEVEL};
@@ -58,7 +59,7 @@ pub fn solve_levels<'a>(tables: &mut Tables<'a>, input: &Input) -> Result<Found<
     ensures sound { IsSound (length input.now.least) tables.new }
     ensures same { SamePairs tables.old tables.new }
     ensures found { IfOk result (IsFound input.now tables.new) }
-    ensures looks { OnOk result (tables.new.looks + pair_total tables.old.pairs ≤ tables.old.looks + 34 * ((length tables.old.owner.now + 1) * pair_total tables.old.pairs)) }
+    ensures looks { IfOk result (λ found. tables.new.looks + passes found * pair_total tables.old.pairs ≤ tables.old.looks + 34 * ((length tables.old.owner.now + 1) * pair_total tables.old.pairs)) }
     ensures hired { OnOk result (Hires (length input.now.least) tables.old tables.new) }
 {
     if let Served::Short(set) = probe(tables, input, TOP_LEVEL)? {

@@ -5,5 +5,6 @@ mod bisect;
 mod fill;
 mod previous;
 mod solving;
+mod spread;
 
 pub use solving::{Solved, solve};

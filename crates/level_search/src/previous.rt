@@ -53,9 +53,9 @@ fn serves(seed: &Seed, input: &Input, found: &Found) -> bool
     }
 }
 
-/// Puts the workers back on what they did before, where that serves the level that was found: a search
-/// that got stuck may have moved them for nothing.
-pub fn put_back(tables: &mut Tables, seed: &Seed, input: &Input, found: &Found)
+/// Puts the workers back on what they did before, where that serves the level that was found, and says
+/// whether it does: a search that got stuck may have moved them for nothing.
+pub fn put_back(tables: &mut Tables, seed: &Seed, input: &Input, found: &Found) -> bool
     requires sound { IsSound (length input.now.least) tables.old }
     requires seed { IsSeed (length input.now.least) tables.old seed.now }
     requires found { IsFound input.now tables.old found.now }
@@ -63,10 +63,13 @@ pub fn put_back(tables: &mut Tables, seed: &Seed, input: &Input, found: &Found)
     ensures same { SamePairs tables.old tables.new }
     ensures found { IsFound input.now tables.new found.now }
     ensures kept { Serves input.now seed.now.owner.now found.now → tables.new.owner.now ≡ seed.now.owner.now }
+    ensures serves { IsTrue result ↔ Serves input.now seed.now.owner.now found.now }
     ensures looks { tables.new.looks ≡ tables.old.looks }
 {
-    if serves(seed, input, found) {
+    let is_kept = serves(seed, input, found);
+    if is_kept {
         tables.owner.copy_from_slice(seed.owner);
         tables.count.copy_from_slice(seed.count);
     }
+    is_kept
 }

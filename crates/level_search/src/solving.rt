@@ -12,8 +12,8 @@ ghost use Rattle.level_search.specs.Steady.{HasPlan, IsSteady};
 ghost use Rattle.level_search.specs.Paid.{Fills, PaysForPlan};
 
 use crate::bisect::{Found, solve_levels};
-use crate::fill::fill_idle;
 use crate::previous::{put_back, remember};
+use crate::spread::settle;
 use bumpalo::Bump;
 use plan_model::{Answer, FuncId, FuncSet, Input, Plan};
 use round_arena::{Tables, build, copy_plan, looks};
@@ -80,22 +80,24 @@ fn start<'a>(
     }
 }
 
-// The answer that the tables and the set give.
+// The answer that the tables and the set give. `kept` says that the tables have what is left of the plan before.
 fn answer<'a>(
     alloc: Global,
     tables: &mut Tables<'a>,
     input: &Input,
     found: Found<'a>,
+    kept: bool,
 ) -> Result<Answer, AllocError>
     requires sound { IsSound (length input.now.least) tables.old }
     requires fits { Fits input.now tables.old }
     requires slots { tables.old.slot.now ≡ map (λ worker. worker.0) input.now.live }
     requires found { IsFound input.now tables.old found }
-    requires looks { tables.old.looks + pair_total tables.old.pairs < 2 ^ 64 }
+    requires pairs { pair_total tables.old.pairs ≡ pair_count input.now }
+    requires looks { tables.old.looks + 2 * pair_total tables.old.pairs < 2 ^ 64 }
     ensures shown { IfOk result (Shown input.now) }
 
-    // Where nobody is idle for nothing, the answer's plan is the tables'.
-    ensures kept { IfOk result (λ answer. Serves input.now tables.old.owner.now found.entry → IsTrue (is_full input.now (assigned (plan_of tables.old))) → HasPlan (plan_of tables.old) answer) }
+    // Where nobody is idle for nothing, and the tables are kept, the answer's plan is the tables'.
+    ensures kept { IfOk result (λ answer. IsTrue kept → Serves input.now tables.old.owner.now found.entry → IsTrue (is_full input.now (assigned (plan_of tables.old))) → HasPlan (plan_of tables.old) answer) }
     ensures looks { IfOk result (Fills found.entry (pair_total tables.old.pairs) tables.old.looks tables.new.looks) }
 {
     let _live = input.live();
@@ -104,7 +106,7 @@ fn answer<'a>(
             short: copy_set(alloc, set)?,
         }),
         Found::Level(level, set) => {
-            fill_idle(tables, input.functions() as u32);
+            settle(tables, input, level, kept);
             let plan = copy_plan(alloc, tables)?;
             let short = copy_evidence(alloc, level, set)?;
             Ok(Answer::Planned {
@@ -127,6 +129,10 @@ fn answer<'a>(
 /// The search starts from the `previous` plan, cut to live workers and permitted functions, and
 /// answers it where it is best and leaves nobody idle who may do something.
 ///
+/// Where the previous plan is not the answer, workers whom no need holds at the backlog move to the function, of those that they may
+/// do, that has the most waiting jobs for each worker, where these are at least twice as many as on the function that they leave. Only
+/// this much is promised of it: the plan stays as good as it is, and within the bound on looks.
+///
 /// With a plan, each permitted pair was looked at once more when idle workers were given something to do, and there was a look at
 /// least for each worker whom the needs at its backlog ask for beyond those who had a function by the previous plan.
 ///
@@ -148,8 +154,8 @@ pub fn solve(
     let _live = input.live();
     let seed = remember(bump, &tables)?;
     let found = solve_levels(&mut tables, input)?;
-    put_back(&mut tables, &seed, input, &found);
-    let answer = answer(alloc, &mut tables, input, found)?;
+    let kept = put_back(&mut tables, &seed, input, &found);
+    let answer = answer(alloc, &mut tables, input, found, kept)?;
     Ok(Solved {
         answer,
         looks: looks(&tables),
