@@ -1,5 +1,6 @@
 ghost use Rattle.std.specs.Prelude.{◌≡◌, IfOk, IfSome};
 
+mod farm;
 mod greatest;
 mod plain;
 mod refusals;

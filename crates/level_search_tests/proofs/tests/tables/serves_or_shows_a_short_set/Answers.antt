@@ -1,13 +1,34 @@
-use Rattle.std.proofs.Common.{ℕ, sym, subst}
+use Rattle.std.proofs.Common.{◌≡◌, ℕ, zero, suc, ◌≤◌, List, [], ◌∷◌, get_or, sym, subst, ◌∙◌, arith, inl}
 use Rattle.round_arena.specs.Round.{IsSound}
 use Rattle.round_arena.proofs.Lists.{order-size}
 use Rattle.level_search_tests.proofs.tests.tables.serves_or_shows_a_short_set.Goals as goal
 
-pub serve-requires-clause-limited : goal.serve-requires-clause-limited
-serve-requires-clause-limited g c f l = ?
+-- needs within two greatest numbers of 2
+two-one : (most : List ℕ) → most ≡ 2 ∷ 2 ∷ [] → (f : ℕ) → get_or (2 ∷ 1 ∷ []) f 0 ≤ get_or most f 0
+two-one most e f = subst (λ (m : List ℕ). get_or (2 ∷ 1 ∷ []) f 0 ≤ get_or m f 0) (sym e) (each f)
+  where
+    each : (f : ℕ) → get_or (2 ∷ 1 ∷ []) f 0 ≤ get_or (2 ∷ 2 ∷ []) f 0
+    each zero = omega arith
+    each (suc zero) = omega arith
+    each (suc (suc f)) = omega arith
 
-pub serve-2-requires-clause-limited : goal.serve-2-requires-clause-limited
-serve-2-requires-clause-limited g c f l = ?
+one-one : (most : List ℕ) → most ≡ 2 ∷ 2 ∷ [] → (f : ℕ) → get_or (1 ∷ 1 ∷ []) f 0 ≤ get_or most f 0
+one-one most e f = subst (λ (m : List ℕ). get_or (1 ∷ 1 ∷ []) f 0 ≤ get_or m f 0) (sym e) (each f)
+  where
+    each : (f : ℕ) → get_or (1 ∷ 1 ∷ []) f 0 ≤ get_or (2 ∷ 2 ∷ []) f 0
+    each zero = omega arith
+    each (suc zero) = omega arith
+    each (suc (suc f)) = omega arith
+
+pub serve-requires-clause-limited : goal.serve-requires-clause-limited
+serve-requires-clause-limited g c f l =
+    let known = rw c.in-Some-2.is at c.in_ok-input.ensures.most in
+    inl (two-one c.in_ok-tables.tables.most.now (c.in_ok-tables.ensures.most ∙ known) f)
+
+pub serve-requires-2-clause-limited : goal.serve-requires-2-clause-limited
+serve-requires-2-clause-limited g c f l =
+    let known = rw c.in-Some-2.is at c.in_ok-input.ensures.most in
+    inl (one-one c.in_ok-again.again.most.now (c.in_ok-again.ensures.most ∙ known) f)
 
 pub copy_plan-requires : goal.copy_plan-requires
 copy_plan-requires g c =
