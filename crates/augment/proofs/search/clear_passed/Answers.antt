@@ -1,4 +1,4 @@
-use Rattle.std.proofs.Common.{◌≤◌, false, length, arith, inl, inr}
+use Rattle.std.proofs.Common.{false, length, arith, inl, inr}
 use Rattle.std.proofs.lemmas.Bool.{cases_lt}
 use Rattle.std.proofs.lemmas.List.{get_or_past}
 use Rattle.augment.proofs.search.clear_passed.Goals as goal
