@@ -1,8 +1,8 @@
 -- How a call moves the totals, and what they count, by the pool's own laws.
-use Rattle.std.proofs.Common.{◌≡◌, ◌++◌, length, false, sym, ap, subst, ◌∙◌, arith}
+use Rattle.std.proofs.Common.{◌≡◌, ◌+◌, ◌++◌, length, false, sym, ap, subst, ◌∙◌, arith}
 use Rattle.std.specs.Prelude.{Result, Ok, Err, OnOk, OnErr, count_by}
 use Rattle.pool_settings.specs.Profile.{IsProfile}
-use Rattle.worker_state.specs.Slots.{is_reported}
+use Rattle.worker_state.specs.Slots.{is_open, is_reported, is_lost}
 use Rattle.pool_core.specs.declared.event.Event.{Event}
 use Rattle.pool_core.specs.Machine.{State, first, replay, IsHistory}
 use Rattle.pool_core.specs.Kept.{IsChapter}
@@ -37,3 +37,12 @@ counts_its_events book valid chapter join count =
       grabs = ap (λ (s : State). length s.standings) replayed ∙ counted.grabs;
       reports = ap (λ (s : State). count_by is_reported s.standings) replayed ∙ counted.reports;
     }
+
+-- each job that was grabbed is running, reported or lost
+pub accounts_for_each : (book : Book) → IsProfile book.rules → IsChapter book.rules book.chapters book.events book.state → HistoriesJoin → HistoriesCount
+    → (totals_of book).grabbed ≡ (totals_of book).running + (totals_of book).reported + (totals_of book).lost
+accounts_for_each book valid chapter join count =
+    let counts = counts_its_events book valid chapter join count in
+    let counted = count book.rules valid (counts.earlier ++ book.events) counts.replays.history in
+    subst (λ (s : State). length s.standings ≡ count_by is_open s.standings + count_by is_reported s.standings + count_by is_lost s.standings)
+    (sym counts.replays.replayed) counted.sum

@@ -176,11 +176,13 @@ impl<G: Ledger, D: Ledger> Booked<G, D> {
 
     /// The totals of the pool, held against two shares. No share is above its book, and one that is whole stands at its book.
     ///
-    /// The totals are the numbers of the Grab and Reported events of the whole history.
+    /// The totals are the numbers of the Grab and Reported events of the whole history, and account for each job: it is running, reported
+    /// or lost.
     pub fn settle(&mut self, grabbed: &mut Share<G>, reported: &mut Share<D>) -> Totals
         ensures same { self.new ≡ self.old }
         ensures totals { result ≡ totals_of self.old }
         ensures events { CountsItsEvents self.old result }
+        ensures accounts { result.grabbed ≡ result.running + result.reported + result.lost }
         ensures grabs_kept { (grabbed.new.amount ≡ grabbed.old.amount) × (grabbed.new.parts ≡ grabbed.old.parts) }
         ensures reports_kept { (reported.new.amount ≡ reported.old.amount) × (reported.new.parts ≡ reported.old.parts) }
         ensures bound { (grabbed.old.amount ≤ result.grabbed) × (reported.old.amount ≤ result.reported) }

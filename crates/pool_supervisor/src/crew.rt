@@ -79,6 +79,7 @@ pub struct Sums {
     pub grabbed: u64,
     /// How many jobs the sessions reported.
     pub reported: u64,
+    pub ghost accounts: { totals.grabbed ≡ totals.running + totals.reported + totals.lost },
     pub ghost grabs_agree: { totals.grabbed ≡ grabbed },
     pub ghost reports_agree: { totals.reported ≡ reported },
 }

@@ -1,5 +1,5 @@
 //! A run of the pool: its supervisor, and the sessions as threads of one scope.
-ghost use Rattle.std.specs.Prelude.{◌≡◌, ◌≤◌, ◌^◌, IfOk, vec_len, vec_capacity};
+ghost use Rattle.std.specs.Prelude.{◌≡◌, ◌+◌, ◌≤◌, ◌^◌, IfOk, vec_len, vec_capacity};
 ghost use Rattle.pool_settings.specs.Slots.{slots as slot_count};
 ghost use Rattle.pool_core.specs.Book.{totals_of};
 
@@ -24,7 +24,7 @@ use std::sync::ledger::{Blank, Ledger};
 use std::thread;
 use std::thread::{Scope, Threads};
 
-/// How a run ended. What the sessions told adds up to the totals of the pool.
+/// How a run ended. The totals of the pool account for each job, and what the sessions told adds up to them.
 #[derive(Debug, Drop)]
 pub struct RunEnd {
     /// The totals of the pool after the last session.
@@ -37,6 +37,8 @@ pub struct RunEnd {
     pub chapters: u32,
     /// What each attempt came to, the first one first.
     pub lines: Vec<Attempt>,
+    /// Each job that was grabbed is running, reported or lost.
+    pub ghost accounts: { totals.grabbed ≡ totals.running + totals.reported + totals.lost },
     /// The sums are the totals.
     pub ghost grabs_agree: { totals.grabbed ≡ grabbed },
     pub ghost reports_agree: { totals.reported ≡ reported },

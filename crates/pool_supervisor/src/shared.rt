@@ -98,11 +98,12 @@ impl<G: Ledger, D: Ledger> Shared<G, D> {
         self.lock.lock(rt).lose(pass, cause)
     }
 
-    /// [`Booked::settle`] in one hold of the lock: the totals of now, which are no less than what the shares have, and are just
-    /// that where the shares are whole.
+    /// [`Booked::settle`] in one hold of the lock: the totals of now, which account for each job, are no less than what the shares have,
+    /// and are just that where the shares are whole.
     pub fn settle(&self, rt: &impl Wait, grabbed: &mut Share<G>, reported: &mut Share<D>) -> Totals
         ensures grabs_kept { (grabbed.new.amount ≡ grabbed.old.amount) × (grabbed.new.parts ≡ grabbed.old.parts) }
         ensures reports_kept { (reported.new.amount ≡ reported.old.amount) × (reported.new.parts ≡ reported.old.parts) }
+        ensures accounts { result.grabbed ≡ result.running + result.reported + result.lost }
         ensures bound { (grabbed.old.amount ≤ result.grabbed) × (reported.old.amount ≤ result.reported) }
         ensures grabbed { grabbed.old.parts ≡ G.parts → grabbed.old.amount ≡ result.grabbed }
         ensures reported { reported.old.parts ≡ D.parts → reported.old.amount ≡ result.reported }
