@@ -101,7 +101,7 @@ class Gearmand:
 class Pool:
     """A `poolman run`, watched."""
 
-    def __init__(self, program, settings, rounds, descriptors=None):
+    def __init__(self, program, settings, rounds, descriptors=None, environment=()):
         self.folder = tempfile.TemporaryDirectory(prefix="poolman-")
         path = f"{self.folder.name}/settings.toml"
         with open(path, "w") as it:
@@ -118,7 +118,7 @@ class Pool:
             stdin=subprocess.DEVNULL,
             stdout=self.out,
             stderr=self.err,
-            env={**os.environ, "POOLMAN_WATCH": "1"},
+            env={**os.environ, "POOLMAN_WATCH": "1", **dict(environment)},
             preexec_fn=limit,
         )
 

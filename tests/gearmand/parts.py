@@ -5,6 +5,7 @@ import select
 import signal
 import socket
 import struct
+import subprocess
 import threading
 import time
 
@@ -387,6 +388,45 @@ def terminated(program):
     return f"{left} of 20,000 jobs were left, and the next run did them"
 
 
+# Debian's libkeepalive0, and what it reads.
+KEEPALIVE = {"LD_PRELOAD": "libkeepalive.so.0", "KEEPIDLE": "1", "KEEPINTVL": "1", "KEEPCNT": "2"}
+
+
+def lose_the_server(server):
+    """The server's machine goes without a word and comes back: its sockets are destroyed while the loopback carries nothing."""
+    subprocess.run(["ip", "link", "set", "lo", "down"], check=True)
+    server.kill()
+    subprocess.run(["ss", "-tnK", "state", "fin-wait-1"], check=True, stdout=subprocess.DEVNULL)
+    subprocess.run(["ip", "link", "set", "lo", "up"], check=True)
+    server.start()
+
+
+def half_open(program):
+    """Links whose other side is gone, in a name space of its own: sleeping workers stay on them, and with keepalive they are replaced."""
+    subprocess.run(["ip", "link", "set", "lo", "up"], check=True)
+    for environment in ({}, KEEPALIVE):
+        server = Gearmand()
+        pool = Pool(program, settings(server.port, 4, round_ms=200), 60, environment=environment)
+        wait_until(lambda: sum(row[3] for row in server.status()) == 4, 20, "four workers")
+        # By now what they wrote was taken, and they sleep.
+        time.sleep(1.5)
+        lose_the_server(server)
+        if environment:
+            wait_until(lambda: sum(row[3] for row in server.status()) == 4, 10, "four workers again")
+            ask_rightly(server.port, mixed_jobs(30, 14))
+        else:
+            time.sleep(4)
+            held(sum(row[3] for row in server.status()) == 0 and " round " in pool.seen()[-1], "a worker noticed it without keepalive")
+        ended = pool.end(60)
+        ended.account(30 if environment else 0)
+        nothing_left(server, pool)
+        server.stop()
+    return "without keepalive no worker came back, with it all four"
+
+
+# Parts that want a network of their own, and so root.
+APART = {half_open}
+
 # Each part with its limit in seconds.
 PARTS = {
     mixed: 90,
@@ -402,4 +442,5 @@ PARTS = {
     many: 120,
     few_descriptors: 90,
     terminated: 90,
+    half_open: 120,
 }
