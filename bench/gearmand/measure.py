@@ -159,6 +159,49 @@ def table(head, rows):
     print(flush=True)
 
 
+def show_speed(folder, makers, turns):
+    """The table of speeds, and the loads of the machine at the time."""
+    loads, speeds = [], {}
+    for _ in range(turns):
+        for count in JOBS:
+            for name, make in makers.items():
+                speeds.setdefault((name, count), []).append(speed(folder, make, count))
+                loads.append(os.getloadavg()[0])
+    heads = [f"{count}: {it}" for count in JOBS for it in ("jobs/s", "processor µs a job", "median round trip µs")]
+    rows = [[name, *(shown([it[at] for it in speeds[name, count]]) for count in JOBS for at in (0, 1, 2))] for name in makers]
+    table(["workers", *heads], rows)
+    return loads
+
+
+def show_memory(makers, turns):
+    """The table of idle workers."""
+    sizes = {}
+    for _ in range(turns):
+        for count in (256, 4096):
+            for name, make in makers.items():
+                sizes.setdefault((name, count), []).append(memory(make, count))
+    rows = []
+    for name in makers:
+        kib = [shown([it[0] for it in sizes[name, count]]) for count in (256, 4096)]
+        rows.append([name, *kib, shown([it[1] for it in sizes[name, 4096]], "{:.1f}")])
+    table(["workers", "256 idle: KiB", "4,096 idle: KiB", "4,096: seconds until there"], rows)
+
+
+def show_system_calls(folder, program):
+    """The table of the system calls of one worker."""
+    with open(f"{folder}/settings.toml", "w") as it:
+        it.write(settings(0, 1, ("echo",), round_ms=500, lull_ms=100))
+    # The port is known only when the server is there.
+    start = f'sed "s/:0\\"/:PORT\\"/" {folder}/settings.toml > {folder}/s.toml; exec {program} run {folder}/s.toml 600'
+    commands = {"poolman run": ["sh", "-c", start], "C on libgearman": [f"{folder}/worker", "PORT", "1"]}
+    rows = []
+    for name, words in commands.items():
+        counts = system_calls(folder, words, 5000)
+        each = ", ".join(f"{it} {counts[it]:.2f}" for it in sorted(counts, key=counts.get, reverse=True))
+        rows.append([name, f"{sum(counts.values()):.2f}", each])
+    table(["workers", "system calls a job", "of which"], rows)
+
+
 def main(program, turns):
     program = os.path.abspath(program)
     with tempfile.TemporaryDirectory(prefix="bench-") as folder:
@@ -167,35 +210,9 @@ def main(program, turns):
             "poolman run": lambda port, count: Poolman(program, port, count),
             "C on libgearman": lambda port, count: InC(f"{folder}/worker", port, count),
         }
-        loads, speeds, sizes = [], {}, {}
-        for _ in range(turns):
-            for count in JOBS:
-                for name, make in makers.items():
-                    speeds.setdefault((name, count), []).append(speed(folder, make, count))
-                    loads.append(os.getloadavg()[0])
-        rows = []
-        for name in makers:
-            some = [shown([it[at] for it in speeds[name, count]]) for count in JOBS for at in (0, 1, 2)]
-            rows.append([name, *some])
-        heads = [f"{count}: {it}" for count in JOBS for it in ("jobs/s", "processor µs a job", "median round trip µs")]
-        table(["workers", *heads], rows)
-        for _ in range(turns):
-            for count in (256, 4096):
-                for name, make in makers.items():
-                    sizes.setdefault((name, count), []).append(memory(make, count))
-        rows = [[name, *(shown([it[0] for it in sizes[name, count]]) for count in (256, 4096)), shown([it[1] for it in sizes[name, 4096]], "{:.1f}")] for name in makers]
-        table(["workers", "256 idle: KiB", "4,096 idle: KiB", "4,096: seconds until there"], rows)
-        with open(f"{folder}/settings.toml", "w") as it:
-            it.write(settings(0, 1, ("echo",), round_ms=500, lull_ms=100))
-        rows = []
-        for name in makers:
-            if name == "poolman run":
-                words = ["sh", "-c", f'sed "s/:0\\"/:PORT\\"/" {folder}/settings.toml > {folder}/s.toml; exec {program} run {folder}/s.toml 600']
-            else:
-                words = [f"{folder}/worker", "PORT", "1"]
-            counts = system_calls(folder, words, 5000)
-            rows.append([name, f"{sum(counts.values()):.2f}", ", ".join(f"{it} {counts[it]:.2f}" for it in sorted(counts, key=counts.get, reverse=True))])
-        table(["workers", "system calls a job", "of which"], rows)
+        loads = show_speed(folder, makers, turns)
+        show_memory(makers, turns)
+        show_system_calls(folder, program)
         few, more = allocations(folder, program, 1000), allocations(folder, program, 11000)
         print(f"allocations of poolman a job: {(more - few) / 10000:.2f}")
         print(f"load while speed was measured: {min(loads):.1f} to {max(loads):.1f}, {turns} turns")
