@@ -109,13 +109,15 @@ def max_runs(program):
     server = Gearmand()
     pool = Pool(program, settings(server.port, 4, max_runs=3, round_ms=50, least=1), 160)
     ask_rightly(server.port, mixed_jobs(100, 5))
+    wait_until(lambda: sum(row[3] for row in server.status()) == 4, 5, "each slot has a worker again")
     names = server.text(b"workers\n").decode()
     generations = [int(word.split("#")[1]) for word in names.split() if word.startswith("a/") and "#" in word]
     threads, descriptors = pool.threads(), pool.descriptors()
     held(threads <= 6 and descriptors <= 12, f"{threads} threads and {descriptors} descriptors for four workers")
     ended = pool.end(60)
     ended.account(100)
-    held(max(generations) >= 5, f"generations {generations}")
+    # 34 workers at least, in four slots.
+    held(max(generations) >= 9, f"generations {generations}")
     nothing_left(server, pool)
     server.stop()
     return f"100 jobs, generation {max(generations)} seen, {threads} threads, {descriptors} descriptors"
