@@ -161,10 +161,12 @@ class Pool:
         return Ended(status, lines, watched, self.rounds)
 
     def drop(self):
-        """Kills it, where it still runs."""
+        """Kills it, where it still runs, and leaves out what it printed."""
         if self.process.poll() is None:
             self.process.kill()
             self.process.wait()
+        self.out.close(), self.err.close()
+        self.folder.cleanup()
 
 
 class Ended:
