@@ -12,7 +12,7 @@ use plan_model::{
 };
 use std::alloc::{AllocError, Global};
 
-/// As `bounded_input_of`, with the number of workers as each function's greatest number.
+/// As `bounded_input_of`, with 4,096 as each function's greatest number: no more workers can be live.
 pub fn input_of(
     alloc: Global,
     live: &[(u32, u32)],
@@ -24,7 +24,7 @@ pub fn input_of(
 {
     let mut most = Vec::new(alloc);
     for _ in least {
-        most.push(live.len() as u32)?;
+        most.push(4096)?;
     }
     bounded_input_of(alloc, live, may, least, &most, waiting)
 }
