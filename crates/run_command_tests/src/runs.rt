@@ -159,7 +159,7 @@ fn settings_first(rt: HostRuntime) {
     let alloc = rt.alloc();
     let host = Teller::new(&rt, alloc, &[]);
     let refused = Exit::refused(Fault::Settings(SettingsError::Version));
-    assert!(rt; ends(&host, alloc, b"version = 2\n", 2, refused, b""));
+    assert!(rt; ends(&host, alloc, b"version = 3\n", 2, refused, b""));
     assert_eq!(rt; host.dials.load(Ordering::SeqCst), 0);
 }
 
