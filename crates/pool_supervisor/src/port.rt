@@ -87,7 +87,8 @@ impl<'a, G: Ledger, D: Ledger, B: BoardId, C: Watch, R: Wait> SharedPort<'a, G, 
     /// The shares, whose amounts are the numbers of the jobs that it grabbed and reported, and its place at the board.
     pub fn into_parts(self) -> (Share<G>, Share<D>, Option<Place<B>>)
         ensures grabbed { (result.0.parts ≡ 1) × (result.0.amount ≡ (⟦<SharedPort<'a, G, D, B, C, R> as PoolPort>⟧.book self.entry).grabs) }
-        ensures reported { (result.1.parts ≡ 1) × (result.1.amount ≡ (⟦<SharedPort<'a, G, D, B, C, R> as PoolPort>⟧.book self.entry).reports) }
+        ensures reported { (result.1.parts ≡ 1)
+            × (result.1.amount ≡ (⟦<SharedPort<'a, G, D, B, C, R> as PoolPort>⟧.book self.entry).reports) }
     {
         let SharedPort {
             rt: _,
