@@ -1,6 +1,11 @@
-use Rattle.std.proofs.Common.{◌≡◌, ℕ, zero, suc, ◌≤◌, List, [], ◌∷◌, get_or, sym, subst, ◌∙◌, arith, inl}
+use Rattle.std.proofs.Common.{◌≡◌, ℕ, zero, suc, ◌+◌, ◌*◌, ◌^◌, ◌<◌, ◌≤◌, List, [], ◌∷◌, length, get_or, sym, subst, ◌∙◌, arith, inl}
+use Rattle.plan_model.specs.Planning.{Instance, IsInstance}
+use Rattle.round_arena.specs.declared.tables.Tables.{Tables}
+use Rattle.round_arena.specs.Plan.{pair_total}
 use Rattle.round_arena.specs.Round.{IsSound}
 use Rattle.round_arena.proofs.Lists.{order-size}
+use Rattle.level_search.specs.Answered.{Starts}
+use Rattle.level_search.proofs.Looks.{looks-few, looks-start}
 use Rattle.level_search_tests.proofs.tests.tables.serves_or_shows_a_short_set.Goals as goal
 
 -- needs within two greatest numbers of 2
@@ -19,6 +24,22 @@ one-one most e f = subst (λ (m : List ℕ). get_or (1 ∷ 1 ∷ []) f 0 ≤ get
     each zero = omega arith
     each (suc zero) = omega arith
     each (suc (suc f)) = omega arith
+
+-- the looks of one serving fit into the counter of new tables
+room : (i : Instance) (t : Tables) → IsInstance i → Starts i t → t.looks + (length t.owner.now + 1) * pair_total t.pairs < 2 ^ 64
+room i t valid starts = omega (arith, looks-few i valid, looks-start i t starts)
+
+pub serve-requires-clause-looks : goal.serve-requires-clause-looks
+serve-requires-clause-looks g c =
+    let t = c.in_ok-tables.tables in
+    let e = c.in_ok-tables.ensures in
+    room c.in-Some-2.input t (subst IsInstance c.input.view_is c.input.invariant.instance) (record { sound = e.sound; fits = record { machines = e.machines; holds = e.holds; most = e.most }; slots = e.slots; pairs = e.pairs; looks = e.looks })
+
+pub serve-requires-2-clause-looks : goal.serve-requires-2-clause-looks
+serve-requires-2-clause-looks g c =
+    let t = c.in_ok-again.again in
+    let e = c.in_ok-again.ensures in
+    room c.in-Some-2.input t (subst IsInstance c.input.view_is c.input.invariant.instance) (record { sound = e.sound; fits = record { machines = e.machines; holds = e.holds; most = e.most }; slots = e.slots; pairs = e.pairs; looks = e.looks })
 
 pub serve-requires-clause-limited : goal.serve-requires-clause-limited
 serve-requires-clause-limited g c f l =
