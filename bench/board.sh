@@ -6,25 +6,15 @@
 set -eu
 cd "$(dirname "$0")/.."
 reads=${1:-1000000}
-scratch=$(mktemp -d)
-trap 'rm -rf "$scratch"' EXIT
-mkdir -p "$scratch/crates/board_bench/src"
-git -C "$scratch" init -q
-cp HANDLES "$scratch/"
-for crate in refusal plan_model gear_packets worker_state order_board; do
-    cp -r "crates/$crate" "$scratch/crates/"
-    grep "^$crate[ :]" crates.txt >> "$scratch/crates.txt"
-done
-cp bench/board/main.rt.txt "$scratch/crates/board_bench/src/main.rt"
-proofs=$scratch/crates/board_bench/proofs
+source bench/scratch.sh
+begin board 'order_board worker_state plan_model'
+proofs=$crate/proofs
 for part in posts reads seats; do
     mkdir -p "$proofs/$part"
     cp "bench/board/invariants/$part.antt.txt" "$proofs/$part/Invariants.antt"
 done
 touch "$proofs/Lib.antt"
-echo 'board_bench: order_board worker_state plan_model anyhow' >> "$scratch/crates.txt"
-(cd "$scratch/crates/board_bench" && rt run -- board 1 1 1 > "$scratch/build.log" 2>&1) || { tail -20 "$scratch/build.log"; exit 1; }
-bench="$scratch/crates/board_bench/out/board_bench"
+build board 1 1 1
 printf '%-6s %8s  %s\n' '' threads 'nanoseconds of a read/of a post, in five runs'
 for kind in board mutex; do
     for threads in 1 4 64; do

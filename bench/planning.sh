@@ -5,18 +5,9 @@
 set -eu
 cd "$(dirname "$0")/.."
 program="$PWD/crates/poolman/out/poolman"
-scratch=$(mktemp -d)
-trap 'rm -rf "$scratch"' EXIT
-mkdir -p "$scratch/crates/planning_bench/src"
-git -C "$scratch" init -q
-for crate in refusal plan_model round_arena augment level_search; do
-    cp -r "crates/$crate" "$scratch/crates/"
-    grep "^$crate[ :]" crates.txt >> "$scratch/crates.txt"
-done
-cp bench/planning/main.rt.txt "$scratch/crates/planning_bench/src/main.rt"
-echo 'planning_bench: level_search, plan_model, bumpalo, anyhow' >> "$scratch/crates.txt"
-(cd "$scratch/crates/planning_bench" && rt run -- all > "$scratch/build.log" 2>&1) || { tail -20 "$scratch/build.log"; exit 1; }
-bench="$scratch/crates/planning_bench/out/planning_bench"
+source bench/scratch.sh
+begin planning 'level_search plan_model bumpalo'
+build all
 printf '%-10s %12s %12s %10s %10s %12s %12s\n' input backlog looks seconds 'peak KiB' 'plan seconds' 'plan KiB'
 for kind in all half sparse chains triangle detour steps; do
     figures=$(/usr/bin/time -o "$scratch/time" -f '%U %S %M' "$bench" "$kind")

@@ -4,16 +4,8 @@
 # of one turn of all workers, over its events; the memory is the difference of two peaks, over the events between them.
 set -eu
 cd "$(dirname "$0")/.."
-scratch=$(mktemp -d)
-trap 'rm -rf "$scratch"' EXIT
-mkdir -p "$scratch/crates/pool_bench/src"
-git -C "$scratch" init -q
-for crate in refusal plan_model gear_packets gear_status round_arena augment level_search worker_state pool_settings pool_core; do
-    cp -r "crates/$crate" "$scratch/crates/"
-    grep "^$crate[ :]" crates.txt >> "$scratch/crates.txt"
-done
-cp bench/pool/main.rt.txt "$scratch/crates/pool_bench/src/main.rt"
-echo 'pool_bench: pool_core worker_state gear_packets gear_status pool_settings plan_model level_search bumpalo anyhow' >> "$scratch/crates.txt"
+source bench/scratch.sh
+begin pool 'pool_core worker_state gear_packets gear_status pool_settings plan_model level_search bumpalo'
 
 # 1,024 functions, and so many machines of so many workers that each may do so many of them.
 settings() {
@@ -31,8 +23,7 @@ settings 1 4 8 > "$scratch/four"
 settings 256 16 8 > "$scratch/all"
 settings 256 16 1024 > "$scratch/any"
 
-(cd "$scratch/crates/pool_bench" && rt run -- jobs "$scratch/four" 1 > "$scratch/build.log" 2>&1) || { tail -20 "$scratch/build.log"; exit 1; }
-bench="$scratch/crates/pool_bench/out/pool_bench"
+build jobs "$scratch/four" 1
 run() { /usr/bin/time -o "$scratch/time" -f %M "$bench" "$1" "$scratch/$2" "$3" > "$scratch/figures"; peak=$(cat "$scratch/time"); }
 # The nanoseconds of an event in the first and the last turn, and over all turns; then those of the readers and of the round.
 show() {

@@ -5,19 +5,9 @@
 set -eu
 cd "$(dirname "$0")/.."
 jobs=${1:-200000}
-scratch=$(mktemp -d)
-trap 'rm -rf "$scratch"' EXIT
-mkdir -p "$scratch/crates/sessions_bench/src"
-git -C "$scratch" init -q
-cp HANDLES "$scratch/"
-for crate in refusal plan_model gear_packets gear_status round_arena augment level_search worker_state pool_settings pool_core job_runner; do
-    cp -r "crates/$crate" "$scratch/crates/"
-    grep "^$crate[ :]" crates.txt >> "$scratch/crates.txt"
-done
-cp bench/sessions/main.rt.txt "$scratch/crates/sessions_bench/src/main.rt"
-echo 'sessions_bench: job_runner pool_core pool_settings worker_state gear_status gear_packets plan_model anyhow' >> "$scratch/crates.txt"
-(cd "$scratch/crates/sessions_bench" && rt run -- memory 1 1 > "$scratch/build.log" 2>&1) || { tail -20 "$scratch/build.log"; exit 1; }
-bench="$scratch/crates/sessions_bench/out/sessions_bench"
+source bench/scratch.sh
+begin sessions 'job_runner pool_core pool_settings worker_state gear_status gear_packets plan_model'
+build memory 1 1
 gcc -O2 -o "$scratch/server" bench/sessions/server.c
 # Over memory: jobs and bytes of a body.
 memory() {

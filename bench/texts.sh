@@ -4,13 +4,8 @@
 # that of one reading, the reading of the file itself taken off; the memory is the peak of the run, the file included.
 set -eu
 cd "$(dirname "$0")/.."
-scratch=$(mktemp -d)
-trap 'rm -rf "$scratch"' EXIT
-mkdir -p "$scratch/crates/texts_bench/src"
-cp -r crates/refusal crates/plan_model crates/gear_status crates/pool_settings "$scratch/crates/"
-cp bench/texts/main.rt.txt "$scratch/crates/texts_bench/src/main.rt"
-grep -E '^(refusal|plan_model|gear_status|pool_settings):' crates.txt > "$scratch/crates.txt"
-echo 'texts_bench: gear_status pool_settings anyhow' >> "$scratch/crates.txt"
+source bench/scratch.sh
+begin texts 'gear_status pool_settings'
 
 # 65,536 lines, each of so many bytes, and the period line.
 status() {
@@ -29,8 +24,8 @@ status 256 > "$scratch/status16"
 settings 5 > "$scratch/settings2"
 settings 59 > "$scratch/settings16"
 
-(cd "$scratch/crates/texts_bench" && rt run -- status "$scratch/status1" 1 > "$scratch/build.log" 2>&1) || { tail -20 "$scratch/build.log"; exit 1; }
-run() { /usr/bin/time -f '%e %M' "$scratch/crates/texts_bench/out/texts_bench" "$1" "$scratch/$2" "$3" 2>&1 > /dev/null; }
+build status "$scratch/status1" 1
+run() { /usr/bin/time -f '%e %M' "$bench" "$1" "$scratch/$2" "$3" 2>&1 > /dev/null; }
 printf '%-12s %12s %14s %10s\n' file bytes milliseconds 'peak KiB'
 for file in status1 status16 settings2 settings16; do
     kind=${file%%[0-9]*}

@@ -303,6 +303,15 @@ def nothing_left(server, pool):
     wait_until(lambda: links(server.port) == 0, 5, "no link to the server")
 
 
+def all_done(server, pool, jobs, lost=0):
+    """Waits for the end of a run, holds that it had so many jobs, so many of them lost, and leaves nothing, and ends its server."""
+    ended = pool.end(60)
+    ended.account(jobs, lost)
+    nothing_left(server, pool)
+    server.stop()
+    return ended
+
+
 def settings(port, workers, functions=("reverse", "length", "echo"), least=0, **keys):
     """A settings file of one machine."""
     keys = {"round_ms": 100, "lull_ms": 20, **keys}

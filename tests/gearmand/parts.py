@@ -17,6 +17,7 @@ from farm import (
     Client,
     Gearmand,
     Pool,
+    all_done,
     ask_rightly,
     free_port,
     gearman,
@@ -66,10 +67,7 @@ def mixed(program):
     client = Client(server.port)
     held(client.ask([(b"other", b"x")] * 10) == [FAILED] * 10, "a job that nobody can do does not fail")
     client.close()
-    ended = pool.end(60)
-    ended.account(1040)
-    nothing_left(server, pool)
-    server.stop()
+    ended = all_done(server, pool, 1040)
     return f"1,040 jobs, {ended.rounds} rounds"
 
 
@@ -97,10 +95,7 @@ def shift(program):
     for name in ("reverse", "echo", "reverse", "echo"):
         comes(name)
     client.close()
-    ended = pool.end(60)
-    ended.account(jobs)
-    nothing_left(server, pool)
-    server.stop()
+    all_done(server, pool, jobs)
     return f"{jobs} jobs, 4 shifts, all 4 workers each time"
 
 
@@ -114,12 +109,9 @@ def max_runs(program):
     generations = [int(word.split("#")[1]) for word in names.split() if word.startswith("a/") and "#" in word]
     threads, descriptors = pool.threads(), pool.descriptors()
     held(threads <= 6 and descriptors <= 12, f"{threads} threads and {descriptors} descriptors for four workers")
-    ended = pool.end(60)
-    ended.account(100)
+    all_done(server, pool, 100)
     # 34 workers at least, in four slots.
     held(max(generations) >= 9, f"generations {generations}")
-    nothing_left(server, pool)
-    server.stop()
     return f"100 jobs, generation {max(generations)} seen, {threads} threads, {descriptors} descriptors"
 
 
@@ -191,12 +183,9 @@ def cut(program):
     cutter.deeds = ["answer", "answer"]
     held(client.ask([(b"reverse", data)]) == [data[::-1]], "the answer after two cut answers")
     client.close()
-    ended = pool.end(60)
+    all_done(server, pool, 4, lost=2)
     cutter.listener.close()
     held(cutter.done == ["assignment", "answer", "answer"], f"cuts {cutter.done}")
-    ended.account(4, lost=2)
-    nothing_left(server, pool)
-    server.stop()
     return "3 cuts, 2 jobs, 4 grabs, 2 lost with their workers"
 
 
@@ -270,10 +259,7 @@ def broken_name(program):
     server.start()
     wait_until(lambda: " round " in pool.seen()[-1], 20, "planning goes on with a new server")
     ask_rightly(server.port, mixed_jobs(30, 12))
-    ended = pool.end(60)
-    ended.account(120)
-    nothing_left(server, pool)
-    server.stop()
+    ended = all_done(server, pool, 120)
     kinds = ended.kinds()
     return f"{kinds['status 3 LineTooLong']} `LineTooLong`, {kinds['status 1 BadLine']} `BadLine`, 120 jobs answered meanwhile"
 
@@ -291,10 +277,7 @@ def large(program):
     held(client.ask([(b"echo", b"small")]) == [b"small"], "the pool goes on")
     client.close()
     peak = pool.memory("VmHWM")
-    ended = pool.end(60)
-    ended.account(2)
-    nothing_left(server, pool)
-    server.stop()
+    all_done(server, pool, 2)
     return f"16,777,216 bytes answered, 16,777,217 failed after 2 workers, peak {peak // 1024} MiB"
 
 
@@ -318,10 +301,7 @@ def clients(program):
     at_once([lambda at=at: ask_some(range(at, 1000, 10)) for at in range(10)])
     for it in crowd:
         it.close()
-    ended = pool.end(60)
-    ended.account(2000)
-    nothing_left(server, pool)
-    server.stop()
+    all_done(server, pool, 2000)
     return "2,000 jobs of 1,000 links"
 
 
@@ -332,11 +312,8 @@ def chapters(program):
     ask_rightly(server.port, mixed_jobs(600, 13))
     threads, descriptors = pool.threads(), pool.descriptors()
     held(threads <= 6 and descriptors <= 12, f"{threads} threads and {descriptors} descriptors for four workers")
-    ended = pool.end(60)
-    ended.account(600)
+    ended = all_done(server, pool, 600)
     held(ended.chapters >= 6 and ended.events <= 100, f"chapters {ended.chapters} events {ended.events}")
-    nothing_left(server, pool)
-    server.stop()
     return f"600 jobs, {ended.chapters} chapters, {ended.events} events in the last"
 
 
@@ -348,10 +325,7 @@ def many(program):
     at_once([lambda n=n: ask_rightly(server.port, mixed_jobs(1250, 20 + n)) for n in range(4)])
     threads, descriptors, memory = pool.threads(), pool.descriptors(), pool.memory()
     held(threads == 257 and 256 <= descriptors <= 262, f"{threads} threads, {descriptors} descriptors")
-    ended = pool.end(60)
-    ended.account(5000)
-    nothing_left(server, pool)
-    server.stop()
+    all_done(server, pool, 5000)
     return f"5,000 jobs, {threads} threads, {descriptors} descriptors, {memory} KiB"
 
 
@@ -383,10 +357,7 @@ def terminated(program):
     left = sum(row[1] for row in server.status())
     pool = Pool(program, settings(server.port, 4, least=1), 100)
     client.close()
-    ended = pool.end(60)
-    ended.account(left)
-    nothing_left(server, pool)
-    server.stop()
+    all_done(server, pool, left)
     return f"{left} of 20,000 jobs were left, and the next run did them"
 
 
@@ -419,10 +390,7 @@ def half_open(program):
         else:
             time.sleep(4)
             held(sum(row[3] for row in server.status()) == 0 and " round " in pool.seen()[-1], "a worker noticed it without keepalive")
-        ended = pool.end(60)
-        ended.account(30 if environment else 0)
-        nothing_left(server, pool)
-        server.stop()
+        all_done(server, pool, 30 if environment else 0)
     return "without keepalive no worker came back, with it all four"
 
 
