@@ -7,6 +7,7 @@ median, with the least and the greatest. All traffic is on the loopback, and onl
 import os
 import re
 import statistics
+import struct
 import subprocess
 import sys
 import tempfile
@@ -36,11 +37,15 @@ class Poolman:
     def __init__(self, program, port, count, rounds=600, **keys):
         self.pool = Pool(program, settings(port, count, ("echo",), round_ms=500, lull_ms=100, **keys), rounds)
 
+    @property
+    def process(self):
+        return self.pool.process
+
     def memory(self):
         return self.pool.memory()
 
     def processor(self):
-        return processor(self.pool.process.pid)
+        return processor(self.process.pid)
 
     def end(self):
         self.pool.drop()
@@ -66,14 +71,14 @@ class InC:
 
 def build(folder):
     """Compiles the C programs."""
-    for name, words in (("worker", ["-lgearman", "-lpthread"]), ("client", []), ("allocations.so", ["-shared", "-fPIC"])):
+    for name, words in (("worker", ["-lgearman", "-lpthread"]), ("client", []), ("allocations.so", ["-shared", "-fPIC"]), ("times.so", ["-shared", "-fPIC"])):
         source = f"{HERE}/{name.removesuffix('.so')}.c"
         subprocess.run(["gcc", "-O2", "-Wall", "-o", f"{folder}/{name}", source, *words], check=True)
 
 
-def ask(folder, port, jobs, ahead):
-    """Jobs a second, and the median time of one."""
-    words = [f"{folder}/client", str(port), str(jobs), str(ahead)]
+def ask(folder, port, jobs, ahead, *before):
+    """Jobs a second, and the median time of one, of a client that is started with these words before it."""
+    words = [*before, f"{folder}/client", str(port), str(jobs), str(ahead)]
     said = subprocess.run(words, capture_output=True, text=True, timeout=120, check=True).stdout.split()
     return float(said[0]), float(said[1])
 
@@ -152,6 +157,48 @@ def allocations(folder, program, jobs):
         return int(it.read())
 
 
+def pin(process, cores):
+    """Keeps a process on these cores."""
+    subprocess.run(["taskset", "-a", "-p", "-c", cores, str(process)], check=True, stdout=subprocess.DEVNULL)
+
+
+def time_of_a_job(folder, make):
+    """Jobs a second of one worker that has a core of its own, as the client has, beside a server on two; and the microseconds of a job
+    in the sending of its answer and of the request for the next, in waiting for that, and in the worker's own code."""
+    server = Gearmand()
+    os.environ.update(LD_PRELOAD=f"{folder}/times.so", TIMES=f"{folder}/times")
+    workers = make(server.port, 1)
+    del os.environ["LD_PRELOAD"], os.environ["TIMES"]
+    wait_until(lambda: server.workers("echo") == 1, 30, "the worker is there")
+    pin(server.process.pid, "0,1")
+    pin(workers.process.pid, "2")
+    ask(folder, server.port, 2000, 100)
+    before = sums_of(folder)
+    rate = ask(folder, server.port, JOBS[1], 1000, "taskset", "-c", "3")[0]
+    sums = [(after - start) / JOBS[1] / 1000 for start, after in zip(before, sums_of(folder))]
+    workers.end()
+    server.stop()
+    os.unlink(f"{folder}/times")
+    answer, request, read, poll = sums[0::2]
+    return rate, answer, request, read + poll, sum(sums[1::2])
+
+
+def sums_of(folder):
+    """For answers, requests, reads and polls the nanoseconds within them and before them."""
+    with open(f"{folder}/times", "rb") as it:
+        return struct.unpack("<8Q", it.read(64))
+
+
+def show_times(folder, makers, turns):
+    """The table of what a job's time is spent on."""
+    times = {}
+    for _ in range(turns):
+        for name, make in makers.items():
+            times.setdefault(name, []).append(time_of_a_job(folder, make))
+    rows = [[name, *(shown([it[at] for it in times[name]], form) for at, form in enumerate(["{:,.0f}", *["{:.1f}"] * 4]))] for name in makers]
+    table(["1 worker, each side on its own cores", "jobs/s", "answer sent: µs", "next job asked: µs", "waiting: µs", "own code: µs"], rows)
+
+
 def table(head, rows):
     print("| " + " | ".join(head) + " |", "|" + "---|" * len(head), sep="\n")
     for row in rows:
@@ -211,6 +258,7 @@ def main(program, turns):
             "C on libgearman": lambda port, count: InC(f"{folder}/worker", port, count),
         }
         loads = show_speed(folder, makers, turns)
+        show_times(folder, makers, turns)
         show_memory(makers, turns)
         show_system_calls(folder, program)
         few, more = allocations(folder, program, 1000), allocations(folder, program, 11000)
