@@ -11,7 +11,7 @@ trap 'rm -rf "$scratch"' EXIT
 mkdir -p "$scratch/crates/board_bench/src"
 git -C "$scratch" init -q
 cp HANDLES "$scratch/"
-for crate in refusal plan_model gear_packets worker_state order_board; do
+for crate in refusal text_pieces plan_model gear_packets worker_state order_board; do
     cp -r "crates/$crate" "$scratch/crates/"
     grep "^$crate[ :]" crates.txt >> "$scratch/crates.txt"
 done

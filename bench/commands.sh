@@ -7,7 +7,7 @@ cd "$(dirname "$0")/.."
 scratch=$(mktemp -d)
 trap 'rm -rf "$scratch"' EXIT
 mkdir -p "$scratch/crates/commands_bench/src"
-for crate in refusal plan_model gear_packets gear_status worker_state pool_settings pool_commands; do
+for crate in refusal text_pieces plan_model gear_packets gear_status worker_state pool_settings pool_commands; do
     cp -r "crates/$crate" "$scratch/crates/"
     grep "^$crate[ :]" crates.txt >> "$scratch/crates.txt"
 done

@@ -8,9 +8,9 @@ piece=${1:-4096}
 scratch=$(mktemp -d)
 trap 'rm -rf "$scratch"' EXIT
 mkdir -p "$scratch/crates/packets_bench/src"
-cp -r crates/gear_packets "$scratch/crates/"
+cp -r crates/text_pieces crates/gear_packets "$scratch/crates/"
 cp bench/packets/main.rt.txt "$scratch/crates/packets_bench/src/main.rt"
-grep '^gear_packets:' crates.txt > "$scratch/crates.txt"
+grep -E '^(text_pieces|gear_packets):' crates.txt > "$scratch/crates.txt"
 echo 'packets_bench: gear_packets anyhow' >> "$scratch/crates.txt"
 (cd "$scratch/crates/packets_bench" && rt run -- 16 16 1 > "$scratch/build.log" 2>&1) || { tail -20 "$scratch/build.log"; exit 1; }
 printf '%12s %8s %14s %10s\n' 'body bytes' piece 'milliseconds' 'peak KiB'

@@ -8,7 +8,7 @@ scratch=$(mktemp -d)
 trap 'rm -rf "$scratch"' EXIT
 mkdir -p "$scratch/crates/pool_bench/src"
 git -C "$scratch" init -q
-for crate in refusal plan_model gear_packets gear_status round_arena augment level_search worker_state pool_settings pool_core; do
+for crate in refusal text_pieces plan_model gear_packets gear_status round_arena augment level_search worker_state pool_settings pool_core; do
     cp -r "crates/$crate" "$scratch/crates/"
     grep "^$crate[ :]" crates.txt >> "$scratch/crates.txt"
 done

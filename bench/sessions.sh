@@ -10,7 +10,7 @@ trap 'rm -rf "$scratch"' EXIT
 mkdir -p "$scratch/crates/sessions_bench/src"
 git -C "$scratch" init -q
 cp HANDLES "$scratch/"
-for crate in refusal plan_model gear_packets gear_status round_arena augment level_search worker_state pool_settings pool_core job_runner; do
+for crate in refusal text_pieces plan_model gear_packets gear_status round_arena augment level_search worker_state pool_settings pool_core job_runner; do
     cp -r "crates/$crate" "$scratch/crates/"
     grep "^$crate[ :]" crates.txt >> "$scratch/crates.txt"
 done

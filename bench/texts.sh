@@ -7,9 +7,9 @@ cd "$(dirname "$0")/.."
 scratch=$(mktemp -d)
 trap 'rm -rf "$scratch"' EXIT
 mkdir -p "$scratch/crates/texts_bench/src"
-cp -r crates/refusal crates/plan_model crates/gear_status crates/pool_settings "$scratch/crates/"
+cp -r crates/refusal crates/text_pieces crates/plan_model crates/gear_status crates/pool_settings "$scratch/crates/"
 cp bench/texts/main.rt.txt "$scratch/crates/texts_bench/src/main.rt"
-grep -E '^(refusal|plan_model|gear_status|pool_settings):' crates.txt > "$scratch/crates.txt"
+grep -E '^(refusal|text_pieces|plan_model|gear_status|pool_settings):' crates.txt > "$scratch/crates.txt"
 echo 'texts_bench: gear_status pool_settings anyhow' >> "$scratch/crates.txt"
 
 # 65,536 lines, each of so many bytes, and the period line.
