@@ -1,19 +1,13 @@
 -- A request is read again as it was spelled, and what is read was spelled so.
-use Rattle.std.proofs.Common.{◌≡◌, ℕ, ◌+◌, ◌%◌, ◌^◌, ◌<◌, Bool, true, false, ◌&&◌, ◌||◌, not, cond, ltb, eqb, List, [], ◌∷◌, ◌++◌, length, Option, Some, None, refl, sym, ap, subst, ◌∙◌, arith, inl, inr}
-use Rattle.std.specs.Prelude.{decimal, nat_eq}
+use Rattle.std.proofs.Common.{◌≡◌, ℕ, ◌^◌, ◌<◌, Bool, true, false, ◌&&◌, not, cond, ltb, eqb, List, [], ◌∷◌, ◌++◌, length, Option, Some, None, refl, sym, ap, subst, ◌∙◌, arith, inl, inr}
+use Rattle.std.specs.Prelude.{decimal}
 use Rattle.std.specs.Option.{option_map, option_and_then}
-use Rattle.std.specs.Str.Parse.{digits_value}
-use Rattle.std.specs.Cmp.Lexicographic.{pointwise, same_text}
-use Rattle.std.proofs.lemmas.Bool.{ltb-true, lt-ltb, eqb-true, eq-eqb}
-use Rattle.std.proofs.lemmas.Fmt.{decimal_is_IsNumeral, decimal_by_steps}
-use Rattle.std.proofs.lemmas.Bool.Decides.{eqb_tells}
+use Rattle.std.proofs.lemmas.Bool.{ltb-true, lt-ltb, eqb-true}
 use Rattle.gear_packets.specs.Frame.{request_magic, packet, Front, wrong_magic, too_large, unfinished, framed, front}
 use Rattle.gear_packets.specs.Request.{Packet, can_do, cant_do, pre_sleep, grab_job, set_client_id, work_status, work_complete, work_fail, work_data, work_warning, kind_of, body_of, spelling, has_nul, IsHandle, IsProper, IsSent, cut, is_handle, number_of, named, without_body, with_handle, handle_and, with_bytes, status_of, with_numbers, request_of, request_in, first_request}
+use Rattle.text_pieces.proofs.Cutting.{first_of_parts, parts_of_first}
+use Rattle.text_pieces.proofs.Digits.{none_in_decimal, plain_decimal, plain_spelled}
 use Rattle.gear_packets.proofs.Frames.{IsBytes, not_first, not_second, chosen, front_packet, front_spelled, whole_stays, whole_shrinks}
-
-pub or_parts : (a b : Bool) → (a || b) ≡ false → (a ≡ false) × (b ≡ false)
-or_parts true b h = absurd cc
-or_parts false b h = (refl, h)
 
 pub and_parts : (a b : Bool) → (a && b) ≡ true → (a ≡ true) × (b ≡ true)
 and_parts true b h = (refl, h)
@@ -39,25 +33,6 @@ chained f (Some x) y h = (x, refl, h)
 
 -- ---- arguments
 
-pub cut_found : (front rest : List ℕ) → has_nul front ≡ false → cut (front ++ 0 ∷ rest) ≡ Some (front, rest)
-cut_found [] rest h = refl
-cut_found (b ∷ front) rest h =
-    let parts = or_parts (eqb b 0) (has_nul front) h in
-    rw (parts.0, cut_found front rest parts.1) refl
-
-pub cut_is : (bytes : List ℕ) (p : List ℕ × List ℕ) → cut bytes ≡ Some p → (bytes ≡ p.0 ++ 0 ∷ p.1) × (has_nul p.0 ≡ false)
-cut_is [] p h = absurd cc
-cut_is (b ∷ bytes) p h =
-    elim (chosen (eqb b 0) _ _ (Some p) h) [
-      | inl here ↦
-          let made : List ℕ × List ℕ = ([], bytes) in
-          subst (λ (q : List ℕ × List ℕ). (b ∷ bytes ≡ q.0 ++ 0 ∷ q.1) × (has_nul q.0 ≡ false)) (some_is made p here.1) (ap (λ (x : ℕ). x ∷ bytes) (eqb-true b 0 here.0), refl)
-      | inr later ↦
-          let m = mapped (λ (q : List ℕ × List ℕ). let r : List ℕ × List ℕ = (b ∷ q.0, q.1) in r) (cut bytes) p later.1 in
-          let rest = cut_is bytes m.0 m.1 in
-          subst (λ (q : List ℕ × List ℕ). (b ∷ bytes ≡ q.0 ++ 0 ∷ q.1) × (has_nul q.0 ≡ false)) m.2 (ap (λ (x : List ℕ). b ∷ x) rest.0, rw later.0 rest.1)
-    ]
-
 pub handle_tested : (bytes : List ℕ) → is_handle bytes ≡ true → IsHandle bytes
 handle_tested bytes h =
     let a = and_parts (ltb 0 (length bytes) && ltb (length bytes) 64) (not (has_nul bytes)) h in
@@ -67,42 +42,22 @@ handle_tested bytes h =
 pub test_handle : (bytes : List ℕ) → IsHandle bytes → is_handle bytes ≡ true
 test_handle bytes h = rw (lt-ltb _ _ h.nonempty, lt-ltb _ _ h.short, h.no_nul) refl
 
-text_self : (text : List ℕ) → pointwise nat_eq text text ≡ true
-text_self [] = refl
-text_self (b ∷ text) = rw (eq-eqb b b refl) (text_self text)
-
-pub number_found : (n : ℕ) → n < 2 ^ 32 → number_of (decimal n) ≡ Some n
+number_found : (n : ℕ) → n < 2 ^ 32 → number_of (decimal n) ≡ Some n
 unfolding number_of
-number_found n low =
-    let value = (decimal_is_IsNumeral n (omega arith)).1 in
-    rw (value, lt-ltb _ _ low, text_self (decimal n)) refl
+number_found n low = plain_decimal (2 ^ 32) n low (omega arith)
 
-pub number_is : (text : List ℕ) (n : ℕ) → number_of text ≡ Some n → (text ≡ decimal n) × (n < 2 ^ 32)
+number_is : (text : List ℕ) (n : ℕ) → number_of text ≡ Some n → (text ≡ decimal n) × (n < 2 ^ 32)
 unfolding number_of
-number_is text n h =
-    let a = not_second (ltb (digits_value 10 text) (2 ^ 32) && pointwise nat_eq (decimal (digits_value 10 text)) text) (Some (digits_value 10 text)) None (Some n) h (λ e. cc) in
-    let b = and_parts (ltb (digits_value 10 text) (2 ^ 32)) (pointwise nat_eq (decimal (digits_value 10 text)) text) a.0 in
-    let n-is = some_is (digits_value 10 text) n a.1 in
-    subst (λ (m : ℕ). (text ≡ decimal m) × (m < 2 ^ 32)) n-is (sym (same_text _ _ (sym b.1)), ltb-true _ _ b.0)
+number_is text n h = plain_spelled (2 ^ 32) text n (omega arith) h
 
 handle_and_found : (handle rest : List ℕ) → IsHandle handle → handle_and (handle ++ 0 ∷ rest) ≡ Some (handle, rest)
-handle_and_found handle rest h = rw (cut_found handle rest h.no_nul, test_handle handle h) refl
+handle_and_found handle rest h = rw (first_of_parts 0 handle rest h.no_nul, test_handle handle h) refl
 
 handle_and_is : (body : List ℕ) (p : List ℕ × List ℕ) → handle_and body ≡ Some p → (body ≡ p.0 ++ 0 ∷ p.1) × IsHandle p.0
 handle_and_is body p h =
     let m = chained (λ (q : List ℕ × List ℕ). cond (is_handle q.0) (Some q) None) (cut body) p h in
     let t = not_second (is_handle m.0.0) (Some m.0) None (Some p) m.2 (λ e. cc) in
-    subst (λ (q : List ℕ × List ℕ). (body ≡ q.0 ++ 0 ∷ q.1) × IsHandle q.0) (some_is m.0 p t.1) ((cut_is body m.0 m.1).0, handle_tested m.0.0 t.0)
-
-no_nul_digit : (n : ℕ) → has_nul ((48 + n) ∷ []) ≡ false
-no_nul_digit n = elim (eqb_tells (48 + n) 0) [ inl same ↦ absurd (let e = same.1 in omega arith) | inr differs ↦ rw differs.0 refl ]
-
-pub no_nul_push : (bytes : List ℕ) (b : ℕ) → has_nul bytes ≡ false → has_nul (b ∷ []) ≡ false → has_nul (bytes ++ b ∷ []) ≡ false
-no_nul_push [] b h g = g
-no_nul_push (c ∷ bytes) b h g = let parts = or_parts (eqb c 0) (has_nul bytes) h in rw (parts.0, no_nul_push bytes b parts.1 g) refl
-
-decimal_no_nul : (n : ℕ) → n < 2 ^ 32 → has_nul (decimal n) ≡ false
-decimal_no_nul n low = decimal_by_steps (λ n ds. has_nul ds ≡ false) (λ n small. no_nul_digit n) (λ n ds more h. no_nul_push ds (48 + n % 10) h (no_nul_digit (n % 10))) n (omega arith)
+    subst (λ (q : List ℕ × List ℕ). (body ≡ q.0 ++ 0 ∷ q.1) × IsHandle q.0) (some_is m.0 p t.1) ((parts_of_first 0 body m.0 m.1).0, handle_tested m.0.0 t.0)
 
 -- ---- packets
 
@@ -114,7 +69,7 @@ request_found pre_sleep h = refl
 request_found grab_job h = refl
 request_found (set_client_id text) h = rw h refl
 request_found (work_status handle part all) h =
-    rw (handle_and_found handle (decimal part ++ 0 ∷ decimal all) h.0, cut_found (decimal part) (decimal all) (decimal_no_nul part h.1), number_found part h.1, number_found all h.2) refl
+    rw (handle_and_found handle (decimal part ++ 0 ∷ decimal all) h.0, first_of_parts 0 (decimal part) (decimal all) (none_in_decimal 0 part (omega (arith, h.1)) refl), number_found part h.1, number_found all h.2) refl
 request_found (work_complete handle bytes) h = rw (handle_and_found handle bytes h) refl
 request_found (work_fail handle) h = rw (test_handle handle h) refl
 request_found (work_data handle bytes) h = rw (handle_and_found handle bytes h) refl
@@ -150,7 +105,7 @@ with_numbers_is kind body p k h =
     let a = chained (λ (q : List ℕ × List ℕ). option_and_then (status_of q.0) (cut q.1)) (handle_and body) p h in
     let i = handle_and_is body a.0 a.1 in
     let b = chained (status_of a.0.0) (cut a.0.1) p a.2 in
-    let j = cut_is a.0.1 b.0 b.1 in
+    let j = parts_of_first 0 a.0.1 b.0 b.1 in
     let c = chained (λ (part : ℕ). option_map (λ all. work_status a.0.0 part all) (number_of b.0.1)) (number_of b.0.0) p b.2 in
     let d = mapped (λ (all : ℕ). work_status a.0.0 c.0 all) (number_of b.0.1) p c.2 in
     let part = number_is b.0.0 c.0 c.1 in

@@ -1,9 +1,9 @@
 -- What a worker sends, and how each packet is spelled.
-use Rattle.std.specs.Prelude.{◌≡◌, ℕ, ◌<◌, ◌≤◌, ◌^◌, Bool, false, ◌&&◌, ◌==◌, not, nat_eq, nat_lt, if◌then◌else◌, List, [], ◌∷◌, ◌++◌, length, Option, Some, None, decimal}
+use Rattle.std.specs.Prelude.{◌≡◌, ℕ, ◌<◌, ◌≤◌, ◌^◌, Bool, false, ◌&&◌, ◌==◌, not, nat_lt, if◌then◌else◌, List, [], ◌∷◌, ◌++◌, length, Option, Some, None, decimal}
 use Rattle.std.specs.Option.{option_map, option_and_then}
 use Rattle.std.specs.List.{list_any}
-use Rattle.std.specs.Str.Parse.{digits_value}
-use Rattle.std.specs.Cmp.Lexicographic.{pointwise}
+use Rattle.text_pieces.specs.Cuts.{cut_first}
+use Rattle.text_pieces.specs.Numbers.{plain_number_below}
 use Rattle.gear_packets.specs.Frame.{request_magic, body_limit, packet, Front, wrong_magic, too_large, unfinished, framed, front}
 
 -- a packet of a worker, with its arguments as lists of bytes
@@ -92,17 +92,14 @@ pub record IsSent (p : Packet) : Type 0 where
 
 -- up to the first NUL, and behind it
 abbrev pub cut : List ℕ → Option (List ℕ × List ℕ)
-cut [] = None
-cut (b ∷ bytes) = if b == 0 then Some ([], bytes) else option_map (λ p. (b ∷ p.0, p.1)) (cut bytes)
+cut bytes = cut_first 0 bytes
 
 abbrev pub is_handle : List ℕ → Bool
 is_handle bytes = nat_lt 0 (length bytes) && nat_lt (length bytes) 64 && not (has_nul bytes)
 
 -- a number below 2 ^ 32, spelled as it is written
 unfoldable pub number_of : List ℕ → Option ℕ
-number_of text =
-    if nat_lt (digits_value 10 text) (2 ^ 32) && pointwise nat_eq (decimal (digits_value 10 text)) text
-    then Some (digits_value 10 text) else None
+number_of text = plain_number_below (2 ^ 32) text
 
 abbrev pub named : (List ℕ → Packet) → List ℕ → Option Packet
 named make body = if has_nul body then None else Some (make body)

@@ -1,9 +1,10 @@
 -- The text that answers `status`: what a line means, and what the whole text means.
 use Rattle.std.specs.Prelude.{ℕ, ◌+◌, ◌-◌, ◌^◌, List, [], ◌∷◌, Bool, ◌&&◌, nat_lt, ◌==◌, length, slice_index, take, Option, Some, None, Result, Ok, Err, if◌then◌else◌}
 use Rattle.std.specs.List.{slice_split}
-use Rattle.std.specs.Option.{option_map_or}
-use Rattle.std.specs.Str.{all_ascii_digits, bytes_eq}
-use Rattle.std.specs.Str.Parse.{digits_value}
+use Rattle.std.specs.Option.{option_and_then, option_map, option_map_or}
+use Rattle.std.specs.Str.{bytes_eq}
+use Rattle.text_pieces.specs.Cuts.{cut_last}
+use Rattle.text_pieces.specs.Numbers.{number_below}
 use Rattle.gear_status.specs.declared.load.Counts.{Counts}
 use Rattle.gear_status.specs.declared.error.StatusError.{StatusError}
 use Rattle.gear_status.specs.declared.error.StatusError.TheVariants as fault
@@ -30,20 +31,9 @@ waiting lines name = option_map_or (λ c. c.total - c.running) (counts_of lines 
 
 -- ---- one line
 
-abbrev pub put_front : ℕ → List ℕ × List ℕ → List ℕ × List ℕ
-put_front b parts = (b ∷ parts.0, parts.1)
-
--- a text cut at its last tab, which neither part has
-abbrev pub cut_last_tab : List ℕ → Option (List ℕ × List ℕ)
-cut_last_tab [] = None
-cut_last_tab (b ∷ bs) =
-    option_map_or (λ parts. Some (put_front b parts)) (cut_last_tab bs)
-    (if b == 9 then Some ([], bs) else None)
-
--- one or more decimal digits, with a value below 2 ^ 32
-abbrev pub is_number : List ℕ → Bool
-is_number digits =
-    (nat_lt 0 (length digits) && all_ascii_digits digits) && nat_lt (digits_value 10 digits) (2 ^ 32)
+-- the number below 2 ^ 32 that one or more decimal digits write
+abbrev pub number_in : List ℕ → Option ℕ
+number_in digits = number_below (2 ^ 32) digits
 
 -- the four fields of a line, from the left
 pub record Fields : Type 0 where
@@ -52,21 +42,18 @@ pub record Fields : Type 0 where
   pub running : List ℕ
   pub workers : List ℕ
 
+-- cut at the last three tabs
 abbrev pub fields_of : List ℕ → Option Fields
 fields_of line =
     option_map_or (λ last. option_map_or (λ middle. option_map_or (λ first.
     Some (record { name = first.0; total = first.1; running = middle.1; workers = last.1 }))
-    (cut_last_tab middle.0) None) (cut_last_tab last.0) None) (cut_last_tab line) None
+    (cut_last 9 middle.0) None) (cut_last 9 last.0) None) (cut_last 9 line) None
 
 abbrev pub counts_in : Fields → Option Counts
 counts_in f =
-    if is_number f.total && (is_number f.running && is_number f.workers)
-    then Some (record {
-      total = digits_value 10 f.total;
-      running = digits_value 10 f.running;
-      workers = digits_value 10 f.workers;
-    })
-    else None
+    option_and_then (λ total. option_and_then (λ running. option_map (λ workers.
+    record { total = total; running = running; workers = workers })
+    (number_in f.workers)) (number_in f.running)) (number_in f.total)
 
 -- what line n says, or its fault
 abbrev pub line_of_fields : ℕ → Fields → Result Line StatusError

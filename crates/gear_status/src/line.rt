@@ -1,12 +1,12 @@
 // One line of a status text.
 
-ghost use Rattle.std.specs.Prelude.{◌≡◌, option_map, Some, None, Ok, Err, IfOk, IfErr, true, if◌then◌else◌};
+ghost use Rattle.std.specs.Prelude.{◌≡◌, option_map, Ok, Err, IfOk, IfErr, true};
 ghost use Rattle.gear_status.specs.Stream.{is_verdict};
 ghost use Rattle.gear_status.specs.Cut.{fields_view};
-ghost use Rattle.std.specs.Str.Parse.{digits_value};
 ghost use Rattle.gear_status.specs.Status as spec;
 
 use crate::{Counts, StatusError};
+use text_pieces::{cut_last, number_u32};
 
 /// The four fields of a line.
 #[derive(Clone, Copy)]
@@ -17,39 +17,12 @@ struct Fields<'l> {
     workers: &'l [u8],
 }
 
-/// The text before and behind the last tab.
-fn cut_last_tab(text: &[u8]) -> Option<(&[u8], &[u8])>
-    ensures { option_map (λ p. (p.0.now, p.1.now)) result ≡ spec.cut_last_tab text.now }
-{
-    let mut end = text.len();
-    while end > 0 {
-        end -= 1;
-        if text[end] == b'\t' {
-            return Some((&text[..end], &text[end + 1..]));
-        }
-    }
-    None
-}
-
-/// The number below 2^32 that decimal digits write.
-fn number(digits: &[u8]) -> Option<u32>
-    ensures { result ≡ (if spec.is_number digits.now then Some (digits_value 10 digits.now) else None) }
-{
-    if digits.is_empty() || digits[0] == b'+' {
-        return None;
-    }
-    match std::str::from_utf8(digits) {
-        Ok(text) => text.parse::<u32>().ok(),
-        Err(_) => None,
-    }
-}
-
 fn split_line(line: &[u8]) -> Option<Fields<'_>>
     ensures { option_map fields_view result ≡ spec.fields_of line.now }
 {
-    let (line, workers) = cut_last_tab(line)?;
-    let (line, running) = cut_last_tab(line)?;
-    let (name, total) = cut_last_tab(line)?;
+    let (line, workers) = cut_last(b'\t', line)?;
+    let (line, running) = cut_last(b'\t', line)?;
+    let (name, total) = cut_last(b'\t', line)?;
     Some(Fields {
         name,
         total,
@@ -62,9 +35,9 @@ fn read_counts(fields: &Fields<'_>) -> Option<Counts>
     ensures { result ≡ spec.counts_in (fields_view fields.now) }
 {
     Some(Counts {
-        total: number(fields.total)?,
-        running: number(fields.running)?,
-        workers: number(fields.workers)?,
+        total: number_u32(fields.total)?,
+        running: number_u32(fields.running)?,
+        workers: number_u32(fields.workers)?,
     })
 }
 

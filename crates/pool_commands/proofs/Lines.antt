@@ -1,48 +1,22 @@
 -- A line cut at its spaces.
-use Rattle.std.proofs.Common.{◌≡◌, ◌+◌, ◌-◌, ◌<◌, ◌≤◌, ◌∙◌, ℕ, zero, suc, List, [], ◌∷◌, ◌++◌, Bool, true, false, not, Option, None, Some, option_map, cond, map, ltb, length, take, drop, refl, ap, sym, subst, arith}
-use Rattle.std.specs.List.{position_or_len}
-use Rattle.std.proofs.lemmas.Bool.{ltb-false, ltb-true}
+use Rattle.std.proofs.Common.{◌≡◌, ◌+◌, ◌-◌, ◌<◌, ◌≤◌, ◌∙◌, ℕ, zero, suc, List, [], ◌∷◌, ◌++◌, true, Option, None, Some, map, ltb, length, take, refl, ap, sym, arith}
+use Rattle.std.specs.Option.{option_map_or}
 use Rattle.std.proofs.lemmas.Bool.Decides.{nat_tests}
-use Rattle.std.proofs.lemmas.List.Splits.{slice_split_first}
+use Rattle.text_pieces.specs.Cuts.{cut_first}
+use Rattle.text_pieces.proofs.Cutting.{split_by_first}
 use Rattle.gear_status.specs.Status.{Line, put}
 use Rattle.pool_commands.specs.Grammar.{load_from}
-use Rattle.pool_commands.specs.Words.{count_in, cut_at, is_space, words_in, words_of}
-
--- where there is no space, a line is one word
-pub one_word : (line : List ℕ) → length line ≤ position_or_len is_space line → words_of line ≡ line ∷ []
-one_word [] none = refl
-one_word (b ∷ bs) none = by (is_space b) refl none (one_word bs)
-  where
-    by : (s : Bool) → is_space b ≡ s → suc (length bs) ≤ position_or_len is_space (b ∷ bs)
-        → (length bs ≤ position_or_len is_space bs → words_of bs ≡ bs ∷ []) → words_of (b ∷ bs) ≡ (b ∷ bs) ∷ []
-    by true p none whole = absurd (omega (arith, subst (λ s. suc (length bs) ≤ cond (not s) (1 + position_or_len is_space bs) 0) p none))
-    by false p none whole =
-        let fewer : length bs ≤ position_or_len is_space bs = omega (arith, subst (λ s. suc (length bs) ≤ cond (not s) (1 + position_or_len is_space bs) 0) p none) in
-        rw (p, whole fewer) refl
-
-abbrev parts_at : List ℕ → ℕ → List ℕ × List ℕ
-parts_at line n = (take n line, drop (n + 1) line)
-
-abbrev parts_if : List ℕ → Bool → Option (List ℕ × List ℕ)
-parts_if line here = option_map (parts_at line) (cond here (Some (position_or_len is_space line)) None)
+use Rattle.pool_commands.specs.Words.{count_in, words_in, words_of}
 
 -- the words of a line by its parts
 abbrev words_by : List ℕ → Option (List ℕ × List ℕ) → List (List ℕ)
-words_by line None = line ∷ []
-words_by line (Some parts) = parts.0 ∷ words_of parts.1
+words_by line cut = option_map_or (λ parts. parts.0 ∷ words_of parts.1) cut (line ∷ [])
 
-pub words_cut : (line : List ℕ) → words_of line ≡ words_by line (cut_at 32 line)
-words_cut line = by (ltb (position_or_len is_space line) (length line)) refl
-  where
-    by : (here : Bool) → ltb (position_or_len is_space line) (length line) ≡ here → words_of line ≡ words_by line (parts_if line here)
-    by true p = slice_split_first is_space line 0 (ltb-true _ _ p)
-    by false p = one_word line (ltb-false _ _ p)
+pub words_some : (line word rest : List ℕ) → Some (word, rest) ≡ cut_first 32 line → words_of line ≡ word ∷ words_of rest
+words_some line word rest cut = split_by_first 32 line ∙ ap (words_by line) (sym cut)
 
-pub words_some : (line word rest : List ℕ) → Some (word, rest) ≡ cut_at 32 line → words_of line ≡ word ∷ words_of rest
-words_some line word rest cut = words_cut line ∙ ap (words_by line) (sym cut)
-
-pub words_none : (line : List ℕ) → None ≡ cut_at 32 line → words_of line ≡ line ∷ []
-words_none line cut = words_cut line ∙ ap (words_by line) (sym cut)
+pub words_none : (line : List ℕ) → None ≡ cut_first 32 line → words_of line ≡ line ∷ []
+words_none line cut = split_by_first 32 line ∙ ap (words_by line) (sym cut)
 
 -- one more word was taken off
 pub words_kept :

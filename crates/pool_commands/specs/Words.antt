@@ -1,9 +1,10 @@
 -- The words of a command line, and what a single word says.
-use Rattle.std.specs.Prelude.{ℕ, ◌==◌, List, [], length, Bool, ◌&&◌, nat_le, nat_lt, is_none, position, take, drop, ◌+◌, Option, Some, None, option_map, if◌then◌else◌, codes}
+use Rattle.std.specs.Prelude.{ℕ, ◌^◌, ◌==◌, List, [], length, Bool, ◌&&◌, nat_le, nat_lt, is_none, Option, Some, None, option_map, if◌then◌else◌, codes}
 use Rattle.std.specs.List.{slice_split}
 use Rattle.std.specs.Option.{option_and_then, option_map_or}
-use Rattle.std.specs.Str.{all_ascii_digits, bytes_eq}
-use Rattle.std.specs.Str.Parse.{digits_value}
+use Rattle.std.specs.Str.{bytes_eq}
+use Rattle.text_pieces.specs.Cuts.{cut_first}
+use Rattle.text_pieces.specs.Numbers.{number_below}
 use Rattle.gear_packets.specs.Refusal.{handle_refusal}
 use Rattle.pool_settings.specs.Profile.{Profile}
 use Rattle.pool_settings.specs.Slots.{slot_named}
@@ -28,30 +29,21 @@ words_in text = option_map_or words_of text []
 abbrev pub word_in : List ℕ → Option (List ℕ)
 word_in text = if nat_lt 0 (length text) then Some text else None
 
--- the number from low to high that one or more decimal digits write
-abbrev pub number_between : ℕ → ℕ → List ℕ → Option ℕ
-number_between low high digits =
-    if (nat_lt 0 (length digits) && all_ascii_digits digits)
-    && (nat_le low (digits_value 10 digits) && nat_le (digits_value 10 digits) high)
-    then Some (digits_value 10 digits)
-    else None
-
 -- a ticket, or a time in milliseconds
 abbrev pub long_in : List ℕ → Option ℕ
-long_in digits = number_between 0 18446744073709551615 digits
+long_in digits = number_below (2 ^ 64) digits
 
 -- a number of jobs
 abbrev pub count_in : List ℕ → Option ℕ
-count_in digits = number_between 0 4294967295 digits
+count_in digits = number_below (2 ^ 32) digits
+
+abbrev pub generation_of : ℕ → Option ℕ
+generation_of n = if nat_le 1 n && nat_le n max_generation then Some n else None
 
 abbrev pub generation_in : List ℕ → Option ℕ
-generation_in digits = number_between 1 max_generation digits
+generation_in digits = option_and_then generation_of (number_below (2 ^ 32) digits)
 
 -- ---- workers: the slot's name, a hash sign and the generation
-
--- the text before and behind its first byte of one kind
-abbrev pub cut_at : ℕ → List ℕ → Option (List ℕ × List ℕ)
-cut_at sign text = option_map (λ n. (take n text, drop (n + 1) text)) (position (λ b. b == sign) text)
 
 abbrev pub worker_of : Profile → List ℕ × List ℕ → Option WorkerName
 worker_of p parts =
@@ -59,7 +51,7 @@ worker_of p parts =
     (slot_named p parts.0)
 
 abbrev pub worker_in : Profile → List ℕ → Option WorkerName
-worker_in p text = option_and_then (worker_of p) (cut_at 35 text)
+worker_in p text = option_and_then (worker_of p) (cut_first 35 text)
 
 -- ---- handles and ends
 

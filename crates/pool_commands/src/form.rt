@@ -6,7 +6,7 @@ ghost use Rattle.pool_commands.specs.Grammar.{IsWithin};
 ghost use Rattle.pool_settings.specs.Slots.{slots};
 
 use crate::command::{Command, Word};
-use crate::word::{end_in, handle_in, number_in, ticket_in, worker_in};
+use crate::word::{end_in, handle_in, long_in, ticket_in, worker_in};
 use pool_settings::Settings;
 use std::alloc::{AllocError, Global};
 use worker_state::Cause;
@@ -70,7 +70,7 @@ fn grab_in(
             let Some(worker) = worker_in(settings, worker) else {
                 return Ok(None);
             };
-            let (Some(handle), Some(now_ms)) = (handle_in(handle), number_in(now)) else {
+            let (Some(handle), Some(now_ms)) = (handle_in(handle), long_in(now)) else {
                 return Ok(None);
             };
             if function.is_empty() {
@@ -145,7 +145,7 @@ fn expire_in(settings: &Settings, args: &[&[u8]]) -> Option<Command>
     match args {
         [worker, now] => {
             let worker = worker_in(settings, worker)?;
-            let now_ms = number_in(now)?;
+            let now_ms = long_in(now)?;
             Some(Command::Expire { worker, now_ms })
         }
         _ => None,

@@ -9,10 +9,11 @@ ghost use Rattle.pool_settings.specs.Slots.{slots};
 
 use crate::command::Command;
 use crate::form::fixed_form;
-use crate::word::{count_in, cut_at};
+use crate::word::count_in;
 use gear_status::Load;
 use pool_settings::Settings;
 use std::alloc::{AllocError, Global};
+use text_pieces::cut_first;
 
 /// One more than the words that the longest form of a fixed number of words has behind the first.
 const MOST_ARGS: usize = 5;
@@ -30,7 +31,7 @@ fn cut_word(text: &[u8]) -> (&[u8], Option<&[u8]>)
     ensures words { spec.words_of text.now ≡ result.0.now ∷ spec.words_in (option_map (λ t. t.now) result.1) }
     ensures shorter { IfSome result.1 (λ t. length t.now < length text.now) }
 {
-    match cut_at(b' ', text) {
+    match cut_first(b' ', text) {
         Some((word, rest)) => (word, Some(rest)),
         None => (text, None),
     }

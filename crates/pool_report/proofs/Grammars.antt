@@ -1,5 +1,5 @@
 -- A whole text means an answer exactly where it is a report that tells it.
-use Rattle.std.proofs.Common.{◌≡◌, ◌≢◌, ℕ, ◌+◌, ◌-◌, ◌^◌, ◌<◌, ◌≤◌, List, [], ◌∷◌, ◌++◌, Bool, true, false, Option, Some, None, Ok, Err, eqb, ltb, length, map, option_map, append_assoc, refl, ap, sym, subst, ◌∙◌, arith}
+use Rattle.std.proofs.Common.{◌≡◌, ◌≢◌, ℕ, ◌+◌, ◌^◌, ◌<◌, ◌≤◌, List, [], ◌∷◌, ◌++◌, Bool, true, false, Option, Some, None, Ok, Err, eqb, ltb, length, map, option_map, append_assoc, refl, ap, sym, subst, ◌∙◌, arith}
 use Rattle.std.specs.Prelude.{IsTrue, Result, codes, unwrap_or}
 use Rattle.std.specs.Fmt.{decimal}
 use Rattle.std.specs.List.{flat_map, slice_split}
@@ -9,7 +9,6 @@ use Rattle.std.proofs.lemmas.Bool.Decides.{nat_tests}
 use Rattle.std.proofs.lemmas.List.{append-nil}
 use Rattle.plan_model.specs.declared.answer.Answer.{Answer}
 use Rattle.plan_model.specs.declared.answer.Answer.TheVariants.{Planned, NoPlan}
-use Rattle.pool_settings.specs.Law.{AreOneToOne}
 use Rattle.pool_settings.specs.Names.{is_name, name_at, place_of}
 use Rattle.pool_settings.specs.Profile.{IsProfile, Profile}
 use Rattle.pool_settings.specs.Slots as slots
@@ -18,10 +17,9 @@ use Rattle.pool_settings.proofs.SlotSums.{machine_found}
 use Rattle.pool_report.specs.Grammar.{AreEntries, AreLeft, AreNeeded, AreTextsReports, IsFunctionOrNone, IsReportOf, IsSet, IsSetOrNone, worker_at}
 use Rattle.pool_report.specs.Law.{Spells}
 use Rattle.pool_report.specs.Lines.{Line, backlog, head, last, line_of, needed, no_plan, short, stranded, task}
-use Rattle.pool_report.specs.Reading.{Draft, answer_of, is_complete, is_line_feed, meaning, meaning_from, moved, place, place_function, place_line, start, with_backlog, with_entry, with_needed, with_set}
+use Rattle.pool_report.specs.Reading.{Draft, is_complete, is_line_feed, meaning, meaning_from, place, place_function, start}
 use Rattle.pool_report.specs.Report.{Needed, Short, Stranded, Worker, backlog_line, ended, needed_line, planned, report, short_if, short_line, short_lines, stranded_line, task_line, told_lines, worker_line, worker_name}
 use Rattle.pool_report.specs.Report as report_specs
-use Rattle.pool_report.specs.declared.error.ReadError.{ReadError}
 use Rattle.pool_report.specs.declared.stage.Misread.{Misread}
 use Rattle.pool_report.specs.declared.stage.Misread.TheVariants as misread
 use Rattle.pool_report.specs.declared.stage.Stage.{Stage}
@@ -29,7 +27,7 @@ use Rattle.pool_report.specs.declared.stage.Stage.TheVariants as stage
 use Rattle.pool_report.proofs.Found.{function_found}
 use Rattle.pool_report.proofs.Spelled.{lines_spelled}
 use Rattle.pool_report.proofs.Splits.{first_part}
-use Rattle.pool_report.proofs.Walks.{IsRead, Leads, at, leads_line, leads_none, leads_on}
+use Rattle.pool_report.proofs.Walks.{Leads, at, leads_line, leads_none, leads_on}
 use Rattle.pool_report.proofs.Whole.{Below, worker_read}
 use Rattle.pool_report.proofs.Written.{lines_read}
 

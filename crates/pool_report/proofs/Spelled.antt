@@ -1,22 +1,20 @@
 -- Each line as it is read, written.
-use Rattle.std.proofs.Common.{◌≡◌, ℕ, ◌+◌, ◌^◌, ◌<◌, ◌≤◌, List, [], ◌∷◌, ◌++◌, Bool, true, false, ◌&&◌, ◌||◌, not, Option, Some, None, get_or, length, take, drop, eqb, ltb, append_assoc, refl, ap, sym, ◌∙◌, subst, arith}
+use Rattle.std.proofs.Common.{◌≡◌, ℕ, ◌+◌, ◌^◌, ◌<◌, List, ◌∷◌, ◌++◌, Bool, true, false, ◌&&◌, Option, Some, None, length, take, drop, ltb, append_assoc, refl, ap, sym, ◌∙◌, subst, arith}
 use Rattle.std.specs.Prelude.{codes}
-use Rattle.std.specs.Char.{is_ascii_digit}
 use Rattle.std.specs.Fmt.{decimal}
-use Rattle.std.specs.List.{list_all}
 use Rattle.std.specs.Option.{option_map_or}
 use Rattle.std.specs.Str.{bytes_eq}
-use Rattle.std.specs.Str.Parse.{digits_value}
-use Rattle.std.proofs.lemmas.Bool.{and_parts, ltb-true, lt-ltb, le-ltb, eqb-true}
+use Rattle.std.proofs.lemmas.Bool.{and_parts, ltb-true, lt-ltb, le-ltb}
 use Rattle.std.proofs.lemmas.List.{take-append-drop}
 use Rattle.std.proofs.lemmas.Slice.Eq.{bytes_eq-Decides}
-use Rattle.std.proofs.lemmas.Fmt.{decimal-digits_value}
 use Rattle.pool_settings.specs.Names.{is_name}
-use Rattle.pool_settings.specs.Slots.{is_plain}
 use Rattle.pool_report.specs.Law.{Spells}
-use Rattle.pool_report.specs.Lines.{Line, after, backlog, backlog_in, counted, cut_last, head, idle_in, is_worker, keyed, last, line_of, needed, needed_in, no_plan, number_below, put_front, short, short_in, stranded, stranded_in, task, unserved_in, work_in}
+use Rattle.pool_report.specs.Lines.{Line, after, backlog, backlog_in, counted, head, idle_in, is_worker, keyed, last, line_of, needed, needed_in, no_plan, short, short_in, stranded, stranded_in, task, unserved_in, work_in}
 use Rattle.pool_report.specs.Report.{ended}
-use Rattle.pool_report.proofs.Cuts.{own, plain_digits}
+use Rattle.text_pieces.specs.Cuts.{cut_last}
+use Rattle.text_pieces.specs.Numbers.{plain_number_below}
+use Rattle.text_pieces.proofs.Cutting.{parts_of_last}
+use Rattle.text_pieces.proofs.Digits.{plain_spelled}
 
 same : {A : Type 0} (x y : A) → Some x ≡ Some y → x ≡ y
 same x y e = cc
@@ -25,23 +23,6 @@ never : {A : Type 0} (x : A) → None ≡ Some x → ⊥
 never x e = absurd cc
 
 -- ---- parts
-
-cut_parts : (c : ℕ) (text : List ℕ) (parts : List ℕ × List ℕ) → cut_last c text ≡ Some parts → text ≡ parts.0 ++ c ∷ parts.1
-cut_parts c [] parts e = absurd (never parts e)
-cut_parts c (b ∷ bs) parts e = by (cut_parts c bs) (cut_last c bs) refl
-  where
-    here : (d : Bool) → eqb b c ≡ d → cut_last c bs ≡ None → b ∷ bs ≡ parts.0 ++ c ∷ parts.1
-    here true is none =
-        let cut : ([], bs) ≡ parts = same ([], bs) parts (rw (none, is) at e) in
-        rw (← cut) (ap (λ x. x ∷ bs) (eqb-true b c is))
-    here false other none = absurd (never parts (rw (none, other) at e))
-
-    by : ((inner : List ℕ × List ℕ) → cut_last c bs ≡ Some inner → bs ≡ inner.0 ++ c ∷ inner.1)
-        → (o : Option (List ℕ × List ℕ)) → cut_last c bs ≡ o → b ∷ bs ≡ parts.0 ++ c ∷ parts.1
-    by again (Some inner) is =
-        let cut : put_front b inner ≡ parts = same (put_front b inner) parts (rw is at e) in
-        rw (← cut) (ap (λ x. b ∷ x) (again inner is))
-    by again None none = here (eqb b c) refl none
 
 after_parts : (word line rest : List ℕ) → after word line ≡ Some rest → line ≡ word ++ rest
 after_parts word line rest e = by (bytes_eq (take (length word) line) word) refl
@@ -57,53 +38,29 @@ after_parts word line rest e = by (bytes_eq (take (length word) line) word) refl
 spaced : (front name middle back : List ℕ) → front ++ (name ++ (middle ++ back)) ≡ ((front ++ name) ++ middle) ++ back
 spaced front name middle back = sym (append_assoc (front ++ name) middle back ∙ append_assoc front name (middle ++ back))
 
--- ---- numbers
-
-lead_of : (ds : List ℕ) → is_plain ds ≡ true → get_or ds 0 0 ≡ 48 → length ds ≡ 1
-lead_of ds plain first =
-    let parts = and_parts (ltb 0 (length ds)) _ plain in
-    let well : (not (eqb (get_or ds 0 0) 48) || eqb (length ds) 1) ≡ true = (and_parts (list_all is_ascii_digit ds) _ parts.1).1 in
-    let one : eqb (length ds) 1 ≡ true = subst (λ b. (not (eqb b 48) || eqb (length ds) 1) ≡ true) first well in
-    eqb-true (length ds) 1 one
-
-number_spelled : (bound : ℕ) (ds : List ℕ) (n : ℕ) → bound ≤ 2 ^ 64 → number_below bound ds ≡ Some n → (n < bound) × (ds ≡ decimal n)
-number_spelled bound ds n wide e = by (is_plain ds && ltb (digits_value 10 ds) bound) refl
-  where
-    by : (d : Bool) → (is_plain ds && ltb (digits_value 10 ds) bound) ≡ d → (n < bound) × (ds ≡ decimal n)
-    by false other = absurd (never n (rw other at e))
-    by true holds =
-        let parts = and_parts (is_plain ds) (ltb (digits_value 10 ds) bound) holds in
-        let low : digits_value 10 ds < bound = ltb-true _ _ parts.1 in
-        let value : digits_value 10 ds ≡ n = same (digits_value 10 ds) n (rw holds at e) in
-        let facts = plain_digits ds parts.0 in
-        let back : decimal (digits_value 10 ds) ≡ ds = decimal-digits_value own ds facts.1 facts.0 (lead_of ds parts.0) (omega (arith, low, wide)) in
-        (omega (arith, low, value), sym back ∙ ap decimal value)
-
--- ---- lines, from what stands behind their first words
-
 backlog_spelled : (rest : List ℕ) (told : Line) → backlog_in rest ≡ Some told → Spells (ended (codes "backlog " ++ rest)) told
-backlog_spelled rest told e = by (number_below (2 ^ 32) rest) refl
+backlog_spelled rest told e = by (plain_number_below (2 ^ 32) rest) refl
   where
-    by : (o : Option ℕ) → number_below (2 ^ 32) rest ≡ o → Spells (ended (codes "backlog " ++ rest)) told
+    by : (o : Option ℕ) → plain_number_below (2 ^ 32) rest ≡ o → Spells (ended (codes "backlog " ++ rest)) told
     by None none = absurd (never told (rw none at e))
     by (Some k) is =
         let tells : backlog k ≡ told = same (backlog k) told (rw is at e) in
-        let number = number_spelled (2 ^ 32) rest k (omega arith) is in
-        rw (← tells) (omega (arith, number.0), (λ h. omega (arith, h, number.0)), rw (lt-ltb k (2 ^ 32) number.0) (ap (λ t. ended (codes "backlog " ++ t)) number.1))
+        let number = plain_spelled (2 ^ 32) rest k (omega arith) is in
+        rw (← tells) (omega (arith, number.1), (λ h. omega (arith, h, number.1)), rw (lt-ltb k (2 ^ 32) number.1) (ap (λ t. ended (codes "backlog " ++ t)) number.0))
 
 unserved_spelled : (rest : List ℕ) (told : Line) → unserved_in rest ≡ Some told → Spells (ended (codes "unserved " ++ rest)) told
-unserved_spelled rest told e = by (number_below (2 ^ 32) rest) refl
+unserved_spelled rest told e = by (plain_number_below (2 ^ 32) rest) refl
   where
-    above : (w : ℕ) → number_below (2 ^ 32) rest ≡ Some w → (d : Bool) → ltb 0 w ≡ d → Spells (ended (codes "unserved " ++ rest)) told
+    above : (w : ℕ) → plain_number_below (2 ^ 32) rest ≡ Some w → (d : Bool) → ltb 0 w ≡ d → Spells (ended (codes "unserved " ++ rest)) told
     above w is false other = absurd (never told (rw (is, other) at e))
     above w is true holds =
         let some : 0 < w = ltb-true 0 w holds in
         let tells : backlog (2 ^ 32 + w) ≡ told = same (backlog (2 ^ 32 + w)) told (rw (is, holds) at e) in
-        let number = number_spelled (2 ^ 32) rest w (omega arith) is in
+        let number = plain_spelled (2 ^ 32) rest w (omega arith) is in
         rw (← tells)
-        (omega (arith, number.0), (λ h. omega (arith, h, some)), rw (le-ltb (2 ^ 32 + w) (2 ^ 32) (omega arith)) (ap (λ t. ended (codes "unserved " ++ t)) (number.1 ∙ ap decimal (omega arith))))
+        (omega (arith, number.1), (λ h. omega (arith, h, some)), rw (le-ltb (2 ^ 32 + w) (2 ^ 32) (omega arith)) (ap (λ t. ended (codes "unserved " ++ t)) (number.0 ∙ ap decimal (omega arith))))
 
-    by : (o : Option ℕ) → number_below (2 ^ 32) rest ≡ o → Spells (ended (codes "unserved " ++ rest)) told
+    by : (o : Option ℕ) → plain_number_below (2 ^ 32) rest ≡ o → Spells (ended (codes "unserved " ++ rest)) told
     by None none = absurd (never told (rw none at e))
     by (Some w) is = above w is (ltb 0 w) refl
 
@@ -115,7 +72,7 @@ work_spelled rest told e = by (cut_last 32 rest) refl
     cut parts is true holds =
         let tells : task parts.0 (Some parts.1) ≡ told = same (task parts.0 (Some parts.1)) told (rw (is, holds) at e) in
         let names = and_parts (is_worker parts.0) (is_name parts.1) holds in
-        rw (← tells) (names.0, names.1, ap ended (ap (λ t. codes "work " ++ t) (cut_parts 32 rest parts is) ∙ spaced (codes "work ") parts.0 (codes " ") parts.1))
+        rw (← tells) (names.0, names.1, ap ended (ap (λ t. codes "work " ++ t) ((parts_of_last 32 rest parts is).0) ∙ spaced (codes "work ") parts.0 (codes " ") parts.1))
 
     by : (o : Option (List ℕ × List ℕ)) → cut_last 32 rest ≡ o → Spells (ended (codes "work " ++ rest)) told
     by None none = absurd (never told (rw none at e))
@@ -134,51 +91,51 @@ counted_parts : (word rest : List ℕ) (pair : List ℕ × ℕ) → counted word
     → (pair.1 < 2 ^ 64) × (rest ≡ pair.0 ++ (32 ∷ (word ++ (32 ∷ decimal pair.1))))
 counted_parts word rest pair e = outer (cut_last 32 rest) refl
   where
-    worded : (parts inner : List ℕ × List ℕ) (n : ℕ) → cut_last 32 rest ≡ Some parts → number_below (2 ^ 64) parts.1 ≡ Some n → cut_last 32 parts.0 ≡ Some inner
+    worded : (parts inner : List ℕ × List ℕ) (n : ℕ) → cut_last 32 rest ≡ Some parts → plain_number_below (2 ^ 64) parts.1 ≡ Some n → cut_last 32 parts.0 ≡ Some inner
         → (d : Bool) → bytes_eq inner.1 word ≡ d → (pair.1 < 2 ^ 64) × (rest ≡ pair.0 ++ (32 ∷ (word ++ (32 ∷ decimal pair.1))))
     worded parts inner n cut number within false other = absurd (never pair (rw (cut, number, within, other) at e))
     worded parts inner n cut number within true holds =
         let tells : (inner.0, n) ≡ pair = same (inner.0, n) pair (rw (cut, number, within, holds) at e) in
-        let digits = number_spelled (2 ^ 64) parts.1 n (omega arith) number in
-        let front : parts.0 ≡ inner.0 ++ (32 ∷ word) = cut_parts 32 parts.0 inner within ∙ ap (λ w. inner.0 ++ (32 ∷ w)) ((bytes_eq-Decides inner.1 word).0 holds) in
+        let digits = plain_spelled (2 ^ 64) parts.1 n (omega arith) number in
+        let front : parts.0 ≡ inner.0 ++ (32 ∷ word) = (parts_of_last 32 parts.0 inner within).0 ∙ ap (λ w. inner.0 ++ (32 ∷ w)) ((bytes_eq-Decides inner.1 word).0 holds) in
         rw (← tells)
-        (digits.0, cut_parts 32 rest parts cut ∙ ap (λ t. t ++ (32 ∷ parts.1)) front ∙ ap (λ t. (inner.0 ++ (32 ∷ word)) ++ (32 ∷ t)) digits.1 ∙ append_assoc inner.0 (32 ∷ word) (32 ∷ decimal n))
+        (digits.1, (parts_of_last 32 rest parts cut).0 ∙ ap (λ t. t ++ (32 ∷ parts.1)) front ∙ ap (λ t. (inner.0 ++ (32 ∷ word)) ++ (32 ∷ t)) digits.0 ∙ append_assoc inner.0 (32 ∷ word) (32 ∷ decimal n))
 
-    inside : (parts : List ℕ × List ℕ) (n : ℕ) → cut_last 32 rest ≡ Some parts → number_below (2 ^ 64) parts.1 ≡ Some n
+    inside : (parts : List ℕ × List ℕ) (n : ℕ) → cut_last 32 rest ≡ Some parts → plain_number_below (2 ^ 64) parts.1 ≡ Some n
         → (o : Option (List ℕ × List ℕ)) → cut_last 32 parts.0 ≡ o → (pair.1 < 2 ^ 64) × (rest ≡ pair.0 ++ (32 ∷ (word ++ (32 ∷ decimal pair.1))))
     inside parts n cut number None none = absurd (never pair (rw (cut, number, none) at e))
     inside parts n cut number (Some inner) within = worded parts inner n cut number within (bytes_eq inner.1 word) refl
 
-    counts : (parts : List ℕ × List ℕ) → cut_last 32 rest ≡ Some parts → (o : Option ℕ) → number_below (2 ^ 64) parts.1 ≡ o
+    counts : (parts : List ℕ × List ℕ) → cut_last 32 rest ≡ Some parts → (o : Option ℕ) → plain_number_below (2 ^ 64) parts.1 ≡ o
         → (pair.1 < 2 ^ 64) × (rest ≡ pair.0 ++ (32 ∷ (word ++ (32 ∷ decimal pair.1))))
     counts parts cut None none = absurd (never pair (rw (cut, none) at e))
     counts parts cut (Some n) number = inside parts n cut number (cut_last 32 parts.0) refl
 
     outer : (o : Option (List ℕ × List ℕ)) → cut_last 32 rest ≡ o → (pair.1 < 2 ^ 64) × (rest ≡ pair.0 ++ (32 ∷ (word ++ (32 ∷ decimal pair.1))))
     outer None none = absurd (never pair (rw none at e))
-    outer (Some parts) cut = counts parts cut (number_below (2 ^ 64) parts.1) refl
+    outer (Some parts) cut = counts parts cut (plain_number_below (2 ^ 64) parts.1) refl
 
 short_spelled : (rest : List ℕ) (told : Line) → short_in rest ≡ Some told → Spells (ended (codes "short need " ++ rest)) told
 short_spelled rest told e = by (counted (codes "have") rest) refl
   where
-    sums : (pair : List ℕ × ℕ) → counted (codes "have") rest ≡ Some pair → (o : Option ℕ) → number_below (2 ^ 64) pair.0 ≡ o → Spells (ended (codes "short need " ++ rest)) told
+    sums : (pair : List ℕ × ℕ) → counted (codes "have") rest ≡ Some pair → (o : Option ℕ) → plain_number_below (2 ^ 64) pair.0 ≡ o → Spells (ended (codes "short need " ++ rest)) told
     sums pair is None none = absurd (never told (rw (is, none) at e))
     sums pair is (Some need) number =
         let tells : short ≡ told = same short told (rw (is, number) at e) in
-        let digits = number_spelled (2 ^ 64) pair.0 need (omega arith) number in
+        let digits = plain_spelled (2 ^ 64) pair.0 need (omega arith) number in
         let parts = counted_parts (codes "have") rest pair is in
         rw (← tells) (
           need,
           pair.1,
-          digits.0,
+          digits.1,
           parts.0,
-          ap ended (ap (λ t. codes "short need " ++ t) (parts.1 ∙ ap (λ t. t ++ (codes " have " ++ decimal pair.1)) digits.1)
+          ap ended (ap (λ t. codes "short need " ++ t) (parts.1 ∙ ap (λ t. t ++ (codes " have " ++ decimal pair.1)) digits.0)
               ∙ spaced (codes "short need ") (decimal need) (codes " have ") (decimal pair.1)),
         )
 
     by : (o : Option (List ℕ × ℕ)) → counted (codes "have") rest ≡ o → Spells (ended (codes "short need " ++ rest)) told
     by None none = absurd (never told (rw none at e))
-    by (Some pair) is = sums pair is (number_below (2 ^ 64) pair.0) refl
+    by (Some pair) is = sums pair is (plain_number_below (2 ^ 64) pair.0) refl
 
 needed_spelled : (rest : List ℕ) (told : Line) → needed_in rest ≡ Some told → Spells (ended (codes "in " ++ rest)) told
 needed_spelled rest told e = by (counted (codes "need") rest) refl
@@ -197,27 +154,27 @@ needed_spelled rest told e = by (counted (codes "need") rest) refl
 stranded_spelled : (rest : List ℕ) (told : Line) → stranded_in rest ≡ Some told → Spells (ended (codes "stranded " ++ rest)) told
 stranded_spelled rest told e = by (cut_last 32 rest) refl
   where
-    named : (parts : List ℕ × List ℕ) (w : ℕ) → cut_last 32 rest ≡ Some parts → number_below (2 ^ 32) parts.1 ≡ Some w
+    named : (parts : List ℕ × List ℕ) (w : ℕ) → cut_last 32 rest ≡ Some parts → plain_number_below (2 ^ 32) parts.1 ≡ Some w
         → (d : Bool) → is_name parts.0 ≡ d → Spells (ended (codes "stranded " ++ rest)) told
     named parts w cut number false other = absurd (never told (rw (cut, number, other) at e))
     named parts w cut number true holds =
         let tells : stranded parts.0 ≡ told = same (stranded parts.0) told (rw (cut, number, holds) at e) in
-        let digits = number_spelled (2 ^ 32) parts.1 w (omega arith) number in
+        let digits = plain_spelled (2 ^ 32) parts.1 w (omega arith) number in
         rw (← tells) (
           w,
           holds,
-          digits.0,
-          ap ended (ap (λ t. codes "stranded " ++ t) (cut_parts 32 rest parts cut ∙ ap (λ t. parts.0 ++ (32 ∷ t)) digits.1)
+          digits.1,
+          ap ended (ap (λ t. codes "stranded " ++ t) ((parts_of_last 32 rest parts cut).0 ∙ ap (λ t. parts.0 ++ (32 ∷ t)) digits.0)
               ∙ spaced (codes "stranded ") parts.0 (codes " ") (decimal w)),
         )
 
-    counts : (parts : List ℕ × List ℕ) → cut_last 32 rest ≡ Some parts → (o : Option ℕ) → number_below (2 ^ 32) parts.1 ≡ o → Spells (ended (codes "stranded " ++ rest)) told
+    counts : (parts : List ℕ × List ℕ) → cut_last 32 rest ≡ Some parts → (o : Option ℕ) → plain_number_below (2 ^ 32) parts.1 ≡ o → Spells (ended (codes "stranded " ++ rest)) told
     counts parts cut None none = absurd (never told (rw (cut, none) at e))
     counts parts cut (Some w) number = named parts w cut number (is_name parts.0) refl
 
     by : (o : Option (List ℕ × List ℕ)) → cut_last 32 rest ≡ o → Spells (ended (codes "stranded " ++ rest)) told
     by None none = absurd (never told (rw none at e))
-    by (Some parts) cut = counts parts cut (number_below (2 ^ 32) parts.1) refl
+    by (Some parts) cut = counts parts cut (plain_number_below (2 ^ 32) parts.1) refl
 
 -- ---- lines
 

@@ -1,31 +1,22 @@
 -- A text cut at its line feeds.
-use Rattle.std.proofs.Common.{◌≡◌, ℕ, ◌<◌, List, [], ◌∷◌, Bool, true, false, not, length, get_or, take, drop, refl, sym, suc, zero, arith}
-use Rattle.std.specs.List.{list_all, slice_split}
-use Rattle.std.proofs.lemmas.Bool.{and_parts}
+use Rattle.std.proofs.Common.{◌≡◌, ◌∙◌, ℕ, ◌<◌, Bor, List, [], ◌∷◌, Bool, true, false, IfSome, MatchOption, None, Option, Some, length, option_map, ap, refl, sym}
+use Rattle.std.specs.List.{slice_split}
+use Rattle.std.specs.Option.{option_map_or}
+use Rattle.text_pieces.specs.Cuts.{cut_first}
+use Rattle.text_pieces.proofs.Cutting.{split_by_first}
 use Rattle.pool_report.specs.Reading.{is_line_feed}
 
-abbrev pub is_open : List ℕ → Bool
-is_open line = list_all (λ b. not (is_line_feed b)) line
+-- the parts of a text by what is cut off it
+abbrev parts_in : List ℕ → Option (List ℕ × List ℕ) → List (List ℕ)
+parts_in text cut = option_map_or (λ parts. parts.0 ∷ slice_split is_line_feed parts.1) cut (text ∷ [])
 
-not_true : (b : Bool) → not b ≡ true → b ≡ false
-not_true false h = refl
-not_true true h = sym h
-
-pub one_part : (xs : List ℕ) → is_open xs ≡ true → slice_split is_line_feed xs ≡ xs ∷ []
-one_part [] o = refl
-one_part (x ∷ xs) o =
-    let parts = and_parts (not (is_line_feed x)) (is_open xs) o in
-    let other : is_line_feed x ≡ false = not_true (is_line_feed x) parts.0 in
-    rw (other, one_part xs parts.1)
-
-pub cut_parts : (text : List ℕ) (i : ℕ) → i < length text → is_open (take i text) ≡ true → get_or text i 0 ≡ 10
-    → slice_split is_line_feed text ≡ take i text ∷ slice_split is_line_feed (drop (suc i) text)
-cut_parts [] i h o at = absurd (omega arith)
-cut_parts (b ∷ text) zero h o at = rw at refl
-cut_parts (b ∷ text) (suc i) h o at =
-    let parts = and_parts (not (is_line_feed b)) (is_open (take i text)) o in
-    let other : is_line_feed b ≡ false = not_true (is_line_feed b) parts.0 in
-    rw (other, cut_parts text i (omega arith) parts.1 at)
+-- what is cut off a text at its first line feed is its first line
+pub line_cut : (text : List ℕ) (cut : Option (Bor (List ℕ) × Bor (List ℕ)))
+    → option_map {U = List ℕ × List ℕ} (λ p. (p.0.now, p.1.now)) cut ≡ cut_first 10 text → IfSome cut (λ p. length p.1.now < length text)
+    → MatchOption cut (slice_split is_line_feed text ≡ text ∷ [])
+    (λ p. (slice_split is_line_feed text ≡ p.0.now ∷ slice_split is_line_feed p.1.now) × (length p.1.now < length text))
+line_cut text None is shorter = split_by_first 10 text ∙ ap (parts_in text) (sym is)
+line_cut text (Some p) is shorter = (split_by_first 10 text ∙ ap (parts_in text) (sym is), shorter)
 
 -- a text has a first part
 pub first_part : (ys : List ℕ) → (head : List ℕ) × (tail : List (List ℕ)) × (slice_split is_line_feed ys ≡ head ∷ tail)

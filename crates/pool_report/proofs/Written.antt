@@ -1,55 +1,21 @@
 -- Each line as it is written, read.
-use Rattle.std.proofs.Common.{◌≡◌, ◌≢◌, ℕ, ◌-◌, ◌^◌, ◌<◌, List, [], ◌∷◌, ◌++◌, Bool, true, false, ◌||◌, not, Option, Some, None, zero, suc, get_or, length, eqb, ltb, append_assoc, refl, ap, sym, ◌∙◌, inl, inr, arith}
+use Rattle.std.proofs.Common.{◌≡◌, ◌≢◌, ℕ, ◌-◌, ◌^◌, ◌<◌, List, [], ◌∷◌, ◌++◌, Bool, true, false, not, Option, Some, None, eqb, append_assoc, refl, ap, sym, ◌∙◌, inl, inr, arith}
 use Rattle.std.specs.Prelude.{codes}
 use Rattle.std.specs.Char.{is_ascii_digit}
 use Rattle.std.specs.Fmt.{decimal}
 use Rattle.std.specs.List.{list_all}
-use Rattle.std.proofs.lemmas.Bool.{and_from, and_parts, cases_lt, eq-eqb, false≢true, le-ltb, lt-ltb, ne_eqb}
+use Rattle.std.proofs.lemmas.Bool.{and_from, and_parts, cases_lt, false≢true, le-ltb, lt-ltb, ne_eqb}
 use Rattle.std.proofs.lemmas.List.Folds.{list_all-append}
-use Rattle.std.proofs.lemmas.Fmt.{decimal_digit, decimal_nonempty, digits_decimal, digits_value-decimal, first_decimal}
 use Rattle.pool_settings.specs.Names.{is_machine_name, is_machine_name_byte, is_name, is_name_byte}
-use Rattle.pool_settings.specs.Slots.{is_plain}
+use Rattle.text_pieces.specs.Cuts.{cut_last}
 use Rattle.pool_report.specs.Law.{AreLinesRead, HasName, IsNamed, Tells, is_one_line}
-use Rattle.pool_report.specs.Lines.{backlog, cut_last, idle_in, is_worker, needed, needed_in, number_below, short, short_in, stranded, stranded_in, task, work_in}
+use Rattle.pool_report.specs.Lines.{backlog, idle_in, is_worker, needed, needed_in, short, short_in, stranded, stranded_in, task, work_in}
 use Rattle.pool_report.specs.Report.{Needed, Stranded, Worker, backlog_line, needed_line, short_line, stranded_line, task_line, worker_line, worker_name}
-use Rattle.pool_report.proofs.Cuts.{digits_same, not_cut, own}
-
--- ---- cuts
-
--- what has only bytes of another kind is not cut
-none_in : (c : ℕ) (p : ℕ → Bool) (xs : List ℕ) → p c ≡ false → list_all p xs ≡ true → cut_last c xs ≡ None
-none_in c p [] out all = refl
-none_in c p (x ∷ xs) out all =
-    let parts = and_parts (p x) (list_all p xs) all in
-    not_cut c x xs (λ e. false≢true (sym out ∙ ap p (sym e) ∙ parts.0)) (none_in c p xs out parts.1)
-
-cut_at : (c : ℕ) (front back : List ℕ) → cut_last c back ≡ None → cut_last c (front ++ c ∷ back) ≡ Some (front, back)
-cut_at c [] back none = rw (none, eq-eqb c c refl) refl
-cut_at c (x ∷ front) back none = rw (cut_at c front back none) refl
+use Rattle.text_pieces.proofs.Cutting.{last_nowhere, last_of_parts, none_in}
+use Rattle.text_pieces.proofs.Digits.{digits, plain, plain_decimal, uncut}
 
 no_space : (name : List ℕ) → is_name name ≡ true → cut_last 32 name ≡ None
-no_space name named = none_in 32 is_name_byte name refl (and_parts _ (list_all is_name_byte name) named).1
-
--- ---- numbers
-
-starts_well : (n : ℕ) → n < 2 ^ 64 → (not (eqb (get_or (decimal n) 0 0) 48) || eqb (length (decimal n)) 1) ≡ true
-starts_well zero small = rw (decimal_digit 0 (omega arith)) refl
-starts_well (suc n) small =
-    let first : 48 < get_or (decimal (suc n)) 0 0 = first_decimal (suc n) (omega arith) small in
-    let other : eqb (get_or (decimal (suc n)) 0 0) 48 ≡ false = ne_eqb (get_or (decimal (suc n)) 0 0) 48 (λ e. omega (arith, e, first)) in
-    rw other refl
-
-pub digits : (n : ℕ) → n < 2 ^ 64 → list_all is_ascii_digit (decimal n) ≡ true
-digits n small = digits_same (decimal n) ∙ digits_decimal own n small
-
-pub plain : (n : ℕ) → n < 2 ^ 64 → is_plain (decimal n) ≡ true
-plain n small = and_from (ltb 0 (length (decimal n))) _ (lt-ltb 0 _ (decimal_nonempty n small)) (and_from (list_all is_ascii_digit (decimal n)) _ (digits n small) (starts_well n small))
-
-written : (bound n : ℕ) → n < bound → n < 2 ^ 64 → number_below bound (decimal n) ≡ Some n
-written bound n below small = rw (plain n small, digits_value-decimal own n small, lt-ltb n bound below) refl
-
-uncut : (c n : ℕ) → n < 2 ^ 64 → is_ascii_digit c ≡ false → cut_last c (decimal n) ≡ None
-uncut c n small out = none_in c is_ascii_digit (decimal n) out (digits n small)
+no_space name named = last_nowhere 32 name (none_in 32 is_name_byte name refl (and_parts _ (list_all is_name_byte name) named).1)
 
 -- ---- no line feed
 
@@ -77,34 +43,34 @@ machine_line name named = one_line_of is_machine_name_byte name refl (and_parts 
 needs_read : (f : List ℕ) (n : ℕ) → is_name f ≡ true → n < 2 ^ 64 → needed_in (f ++ codes " need " ++ decimal n) ≡ Some (needed f)
 needs_read f n named small =
     let shape : f ++ codes " need " ++ decimal n ≡ (f ++ codes " need") ++ 32 ∷ decimal n = append_assoc f (codes " need ") (decimal n) ∙ sym (append_assoc f (codes " need") (32 ∷ decimal n)) in
-    let outer = cut_at 32 (f ++ codes " need") (decimal n) (uncut 32 n small refl) in
-    let inner : cut_last 32 (f ++ codes " need") ≡ Some (f, codes "need") = cut_at 32 f (codes "need") refl in
-    rw (shape, outer, written (2 ^ 64) n small small, inner, named) refl
+    let outer = last_of_parts 32 (f ++ codes " need") (decimal n) (uncut 32 n small refl) in
+    let inner : cut_last 32 (f ++ codes " need") ≡ Some (f, codes "need") = last_of_parts 32 f (codes "need") refl in
+    rw (shape, outer, plain_decimal (2 ^ 64) n small small, inner, named) refl
 
 sums_read : (need have : ℕ) → need < 2 ^ 64 → have < 2 ^ 64 → short_in (decimal need ++ codes " have " ++ decimal have) ≡ Some short
 sums_read need have few many =
     let shape : decimal need ++ codes " have " ++ decimal have ≡ (decimal need ++ codes " have") ++ 32 ∷ decimal have =
     append_assoc (decimal need) (codes " have ") (decimal have) ∙ sym (append_assoc (decimal need) (codes " have") (32 ∷ decimal have)) in
-    let outer = cut_at 32 (decimal need ++ codes " have") (decimal have) (uncut 32 have many refl) in
-    let inner : cut_last 32 (decimal need ++ codes " have") ≡ Some (decimal need, codes "have") = cut_at 32 (decimal need) (codes "have") refl in
-    rw (shape, outer, written (2 ^ 64) have many many, inner, written (2 ^ 64) need few few) refl
+    let outer = last_of_parts 32 (decimal need ++ codes " have") (decimal have) (uncut 32 have many refl) in
+    let inner : cut_last 32 (decimal need ++ codes " have") ≡ Some (decimal need, codes "have") = last_of_parts 32 (decimal need) (codes "have") refl in
+    rw (shape, outer, plain_decimal (2 ^ 64) have many many, inner, plain_decimal (2 ^ 64) need few few) refl
 
 leftovers_read : (f : List ℕ) (n : ℕ) → is_name f ≡ true → n < 2 ^ 32 → stranded_in (f ++ codes " " ++ decimal n) ≡ Some (stranded f)
 leftovers_read f n named small =
     let shape : f ++ codes " " ++ decimal n ≡ f ++ 32 ∷ decimal n = append_assoc f (codes " ") (decimal n) in
-    let cut = cut_at 32 f (decimal n) (uncut 32 n (omega arith) refl) in
-    rw (shape, cut, written (2 ^ 32) n small (omega arith), named) refl
+    let cut = last_of_parts 32 f (decimal n) (uncut 32 n (omega arith) refl) in
+    rw (shape, cut, plain_decimal (2 ^ 32) n small (omega arith), named) refl
 
 worker_shaped : (m : List ℕ) (n : ℕ) → is_machine_name m ≡ true → n < 2 ^ 64 → is_worker (m ++ codes "/" ++ decimal n) ≡ true
 worker_shaped m n named small =
     let shape : m ++ codes "/" ++ decimal n ≡ m ++ 47 ∷ decimal n = append_assoc m (codes "/") (decimal n) in
-    let cut = cut_at 47 m (decimal n) (uncut 47 n small refl) in
+    let cut = last_of_parts 47 m (decimal n) (uncut 47 n small refl) in
     rw (shape, cut, named, plain n small) refl
 
 work_read : (name f : List ℕ) → is_worker name ≡ true → is_name f ≡ true → work_in (name ++ codes " " ++ f) ≡ Some (task name (Some f))
 work_read name f worker named =
     let shape : name ++ codes " " ++ f ≡ name ++ 32 ∷ f = append_assoc name (codes " ") f in
-    let cut = cut_at 32 name f (no_space f named) in
+    let cut = last_of_parts 32 name f (no_space f named) in
     rw (shape, cut, worker, named) refl
 
 idle_read : (name : List ℕ) → is_worker name ≡ true → idle_in name ≡ Some (task name None)
@@ -130,13 +96,13 @@ counts_told k small other = elim (cases_lt k (2 ^ 32)) [
     codes "backlog " ++ decimal k,
     rw (lt-ltb k (2 ^ 32) below) refl,
     joined (codes "backlog ") (decimal k) refl (number_line k (omega arith)),
-    rw (written (2 ^ 32) k below (omega arith)) refl,
+    rw (plain_decimal (2 ^ 32) k below (omega arith)) refl,
   )
   | inr above ↦ (
     codes "unserved " ++ decimal (k - 2 ^ 32),
     rw (le-ltb k (2 ^ 32) above) refl,
     joined (codes "unserved ") (decimal (k - 2 ^ 32)) refl (number_line (k - 2 ^ 32) (omega arith)),
-    rw (written (2 ^ 32) (k - 2 ^ 32) (omega arith) (omega arith), lt-ltb 0 (k - 2 ^ 32) (omega (arith, other))) (ap (λ n. Some (backlog n)) (omega arith)),
+    rw (plain_decimal (2 ^ 32) (k - 2 ^ 32) (omega arith) (omega arith), lt-ltb 0 (k - 2 ^ 32) (omega (arith, other))) (ap (λ n. Some (backlog n)) (omega arith)),
   )
 ]
 

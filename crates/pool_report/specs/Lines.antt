@@ -1,10 +1,10 @@
 -- One line of a report, as it is read: what it tells, less the numbers that an answer does not hold.
-use Rattle.std.specs.Prelude.{ℕ, ◌+◌, ◌^◌, ◌==◌, List, [], ◌∷◌, length, take, drop, Bool, false, ◌&&◌, nat_lt, Option, Some, None, option_map, codes, if◌then◌else◌}
+use Rattle.std.specs.Prelude.{ℕ, ◌+◌, ◌^◌, List, length, take, drop, Bool, false, ◌&&◌, nat_lt, Option, Some, None, option_map, codes, if◌then◌else◌}
 use Rattle.std.specs.Option.{option_map_or}
 use Rattle.std.specs.Str.{bytes_eq}
-use Rattle.std.specs.Str.Parse.{digits_value}
 use Rattle.pool_settings.specs.Names.{is_machine_name, is_name}
-use Rattle.pool_settings.specs.Slots.{is_plain}
+use Rattle.text_pieces.specs.Cuts.{cut_last}
+use Rattle.text_pieces.specs.Numbers.{is_plain, plain_number_below}
 
 pub data Line : Type 0 where
   head : Line
@@ -19,24 +19,10 @@ pub data Line : Type 0 where
 
 -- ---- parts of a line
 
-abbrev pub put_front : ℕ → List ℕ × List ℕ → List ℕ × List ℕ
-put_front b parts = (b ∷ parts.0, parts.1)
-
--- a text cut at the last byte of one kind, which neither part has
-abbrev pub cut_last : ℕ → List ℕ → Option (List ℕ × List ℕ)
-cut_last c [] = None
-cut_last c (b ∷ bs) =
-    option_map_or (λ parts. Some (put_front b parts)) (cut_last c bs)
-    (if b == c then Some ([], bs) else None)
-
 -- what stands behind a word at the start of a line
 abbrev pub after : List ℕ → List ℕ → Option (List ℕ)
 after word line =
     if bytes_eq (take (length word) line) word then Some (drop (length word) line) else None
-
-abbrev pub number_below : ℕ → List ℕ → Option ℕ
-number_below bound digits =
-    if is_plain digits && nat_lt (digits_value 10 digits) bound then Some (digits_value 10 digits) else None
 
 -- a worker's name, `machine/number`
 abbrev pub is_worker_parts : List ℕ × List ℕ → Bool
@@ -48,13 +34,13 @@ is_worker name = option_map_or is_worker_parts (cut_last 47 name) false
 -- ---- each kind of line, from what stands behind its first words
 
 abbrev pub backlog_in : List ℕ → Option Line
-backlog_in rest = option_map (λ k. backlog k) (number_below (2 ^ 32) rest)
+backlog_in rest = option_map (λ k. backlog k) (plain_number_below (2 ^ 32) rest)
 
 abbrev pub above_zero : ℕ → Option Line
 above_zero w = if nat_lt 0 w then Some (backlog (2 ^ 32 + w)) else None
 
 abbrev pub unserved_in : List ℕ → Option Line
-unserved_in rest = option_map_or above_zero (number_below (2 ^ 32) rest) None
+unserved_in rest = option_map_or above_zero (plain_number_below (2 ^ 32) rest) None
 
 abbrev pub work_of : List ℕ × List ℕ → Option Line
 work_of parts = if is_worker parts.0 && is_name parts.1 then Some (task parts.0 (Some parts.1)) else None
@@ -71,13 +57,13 @@ counted_of word n parts = if bytes_eq parts.1 word then Some (parts.0, n) else N
 
 abbrev pub numbered : List ℕ → List ℕ × List ℕ → Option (List ℕ × ℕ)
 numbered word parts =
-    option_map_or (λ n. option_map_or (counted_of word n) (cut_last 32 parts.0) None) (number_below (2 ^ 64) parts.1) None
+    option_map_or (λ n. option_map_or (counted_of word n) (cut_last 32 parts.0) None) (plain_number_below (2 ^ 64) parts.1) None
 
 abbrev pub counted : List ℕ → List ℕ → Option (List ℕ × ℕ)
 counted word rest = option_map_or (numbered word) (cut_last 32 rest) None
 
 abbrev pub short_of : List ℕ × ℕ → Option Line
-short_of parts = option_map (λ n. short) (number_below (2 ^ 64) parts.0)
+short_of parts = option_map (λ n. short) (plain_number_below (2 ^ 64) parts.0)
 
 abbrev pub short_in : List ℕ → Option Line
 short_in rest = option_map_or short_of (counted (codes "have") rest) None
@@ -90,7 +76,7 @@ needed_in rest = option_map_or needed_of (counted (codes "need") rest) None
 
 abbrev pub stranded_of : List ℕ × List ℕ → Option Line
 stranded_of parts =
-    option_map_or (λ w. if is_name parts.0 then Some (stranded parts.0) else None) (number_below (2 ^ 32) parts.1) None
+    option_map_or (λ w. if is_name parts.0 then Some (stranded parts.0) else None) (plain_number_below (2 ^ 32) parts.1) None
 
 abbrev pub stranded_in : List ℕ → Option Line
 stranded_in rest = option_map_or stranded_of (cut_last 32 rest) None

@@ -1,12 +1,12 @@
 // One line of a report, as it is read.
 
-ghost use Rattle.std.specs.Prelude.{◌≡◌, ◌^◌, ◌-◌, ◌<◌, option_map, Some, None, true, if◌then◌else◌};
+ghost use Rattle.std.specs.Prelude.{◌≡◌, option_map};
 ghost use Rattle.std.specs.List.{list_all};
-ghost use Rattle.std.specs.Char.{is_ascii_digit};
 ghost use Rattle.pool_settings.specs.Names.{is_machine_name, is_machine_name_byte, is_name, is_name_byte};
-ghost use Rattle.pool_settings.specs.Slots.{is_plain};
 ghost use Rattle.pool_report.specs.Lines as spec;
 ghost use Rattle.pool_report.specs.Told.{line_view};
+
+use text_pieces::{cut_last, is_plain, plain_number_u32, plain_number_u64};
 
 /// What a line tells, less the numbers that an answer does not hold.
 #[derive(Clone, Copy)]
@@ -21,69 +21,11 @@ pub enum Line<'t> {
     Last,
 }
 
-/// The text before and behind the last byte of one kind.
-pub fn cut_last(byte: u8, text: &[u8]) -> Option<(&[u8], &[u8])>
-    ensures { option_map (λ p. (p.0.now, p.1.now)) result ≡ spec.cut_last byte text.now }
-{
-    let mut end = text.len();
-    while end > 0 {
-        end -= 1;
-        if text[end] == byte {
-            return Some((&text[..end], &text[end + 1..]));
-        }
-    }
-    None
-}
-
 /// What stands behind a word at the start of a line.
 fn after<'t>(word: &[u8], line: &'t [u8]) -> Option<&'t [u8]>
     ensures { option_map (λ t. t.now) result ≡ spec.after word.now line.now }
 {
     line.strip_prefix(word)
-}
-
-fn are_digits(digits: &[u8]) -> bool
-    ensures { result ≡ list_all is_ascii_digit digits.now }
-{
-    digits.iter().all(|byte| byte.is_ascii_digit())
-}
-
-/// Whether a text is decimal digits without a zero before them.
-pub fn is_plain(digits: &[u8]) -> bool
-    ensures { result ≡ is_plain digits.now }
-{
-    if digits.is_empty() {
-        return false;
-    }
-    if !are_digits(digits) {
-        return false;
-    }
-    digits[0] != b'0' || digits.len() == 1
-}
-
-/// The number below 2^64 that decimal digits write, without a zero before them.
-pub fn number(digits: &[u8]) -> Option<u64>
-    ensures { result ≡ spec.number_below (2 ^ 64) digits.now }
-{
-    if !is_plain(digits) {
-        return None;
-    }
-    match std::str::from_utf8(digits) {
-        Ok(text) => text.parse::<u64>().ok(),
-        Err(_) => None,
-    }
-}
-
-/// The same of a number below 2^32.
-fn small_number(digits: &[u8]) -> Option<u32>
-    ensures { result ≡ spec.number_below (2 ^ 32) digits.now }
-{
-    let number = number(digits)?;
-    if number < 4_294_967_296 {
-        Some(number as u32)
-    } else {
-        None
-    }
 }
 
 fn is_name(name: &[u8]) -> bool
@@ -147,14 +89,14 @@ fn is_worker(name: &[u8]) -> bool
 fn read_backlog(rest: &[u8]) -> Option<Line<'_>>
     ensures { option_map line_view result ≡ spec.backlog_in rest.now }
 {
-    let backlog = small_number(rest)?;
+    let backlog = plain_number_u32(rest)?;
     Some(Line::Backlog(u64::from(backlog)))
 }
 
 fn read_unserved(rest: &[u8]) -> Option<Line<'_>>
     ensures { option_map line_view result ≡ spec.unserved_in rest.now }
 {
-    let waiting = small_number(rest)?;
+    let waiting = plain_number_u32(rest)?;
     if waiting > 0 {
         Some(Line::Backlog(4_294_967_296 + u64::from(waiting)))
     } else {
@@ -187,12 +129,12 @@ fn read_short(rest: &[u8]) -> Option<Line<'_>>
     ensures { option_map line_view result ≡ spec.short_in rest.now }
 {
     let (front, have) = cut_last(b' ', rest)?;
-    let _have = number(have)?;
+    let _have = plain_number_u64(have)?;
     let (need, word) = cut_last(b' ', front)?;
     if word != b"have".as_slice() {
         return None;
     }
-    let _need = number(need)?;
+    let _need = plain_number_u64(need)?;
     Some(Line::Short)
 }
 
@@ -200,7 +142,7 @@ fn read_needed(rest: &[u8]) -> Option<Line<'_>>
     ensures { option_map line_view result ≡ spec.needed_in rest.now }
 {
     let (front, need) = cut_last(b' ', rest)?;
-    let _need = number(need)?;
+    let _need = plain_number_u64(need)?;
     let (function, word) = cut_last(b' ', front)?;
     if word != b"need".as_slice() {
         return None;
@@ -216,7 +158,7 @@ fn read_stranded(rest: &[u8]) -> Option<Line<'_>>
     ensures { option_map line_view result ≡ spec.stranded_in rest.now }
 {
     let (function, waiting) = cut_last(b' ', rest)?;
-    let _waiting = small_number(waiting)?;
+    let _waiting = plain_number_u32(waiting)?;
     if is_name(function) {
         Some(Line::Stranded(function))
     } else {

@@ -10,6 +10,7 @@ use crate::stage::Misread;
 use plan_model::Answer;
 use pool_settings::Settings;
 use std::alloc::Global;
+use text_pieces::cut_first;
 
 /// The text before and behind the first line feed.
 fn cut_line(text: &[u8]) -> Option<(&[u8], &[u8])>
@@ -17,12 +18,7 @@ fn cut_line(text: &[u8]) -> Option<(&[u8], &[u8])>
         (λ p. (slice_split is_line_feed text.now ≡ p.0.now ∷ slice_split is_line_feed p.1.now)
         × (length p.1.now < length text.now)) }
 {
-    for at in 0..text.len() {
-        if text[at] == b'\n' {
-            return Some((&text[..at], &text[at + 1..]));
-        }
-    }
-    None
+    cut_first(b'\n', text)
 }
 
 /// The answer that a report's text tells, under these settings.

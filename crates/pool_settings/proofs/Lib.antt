@@ -5,8 +5,6 @@ pub mod Marks
 pub mod SlotSums
 pub mod Ranges
 pub mod Passing
-pub mod Numbers
-pub mod Cuts
 pub mod Risen
 pub mod Planned
 pub mod WorkerNames

@@ -1,9 +1,9 @@
 -- Slots, numbered by machine and then by the worker's number in its machine.
-use Rattle.std.specs.Prelude.{◌≡◌, ℕ, ◌≤◌, ◌+◌, ◌-◌, ◌^◌, List, [], ◌∷◌, ◌++◌, take, length, sum, replicate, slice_index, slice_index_or, Bool, false, not, ◌&&◌, ◌||◌, nat_lt, ◌==◌, Option, Some, None, option_and_then, filter, if◌then◌else◌}
-use Rattle.std.specs.List.{after_last, before_last, enumerate_from, list_any, list_all}
-use Rattle.std.specs.Char.{is_ascii_digit}
-use Rattle.std.specs.Str.Parse.{digits_value}
+use Rattle.std.specs.Prelude.{◌≡◌, ℕ, ◌≤◌, ◌+◌, ◌-◌, ◌^◌, List, [], ◌∷◌, ◌++◌, take, sum, replicate, slice_index, slice_index_or, Bool, false, nat_lt, Option, Some, None, option_and_then, filter, if◌then◌else◌}
+use Rattle.std.specs.List.{enumerate_from}
 use Rattle.std.specs.Fmt.{decimal}
+use Rattle.text_pieces.specs.Cuts.{cut_last}
+use Rattle.text_pieces.specs.Numbers.{plain_number_below}
 use Rattle.pool_settings.specs.Names.{name_at, place_of}
 use Rattle.pool_settings.specs.Profile.{Profile}
 
@@ -43,32 +43,17 @@ worker_number p slot = slot - first_slot p (machine_of p slot)
 
 -- ---- names of workers: `machine/number`
 
-abbrev pub is_slash : ℕ → Bool
-is_slash b = b == 47
-
--- one or more decimal digits, without a zero before them
-abbrev pub is_plain : List ℕ → Bool
-is_plain digits =
-    nat_lt 0 (length digits)
-    && (list_all is_ascii_digit digits && (not (slice_index digits 0 == 48) || (length digits == 1)))
-
--- the number below 2 ^ 32 that plain digits write
-abbrev pub plain_number : List ℕ → Option ℕ
-plain_number digits =
-    if is_plain digits && nat_lt (digits_value 10 digits) (2 ^ 32) then Some (digits_value 10 digits) else None
-
 -- the slot of a machine's worker, if the machine has so many
 abbrev pub slot_at : Profile → ℕ → ℕ → Option ℕ
 slot_at p machine number =
     if nat_lt number (slice_index p.workers machine) then Some (first_slot p machine + number) else None
 
 abbrev pub slot_in : Profile → List ℕ → ℕ → Option ℕ
-slot_in p digits machine = option_and_then (slot_at p machine) (plain_number digits)
+slot_in p digits machine = option_and_then (slot_at p machine) (plain_number_below (2 ^ 32) digits)
 
 -- a worker's name cut at its last slash: the machine's name, and the number in digits
 abbrev pub parts_of : List ℕ → Option (List ℕ × List ℕ)
-parts_of name =
-    if list_any is_slash name then Some (before_last is_slash name, after_last is_slash name) else None
+parts_of name = cut_last 47 name
 
 abbrev pub slot_of_parts : Profile → List ℕ × List ℕ → Option ℕ
 slot_of_parts p parts = option_and_then (slot_in p parts.1) (place_of p.machines parts.0)

@@ -12,7 +12,6 @@ mod planning;
 mod settings;
 mod slots;
 mod tree;
-mod worker_name;
 
 pub use error::SettingsError;
 pub use law::names_are_one_to_one;

@@ -24,10 +24,10 @@ use crate::names::Names;
 use crate::planning::live_workers;
 use crate::slots::SlotTable;
 use crate::tree::table_at;
-use crate::worker_name::{parts_of, plain_number};
 use plan_model::{FuncId, Input, InputError, MachineId, SlotId};
 use std::alloc::{AllocError, Global};
 use std::marker::Model;
+use text_pieces::{cut_last, plain_number_u32};
 use toml::Table;
 
 /// The settings of a pool. Functions and machines are numbered from 0 by name in byte order, and slots by machine and then by
@@ -407,7 +407,7 @@ impl Settings {
         ensures there { IfSome result (λ s. s < slots.slots self.now) }
         ensures few { IfSome result (λ s. s < 4096) }
     {
-        let (machine, digits) = parts_of(name)?;
+        let (machine, digits) = cut_last(b'/', name)?;
         let machine = self.machine_named(machine)?;
         self.slot_in(machine, digits)
     }
@@ -419,7 +419,7 @@ impl Settings {
         ensures there { IfSome result (λ s. s < slots.slots self.now) }
         ensures few { IfSome result (λ s. s < 4096) }
     {
-        let number = plain_number(digits)?;
+        let number = plain_number_u32(digits)?;
         if number < self.workers(machine) {
             Some(SlotId::new(self.first_slot(machine) + number))
         } else {

@@ -1,5 +1,5 @@
 use Rattle.std.proofs.Common.{◌≡◌, ◌<◌, ◌-◌, ◌∙◌, arith, drop, length, length-drop, subst, sym, take}
-use Rattle.gear_status.proofs.Fields.{rest_taken}
+use Rattle.text_pieces.proofs.Cutting.{rest_taken}
 use Rattle.gear_status.proofs.Scripts.{due_is, part_read, pieces_count, whole_read}
 use Rattle.gear_status.specs.Played.{play_view}
 use Rattle.gear_status.specs.Script.{due}
