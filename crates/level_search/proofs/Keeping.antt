@@ -20,7 +20,8 @@ use Rattle.level_search.specs.Levels.{AreMet, Fits}
 use Rattle.level_search.specs.Found.{IsFound, Serves}
 use Rattle.level_search.specs.Answered.{Starts}
 use Rattle.level_search.specs.Steady.{HasPlan, IsSteady, IsSeed}
-use Rattle.level_search.proofs.Bisecting.{Fits-same, SamePairs-trans}
+use Rattle.augment.proofs.Rounds.{SamePairs-trans}
+use Rattle.level_search.proofs.Bisecting.{Fits-same}
 use Rattle.level_search.proofs.Showing.{Tells, plan_of, plan_of-is, plan-at, machine-at, workers_on-is, is_permitted-plan, meets_most-plan}
 
 -- tables that serve the level that was found
