@@ -46,8 +46,7 @@ pub fn serve<'a>(tables: &mut Tables<'a>, need: &[u32]) -> Result<Served<'a>, Al
         let set = bump.try_alloc_slice_copy(&[FuncId::new(alone)])?;
         return Ok(Served::Short(set));
     }
-    let pairs = tables.pairs;
-    let machines = pairs.workers.first.len() - 1;
+    let machines = tables.pairs.workers.first.len() - 1;
     let set = bump.try_alloc_slice_fill_clone(functions, FuncId::new(0))?;
     let mut tree = Tree {
         reached: bump.try_alloc_slice_fill_clone(functions, 0)?,
@@ -57,15 +56,10 @@ pub fn serve<'a>(tables: &mut Tables<'a>, need: &[u32]) -> Result<Served<'a>, Al
         tail: 0,
         passed: bump.try_alloc_slice_fill_clone(machines, false)?,
     };
-    if serve_all(
-        &pairs,
-        tables.order,
-        need,
-        tables.owner,
-        tables.count,
-        &mut tree,
-        &mut tables.looks,
-    ) {
+    let mut looks = tables.looks;
+    let is_served = serve_all(tables, need, &mut tree, &mut looks);
+    tables.looks = looks;
+    if is_served {
         return Ok(Served::All);
     }
     Ok(Served::Short(reached(&tree, set)))

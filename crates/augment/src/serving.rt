@@ -1,4 +1,4 @@
-ghost use Rattle.std.specs.Prelude.{◌≡◌, ℕ, ◌+◌, ◌-◌, ◌*◌, ◌^◌, ◌<◌, ◌≤◌, length, slice_index, take, min, max, Bool, List};
+ghost use Rattle.std.specs.Prelude.{◌≡◌, ℕ, ◌+◌, ◌-◌, ◌*◌, ◌^◌, ◌<◌, ◌≤◌, length, slice_index, take, Bool, List};
 ghost use Rattle.std.specs.Bool.{OnTrue, OnFalse};
 ghost use Rattle.std.specs.List.{range_with_len};
 ghost use Rattle.std.specs.List.Sorted.{IsPermutation};
@@ -8,10 +8,11 @@ ghost use Rattle.augment.specs.Moves.{GainsOne, IsStuck};
 ghost use Rattle.round_arena.specs.Planning.{LacksWorkers};
 ghost use Rattle.round_arena.specs.Plan.{Represents};
 ghost use Rattle.augment.specs.Short.{marked};
-ghost use Rattle.augment.specs.Round.{served};
+ghost use Rattle.round_arena.specs.Round.{SamePairs};
+ghost use Rattle.augment.specs.Round.{IsCapped, KeepsServed, served};
 
 use crate::search::{Tree, search};
-use round_arena::{FuncId, Pairs};
+use round_arena::{FuncId, Tables};
 
 /// What `serve` found. The set lies in the arena of the tables.
 #[derive(Drop)]
@@ -23,37 +24,32 @@ pub enum Served<'a> {
 }
 
 // Gives `root` one worker more, and says whether there was one to be had.
-fn serve_one(
-    pairs: &Pairs,
-    need: &[u32],
-    root: u32,
-    owner: &mut [u32],
-    count: &mut [u32],
-    tree: &mut Tree,
-    looks: &mut u64,
-) -> bool
-    requires graph { IsGraph (length need.now) (length owner.old) pairs.now }
-    requires assigned { IsAssigned (length need.now) pairs.now owner.old }
-    requires counted { IsCounted (length need.now) owner.old count.old }
-    requires room { HasRoom (length need.now) (machine_count pairs.now) tree.old }
+fn serve_one(tables: &mut Tables, need: &[u32], root: u32, tree: &mut Tree, looks: &mut u64) -> bool
+    requires graph { IsGraph (length need.now) (length tables.old.owner.now) tables.old.pairs }
+    requires assigned { IsAssigned (length need.now) tables.old.pairs tables.old.owner.now }
+    requires counted { IsCounted (length need.now) tables.old.owner.now tables.old.count.now }
+    requires room { HasRoom (length need.now) (machine_count tables.old.pairs) tree.old }
     requires root { root < length need.now }
-    requires lacking { slice_index count.old root < slice_index need.now root }
-    requires looks { looks.old + pair_total pairs.now < 2 ^ 64 }
-    ensures assigned { IsAssigned (length need.now) pairs.now owner.new }
-    ensures counted { IsCounted (length need.now) owner.new count.new }
-    ensures room { HasRoom (length need.now) (machine_count pairs.now) tree.new }
-    ensures looks { looks.new ≤ looks.old + pair_total pairs.now }
+    requires lacking { slice_index tables.old.count.now root < slice_index need.now root }
+    requires looks { looks.old + pair_total tables.old.pairs < 2 ^ 64 }
+    ensures same { SamePairs tables.old tables.new }
+    ensures assigned { IsAssigned (length need.now) tables.old.pairs tables.new.owner.now }
+    ensures counted { IsCounted (length need.now) tables.new.owner.now tables.new.count.now }
+    ensures room { HasRoom (length need.now) (machine_count tables.old.pairs) tree.new }
+    ensures looks { looks.new ≤ looks.old + pair_total tables.old.pairs }
     ensures more { looks.old ≤ looks.new }
     ensures looked { OnTrue result (looks.old < looks.new) }
-    ensures gained { OnTrue result (GainsOne (length need.now) root need.now owner.old owner.new) }
-    ensures same { OnFalse result (owner.new ≡ owner.old) }
-    ensures stuck { OnFalse result (IsStuck pairs.now owner.new count.new need.now tree.new root) }
+    ensures gained { OnTrue result (GainsOne (length need.now) root need.now tables.old.owner.now tables.new.owner.now) }
+    ensures stays { OnFalse result (tables.new.owner.now ≡ tables.old.owner.now) }
+    ensures stuck { OnFalse result (IsStuck tables.old.pairs tables.new.owner.now tables.new.count.now need.now tree.new root) }
 {
-    let Some(way) = search(pairs, owner, count, need, root, tree, looks) else {
+    let Some(way) = search(tables, need, root, tree, looks) else {
         return false;
     };
     let mut w = way.worker as usize;
     let mut at = way.place;
+    let owner = &mut *tables.owner;
+    let count = &mut *tables.count;
     let source = owner[w] as usize;
     count[source] -= 1;
     count[root as usize] += 1;
@@ -66,45 +62,37 @@ fn serve_one(
     true
 }
 
-/// Moves workers until each function has its need, in the given order, and says whether that was
-/// reached. Where it was not, the functions marked in the tree are short of workers.
-pub fn serve_all(
-    pairs: &Pairs,
-    order: &[u32],
-    need: &[u32],
-    owner: &mut [u32],
-    count: &mut [u32],
-    tree: &mut Tree,
-    looks: &mut u64,
-) -> bool
-    requires order { IsPermutation (range_with_len 0 (length need.now)) order.now }
-    requires graph { IsGraph (length need.now) (length owner.old) pairs.now }
-    requires assigned { IsAssigned (length need.now) pairs.now owner.old }
-    requires counted { IsCounted (length need.now) owner.old count.old }
-    requires room { HasRoom (length need.now) (machine_count pairs.now) tree.old }
-    requires looks { looks.old + (length owner.old + 1) * pair_total pairs.now < 2 ^ 64 }
-    ensures size { length owner.new ≡ length owner.old }
-    ensures assigned { IsAssigned (length need.now) pairs.now owner.new }
-    ensures counted { IsCounted (length need.now) owner.new count.new }
-    ensures room { HasRoom (length need.now) (machine_count pairs.now) tree.new }
-
-    // No function falls below the smaller of its need and its number before.
-    ensures kept { (f : ℕ) → f < length need.now → min (slice_index need.now f) (count_on owner.old f) ≤ count_on owner.new f }
-    ensures capped { (f : ℕ) → f < length need.now → count_on owner.new f ≤ max (slice_index need.now f) (count_on owner.old f) }
-    ensures served { OnTrue result ((f : ℕ) → f < length need.now → slice_index need.now f ≤ count_on owner.new f) }
-    ensures short { OnFalse result ((permits : ℕ → ℕ → Bool) (machines : List ℕ) → length machines ≡ length owner.old → Represents permits machines pairs.now (length need.now) → LacksWorkers permits machines (length need.now) (λ f. slice_index need.now f) (marked tree.new.place.now (length need.now))) }
-    ensures looks_served { OnTrue result (looks.new ≤ looks.old + length owner.old * pair_total pairs.now) }
-    ensures looks { looks.new ≤ looks.old + (length owner.old + 1) * pair_total pairs.now }
+/// Moves workers until each function has its need, in the order of the tables, and says whether that was
+/// reached. Where it was not, the functions marked in the tree are short of workers. The pairs that it
+/// looks at are counted in `looks`, and not in the tables.
+pub fn serve_all(tables: &mut Tables, need: &[u32], tree: &mut Tree, looks: &mut u64) -> bool
+    requires order { IsPermutation (range_with_len 0 (length need.now)) tables.old.order.now }
+    requires graph { IsGraph (length need.now) (length tables.old.owner.now) tables.old.pairs }
+    requires assigned { IsAssigned (length need.now) tables.old.pairs tables.old.owner.now }
+    requires counted { IsCounted (length need.now) tables.old.owner.now tables.old.count.now }
+    requires room { HasRoom (length need.now) (machine_count tables.old.pairs) tree.old }
+    requires looks { looks.old + (length tables.old.owner.now + 1) * pair_total tables.old.pairs < 2 ^ 64 }
+    ensures same { SamePairs tables.old tables.new }
+    ensures assigned { IsAssigned (length need.now) tables.old.pairs tables.new.owner.now }
+    ensures counted { IsCounted (length need.now) tables.new.owner.now tables.new.count.now }
+    ensures room { HasRoom (length need.now) (machine_count tables.old.pairs) tree.new }
+    ensures kept { KeepsServed need.now tables.old tables.new }
+    ensures capped { IsCapped need.now tables.old tables.new }
+    ensures served { OnTrue result ((f : ℕ) → f < length need.now → slice_index need.now f ≤ count_on tables.new.owner.now f) }
+    ensures short { OnFalse result ((permits : ℕ → ℕ → Bool) (machines : List ℕ) → length machines ≡ length tables.old.owner.now → Represents permits machines tables.old.pairs (length need.now) → LacksWorkers permits machines (length need.now) (λ f. slice_index need.now f) (marked tree.new.place.now (length need.now))) }
+    ensures looks_served { OnTrue result (looks.new ≤ looks.old + length tables.old.owner.now * pair_total tables.old.pairs) }
+    ensures looks { looks.new ≤ looks.old + (length tables.old.owner.now + 1) * pair_total tables.old.pairs }
 
     // Each worker who is gained for a need costs a look at least, and so does each idle worker who gets a function.
     ensures more { looks.old ≤ looks.new }
-    ensures paid { looks.old + served need.now owner.new ≤ looks.new + served need.now owner.old }
-    ensures hired { looks.old + count_on owner.old (length need.now) ≤ looks.new + count_on owner.new (length need.now) }
+    ensures paid { looks.old + served need.now tables.new.owner.now ≤ looks.new + served need.now tables.old.owner.now }
+    ensures hired { looks.old + count_on tables.old.owner.now (length need.now) ≤ looks.new + count_on tables.new.owner.now (length need.now) }
 {
+    let order = tables.order;
     for k in 0..order.len() {
         let f = order[k];
-        while count[f as usize] < need[f as usize] {
-            if !serve_one(pairs, need, f, owner, count, tree, looks) {
+        while tables.count[f as usize] < need[f as usize] {
+            if !serve_one(tables, need, f, tree, looks) {
                 return false;
             }
         }

@@ -13,15 +13,13 @@ use Rattle.round_arena.specs.Round.{IsSound, SamePairs, Holds}
 use Rattle.augment.specs.declared.serving.Served.{Served}
 use Rattle.augment.specs.declared.serving.Served.TheVariants.{All as Full, Short}
 use Rattle.augment.specs.Round.{Hires, IsServed, KeepsServed, IsWithinLooks}
+use Rattle.augment.proofs.Rounds.{SamePairs-trans}
 use Rattle.level_search.specs.Levels.{AreNeeds, Fits, AreMet}
 use Rattle.level_search.specs.Found.{IsProbed, KeepsMet}
 use Rattle.level_search.specs.Paid.{passes_at}
 
 pub SamePairs-refl : (t : Tables) → SamePairs t t
 SamePairs-refl t = record { pairs = refl; most = refl; machine = refl; slot = refl; order = refl; staff = refl }
-
-pub SamePairs-trans : (t u v : Tables) → SamePairs t u → SamePairs u v → SamePairs t v
-SamePairs-trans t u v a b = record { pairs = b.pairs ∙ a.pairs; most = b.most ∙ a.most; machine = b.machine ∙ a.machine; slot = b.slot ∙ a.slot; order = b.order ∙ a.order; staff = b.staff ∙ a.staff }
 
 pub Fits-same : (i : Instance) (t u : Tables) → SamePairs t u → Fits i t → Fits i u
 Fits-same i t u s h =

@@ -1,7 +1,5 @@
 -- laws of the filling of idle workers
 use Rattle.std.proofs.Common.{◌≡◌, ℕ, ◌+◌, ◌-◌, ◌<◌, ◌≤◌, ◌⊎◌, List, length, get_or, set, refl, sym, ap, ◌∙◌, subst, arith, inl, inr}
-use Rattle.std.specs.List.{range_with_len}
-use Rattle.std.specs.List.Sorted.{IsStrictlyIncreasing, IsPermutation}
 use Rattle.std.proofs.lemmas.Bool.{cases_eq, cases_lt}
 use Rattle.std.proofs.lemmas.List.{get_or-set_same, get_or-set_other, length-set}
 use Rattle.round_arena.specs.declared.tables.Pairs.{Pairs}
@@ -10,6 +8,7 @@ use Rattle.round_arena.specs.declared.tables.Tables.{Tables}
 use Rattle.round_arena.specs.Plan.{IsPair, IsGraph, IsAssigned, IsCounted, AreWithin, count_on, machine_count}
 use Rattle.round_arena.specs.Round.{IsSound, SamePairs}
 use Rattle.level_search.specs.Filled.{IsFilled, AreBusy, AreBusyUpTo, IsBusyUpTo}
+use Rattle.augment.proofs.Rounds.{IsSound-moved}
 use Rattle.augment.proofs.Flips.{one_if_equal-same, one_if_equal-other, count_on-set, count_on-positive, IsAssigned-set, IsCounted-move}
 
 pub IsFilled-refl : (functions : ℕ) (pairs : Pairs) (most owner count : List ℕ) → IsAssigned functions pairs owner → IsCounted functions owner count → AreWithin functions most owner
@@ -105,38 +104,16 @@ known-pair pairs functions staff w f g l pair =
     let listed : m < machine_count pairs = omega (arith, of_function.3, g.machines.known of_function.0 (omega (arith, of_function.2, g.machines.ends (f + 1) (omega (arith, l))))) in
     omega (arith, of_machine.3, g.workers.known of_machine.0 (omega (arith, of_machine.2, g.workers.ends (m + 1) (omega (arith, listed)))))
 
--- the tables with other owners and counts
-pub IsSound-moved : {functions : ℕ} {u : Tables} (t : Tables) (owner count : List ℕ) → IsSound functions t → length owner ≡ length t.owner.now → IsAssigned functions t.pairs owner → IsCounted functions owner count
-    → AreWithin functions t.most.now owner → SamePairs t u → u.owner.now ≡ owner → u.count.now ≡ count → IsSound functions u
-IsSound-moved {functions = functions} {u = u} t owner count s same_size a c within same eo ec =
-    let size : length u.owner.now ≡ length t.owner.now = ap length eo ∙ same_size in
-    let graph : IsGraph functions (length u.owner.now) u.pairs =
-    subst (λ (p : Pairs). IsGraph functions (length u.owner.now) p) (sym same.pairs)
-    (subst (λ (n : ℕ). IsGraph functions n t.pairs) (sym size) s.graph) in
-    let assigned : IsAssigned functions u.pairs u.owner.now =
-    subst (λ (p : Pairs). IsAssigned functions p u.owner.now) (sym same.pairs)
-    (subst (λ (o : List ℕ). IsAssigned functions t.pairs o) (sym eo) a) in
-    let counted : IsCounted functions u.owner.now u.count.now =
-    subst (λ (o : List ℕ). IsCounted functions o u.count.now) (sym eo) (subst (λ (n : List ℕ). IsCounted functions owner n) (sym ec) c) in
-    let most : u.most.now ≡ t.most.now = ap (λ m. m.now) same.most in
-    record {
-      few = s.few;
-      graph = graph;
-      assigned = assigned;
-      counted = counted;
-      limits = ap length most ∙ s.limits;
-      within = subst (λ (o : List ℕ). AreWithin functions u.most.now o) (sym eo) (subst (λ (m : List ℕ). AreWithin functions m owner) (sym most) within);
-      staff = ap (λ m. length m.now) same.machine ∙ s.staff ∙ sym size;
-      slots = ap (λ m. length m.now) same.slot ∙ s.slots ∙ sym size;
-      rising = subst (λ (z : List ℕ). IsStrictlyIncreasing z) (sym (ap (λ m. m.now) same.slot)) s.rising;
-      order = subst (λ (z : List ℕ). IsPermutation (range_with_len 0 functions) z) (sym (ap (λ m. m.now) same.order)) s.order;
-    }
-
 pub IsSound-filled : {functions : ℕ} {u : Tables} (t : Tables) (pairs : Pairs) (most owner count : List ℕ) → IsSound functions t → t.pairs ≡ pairs → t.most.now ≡ most → IsFilled functions pairs most t.owner.now owner count
     → SamePairs t u → u.owner.now ≡ owner → u.count.now ≡ count → IsSound functions u
 IsSound-filled {functions} {u} t pairs most owner count s e em h same eo ec =
     IsSound-moved {functions = functions} {u = u} t owner count s h.size (subst (λ (p : Pairs). IsAssigned functions p owner) (sym e) h.assigned) h.counted
     (subst (λ (m : List ℕ). AreWithin functions m owner) (sym em) h.within) same eo ec
+
+-- the filling over equal pairs and greatest numbers
+pub filled-at : {functions : ℕ} {before after count : List ℕ} (p q : Pairs) (most limits : List ℕ) → p ≡ q → most ≡ limits → IsFilled functions p most before after count → IsFilled functions q limits before after count
+filled-at {functions} {before} {after} {count} p q most limits ep em h =
+    subst (λ (z : Pairs). IsFilled functions z limits before after count) ep (subst (λ (z : List ℕ). IsFilled functions p z before after count) em h)
 
 pub busy_more : (functions : ℕ) (pairs : Pairs) (most before after count : List ℕ) (f : ℕ) → IsFilled functions pairs most before after count → f < functions
     → ((g : ℕ) → g < f → IsBusyUpTo pairs most before functions g (get_or pairs.machines.first.now (g + 1) 0)) → IsBusyUpTo pairs most after functions f (get_or pairs.machines.first.now (f + 1) 0)

@@ -19,8 +19,11 @@ use Rattle.level_search.specs.declared.previous.Seed.{Seed}
 use Rattle.level_search.specs.Levels.{AreMet, Fits}
 use Rattle.level_search.specs.Found.{IsFound, Serves}
 use Rattle.level_search.specs.Answered.{Starts}
+use Rattle.level_search.specs.declared.previous.Origin.{Origin}
+use Rattle.level_search.specs.declared.previous.Origin.TheVariants.{Previous}
 use Rattle.level_search.specs.Steady.{HasPlan, IsSteady, IsSeed}
-use Rattle.level_search.proofs.Bisecting.{Fits-same, SamePairs-trans}
+use Rattle.augment.proofs.Rounds.{SamePairs-trans}
+use Rattle.level_search.proofs.Bisecting.{Fits-same}
 use Rattle.level_search.proofs.Showing.{Tells, plan_of, plan_of-is, plan-at, machine-at, workers_on-is, is_permitted-plan, meets_most-plan}
 
 -- tables that serve the level that was found
@@ -92,11 +95,11 @@ pub Tells-start : (i : Instance) (t : Tables) → Starts i t → Tells i t
 Tells-start i t starts = record { sound = starts.sound; fits = starts.fits; slots = starts.slots }
 
 -- the previous plan stays, from the tables at the start, after the search and put back
-pub steady-kept : (i : Instance) (t0 t1 t2 : Tables) (kept : Bool) (seed : Seed) (found : Found) (previous : List (ℕ × Option ℕ)) (answer : Answer) → IsInstance i → Starts i t0 → round.plan_of t0 ≡ cut_plan i previous → seed.owner.now ≡ t0.owner.now
+pub steady-kept : (i : Instance) (t0 t1 t2 : Tables) (origin : Origin) (seed : Seed) (found : Found) (previous : List (ℕ × Option ℕ)) (answer : Answer) → IsInstance i → Starts i t0 → round.plan_of t0 ≡ cut_plan i previous → seed.owner.now ≡ t0.owner.now
     → SamePairs t0 t1 → round.IsSound (length i.least) t1 → IsFound i t1 found → SamePairs t1 t2 → (Serves i seed.owner.now found → t2.owner.now ≡ seed.owner.now)
-    → (Serves i seed.owner.now found → kept ≡ true) → (kept ≡ true → Serves i t2.owner.now found → is_full i (assigned (round.plan_of t2)) ≡ true → HasPlan (round.plan_of t2) answer)
+    → (Serves i seed.owner.now found → origin ≡ Previous) → (origin ≡ Previous → Serves i t2.owner.now found → is_full i (assigned (round.plan_of t2)) ≡ true → HasPlan (round.plan_of t2) answer)
     → IsSteady i previous answer
-steady-kept i t0 t1 t2 kept seed found previous answer valid starts cut eo same1 sound found_at same2 put_back is_kept answers best full =
+steady-kept i t0 t1 t2 origin seed found previous answer valid starts cut eo same1 sound found_at same2 put_back is_kept answers best full =
     let tells0 : Tells i t0 = Tells-start i t0 starts in
     let tells1 : Tells i t1 = Tells-same i t0 t1 starts sound same1 in
     let plan0 : plan_of i t0 ≡ cut_plan i previous = sym (plan_of-is i t0 tells0) ∙ cut in

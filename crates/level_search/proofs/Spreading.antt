@@ -21,7 +21,8 @@ use Rattle.level_search.specs.Levels.{Fits, AreMet}
 use Rattle.level_search.specs.Filled.{IsFilled, IsFull}
 use Rattle.level_search.specs.Spread.{IsSettled, LeavesNobody, row_length, pairs_of}
 use Rattle.level_search.proofs.Bisecting.{Fits-same}
-use Rattle.level_search.proofs.Filling.{IsSound-moved, known-pair}
+use Rattle.augment.proofs.Rounds.{IsSound-moved}
+use Rattle.level_search.proofs.Filling.{known-pair}
 use Rattle.level_search.proofs.Keeping.{idle-filled}
 use Rattle.level_search.proofs.Showing.{Tells, plan_of-is, plan_of}
 

@@ -4,6 +4,7 @@ ghost use Rattle.round_arena.specs.Round.{IsSound, SamePairs};
 ghost use Rattle.level_search.specs.Levels.{Fits, AreMet};
 ghost use Rattle.level_search.specs.Found.{IsFound, Serves};
 ghost use Rattle.level_search.specs.Steady.{IsSeed};
+ghost use Rattle.level_search.specs.declared.previous.Origin.TheVariants.{Previous};
 
 use crate::bisect::Found;
 use bumpalo::Bump;
@@ -16,6 +17,15 @@ use std::alloc::AllocError;
 pub struct Seed<'a> {
     pub owner: &'a [u32],
     pub count: &'a [u32],
+}
+
+/// Where the functions of the workers come from, once a level is found.
+#[derive(Clone, Copy)]
+pub enum Origin {
+    /// They are those of the plan before, as far as it is left.
+    Previous,
+    /// The search moved workers.
+    Search,
 }
 
 /// Copies the owners and counts of the tables.
@@ -53,9 +63,9 @@ fn serves(seed: &Seed, input: &Input, found: &Found) -> bool
     }
 }
 
-/// Puts the workers back on what they did before, where that serves the level that was found, and says
-/// whether it does: a search that got stuck may have moved them for nothing.
-pub fn put_back(tables: &mut Tables, seed: &Seed, input: &Input, found: &Found) -> bool
+/// Puts the workers back on what they did before, where that serves the level that was found: a search that
+/// got stuck may have moved them for nothing.
+pub fn put_back(tables: &mut Tables, seed: &Seed, input: &Input, found: &Found) -> Origin
     requires sound { IsSound (length input.now.least) tables.old }
     requires seed { IsSeed (length input.now.least) tables.old seed.now }
     requires found { IsFound input.now tables.old found.now }
@@ -63,13 +73,15 @@ pub fn put_back(tables: &mut Tables, seed: &Seed, input: &Input, found: &Found) 
     ensures same { SamePairs tables.old tables.new }
     ensures found { IsFound input.now tables.new found.now }
     ensures kept { Serves input.now seed.now.owner.now found.now → tables.new.owner.now ≡ seed.now.owner.now }
-    ensures serves { IsTrue result ↔ Serves input.now seed.now.owner.now found.now }
+    ensures origin { (result ≡ Previous) ↔ Serves input.now seed.now.owner.now found.now }
     ensures looks { tables.new.looks ≡ tables.old.looks }
 {
     let is_kept = serves(seed, input, found);
     if is_kept {
         tables.owner.copy_from_slice(seed.owner);
         tables.count.copy_from_slice(seed.count);
+        Origin::Previous
+    } else {
+        Origin::Search
     }
-    is_kept
 }

@@ -9,10 +9,11 @@ ghost use Rattle.level_search.specs.Levels.{Fits};
 ghost use Rattle.level_search.specs.Found.{IsFound, Serves};
 ghost use Rattle.level_search.specs.Answered.{Starts, evidence};
 ghost use Rattle.level_search.specs.Steady.{HasPlan, IsSteady};
+ghost use Rattle.level_search.specs.declared.previous.Origin.TheVariants.{Previous};
 ghost use Rattle.level_search.specs.Paid.{Fills, PaysForPlan};
 
 use crate::bisect::{Found, solve_levels};
-use crate::previous::{put_back, remember};
+use crate::previous::{Origin, put_back, remember};
 use crate::spread::settle;
 use bumpalo::Bump;
 use plan_model::{Answer, FuncId, FuncSet, Input, Plan};
@@ -80,13 +81,13 @@ fn start<'a>(
     }
 }
 
-// The answer that the tables and the set give. `kept` says that the tables have what is left of the plan before.
+// The answer that the tables and the set give.
 fn answer<'a>(
     alloc: Global,
     tables: &mut Tables<'a>,
     input: &Input,
     found: Found<'a>,
-    kept: bool,
+    origin: Origin,
 ) -> Result<Answer, AllocError>
     requires sound { IsSound (length input.now.least) tables.old }
     requires fits { Fits input.now tables.old }
@@ -96,8 +97,8 @@ fn answer<'a>(
     requires looks { tables.old.looks + 2 * pair_total tables.old.pairs < 2 ^ 64 }
     ensures shown { IfOk result (Shown input.now) }
 
-    // Where nobody is idle for nothing, and the tables are kept, the answer's plan is the tables'.
-    ensures kept { IfOk result (λ answer. IsTrue kept → Serves input.now tables.old.owner.now found.entry → IsTrue (is_full input.now (assigned (plan_of tables.old))) → HasPlan (plan_of tables.old) answer) }
+    // Where nobody is idle for nothing, and the tables hold the plan before, the answer's plan is theirs.
+    ensures kept { IfOk result (λ answer. origin ≡ Previous → Serves input.now tables.old.owner.now found.entry → IsTrue (is_full input.now (assigned (plan_of tables.old))) → HasPlan (plan_of tables.old) answer) }
     ensures looks { IfOk result (Fills found.entry (pair_total tables.old.pairs) tables.old.looks tables.new.looks) }
 {
     let _live = input.live();
@@ -106,7 +107,7 @@ fn answer<'a>(
             short: copy_set(alloc, set)?,
         }),
         Found::Level(level, set) => {
-            settle(tables, input, level, kept);
+            settle(tables, input, level, origin);
             let plan = copy_plan(alloc, tables)?;
             let short = copy_evidence(alloc, level, set)?;
             Ok(Answer::Planned {
@@ -154,8 +155,8 @@ pub fn solve(
     let _live = input.live();
     let seed = remember(bump, &tables)?;
     let found = solve_levels(&mut tables, input)?;
-    let kept = put_back(&mut tables, &seed, input, &found);
-    let answer = answer(alloc, &mut tables, input, found, kept)?;
+    let origin = put_back(&mut tables, &seed, input, &found);
+    let answer = answer(alloc, &mut tables, input, found, origin)?;
     Ok(Solved {
         answer,
         looks: looks(&tables),

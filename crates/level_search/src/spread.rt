@@ -6,9 +6,11 @@ ghost use Rattle.round_arena.specs.Round.{IsSound, SamePairs};
 ghost use Rattle.level_search.specs.Filled.{IsFull};
 ghost use Rattle.level_search.specs.Levels.{AreMet, Fits};
 ghost use Rattle.level_search.specs.Paid.{passes_at};
+ghost use Rattle.level_search.specs.declared.previous.Origin.TheVariants.{Previous};
 ghost use Rattle.level_search.specs.Spread.{IsSettled, LeavesNobody, row_length};
 
 use crate::fill::fill_idle;
+use crate::previous::Origin;
 use plan_model::{FuncId, Input, MachineId, TOP_LEVEL};
 use round_arena::Tables;
 
@@ -131,10 +133,11 @@ pub fn spread(tables: &mut Tables, input: &Input, level: u64)
     }
 }
 
-/// Gives idle workers something to do, and, where the plan of before is not kept, sends spare workers where they help.
+/// Gives idle workers something to do. Where that moves nobody from the plan before, it stays as it is; else spare workers are sent where
+/// they help.
 ///
 /// At the top level nobody is moved: there some function with the greatest number of waiting jobs has no worker at all.
-pub fn settle(tables: &mut Tables, input: &Input, level: u64, kept: bool)
+pub fn settle(tables: &mut Tables, input: &Input, level: u64, origin: Origin)
     requires sound { IsSound (length input.now.least) tables.old }
     requires fits { Fits input.now tables.old }
     requires met { AreMet input.now tables.old.owner.now level }
@@ -143,14 +146,17 @@ pub fn settle(tables: &mut Tables, input: &Input, level: u64, kept: bool)
     requires looks { tables.old.looks + 2 * pair_total tables.old.pairs < 2 ^ 64 }
     ensures settled { IsSettled input.now level tables.new }
     ensures same { SamePairs tables.old tables.new }
-    ensures kept { IsTrue kept → IsFull (length input.now.least) tables.old → tables.new.owner.now ≡ tables.old.owner.now }
+    ensures kept { origin ≡ Previous → IsFull (length input.now.least) tables.old → tables.new.owner.now ≡ tables.old.owner.now }
     ensures looks { tables.new.looks ≤ tables.old.looks + passes_at level * pair_total tables.old.pairs }
     ensures more { tables.old.looks + pair_total tables.old.pairs ≤ tables.new.looks }
 {
     let functions = input.functions();
     let idle = tables.count[functions];
     fill_idle(tables, functions as u32);
-    let is_kept = kept && tables.count[functions] == idle;
+    let is_kept = match origin {
+        Origin::Previous => tables.count[functions] == idle,
+        Origin::Search => false,
+    };
     if !is_kept && level < TOP_LEVEL {
         spread(tables, input, level);
     }

@@ -8,14 +8,14 @@ use crate::rule::{BoardRule, Chosen, Looking, Opening, Posting, Reading, Retirin
 use crate::seat::{PublisherSeat, ReaderSeat, SeatSource};
 use crate::view::View;
 use atomic_table::{Seat, Table};
-use plan_model::SlotId;
+use plan_model::{MAX_WORKERS, SlotId};
 use std::alloc::{AllocError, Global};
 use std::marker::{Brand, Model};
 use thiserror::Error;
 use worker_state::Order;
 
 /// A board has no more slots than a pool.
-const MAX_SLOTS: u32 = 4096;
+const MAX_SLOTS: u32 = MAX_WORKERS as u32;
 
 type Words = Table<(), View, usize, BoardRule, Global>;
 

@@ -25,8 +25,8 @@ pub struct Pairs<'p> {
 /// The tables of a planning round, all of them slices of one arena. A worker is its place in the
 /// list of live workers.
 ///
-/// The fields are public, since the search lends them one by one; `IsSound` says how they fit
-/// together, and each call that takes tables asks for it and gives it back.
+/// The fields are public, since the search moves workers over `owner` and `count` one step at a time;
+/// `IsSound` says how they fit together, and each call that takes tables asks for it and gives it back.
 #[derive(Drop)]
 pub struct Tables<'a> {
     /// Where the tables lie, and where the search makes its own.

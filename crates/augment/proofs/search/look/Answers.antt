@@ -7,18 +7,18 @@ use Rattle.augment.proofs.search.look.Goals.{then-tree-g-eq0+else-need-g, else-t
 
 pub reach-requires-clause-tail : goal.reach-requires-clause-tail
 reach-requires-clause-tail c =
-    let w = get_or c.args.pairs.now.workers.items.now c.loop-k.k 0 in
+    let w = get_or c.args.tables.now.pairs.workers.items.now c.loop-k.k 0 in
     let t = c.loop-k.tree in
     let h = c.loop-k.invariant.tree in
-    let wl : w < length c.args.owner.now = c.requires.graph.workers.known c.loop-k.k (search rules) in
-    let gl : get_or c.args.owner.now w 0 < length c.args.need.now = omega (arith, c.requires.owners w wl, c.if-g-need.false) in
-    omega (arith, tail-lt t (get_or c.args.owner.now w 0) h gl c.if-tree-g-eq0.true, h.room.place)
+    let wl : w < length c.args.tables.now.owner.now = c.requires.graph.workers.known c.loop-k.k (search rules) in
+    let gl : get_or c.args.tables.now.owner.now w 0 < length c.args.need.now = omega (arith, c.requires.owners w wl, c.if-g-need.false) in
+    omega (arith, tail-lt t (get_or c.args.tables.now.owner.now w 0) h gl c.if-tree-g-eq0.true, h.room.place)
 
 pub loop-k-preserved : goal.loop-k-preserved
 loop-k-preserved c =
-    let p = c.args.pairs.now in
-    let owner = c.args.owner.now in
-    let count = c.args.count.now in
+    let p = c.args.tables.now.pairs in
+    let owner = c.args.tables.now.owner.now in
+    let count = c.args.tables.now.count.now in
     let need = c.args.need.now in
     let s = c.args.tree.now in
     let t = c.loop-k.tree in

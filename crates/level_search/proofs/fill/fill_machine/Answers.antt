@@ -23,14 +23,14 @@ pub overflow_sub-count : goal.overflow_sub-count
 overflow_sub-count c =
     let owner = c.loop-k.owner in
     let i = c.loop-k.invariant in
-    let w = get_or c.args.pairs.now.workers.items.now c.loop-k.k 0 in
-    let wl : w < length owner = omega (arith, c.requires.graph.workers.known c.loop-k.k (search rules), i.filled.size) in
+    let w = get_or c.args.tables.now.pairs.workers.items.now c.loop-k.k 0 in
+    let wl : w < length owner = omega (arith, c.requires.sound.graph.workers.known c.loop-k.k (search rules), i.filled.size) in
     omega (arith, count_on-positive owner w wl, ap (count_on owner) c.if-owner-w.true, i.filled.counted.counts c.args.functions (omega arith))
 
 pub loop-k-preserved : goal.loop-k-preserved
 loop-k-preserved c =
-    let p = c.args.pairs.now in
-    let most = c.args.most.now in
+    let p = c.args.tables.now.pairs in
+    let most = c.args.tables.now.most.now in
     let f = c.args.f in
     let m = c.args.m in
     let functions = c.args.functions in
@@ -38,7 +38,7 @@ loop-k-preserved c =
     let count = c.loop-k.count in
     let w = get_or p.workers.items.now c.loop-k.k 0 in
     let i = c.loop-k.invariant in
-    let wl : w < length owner = omega (arith, c.requires.graph.workers.known c.loop-k.k (search rules), i.filled.size) in
+    let wl : w < length owner = omega (arith, c.requires.sound.graph.workers.known c.loop-k.k (search rules), i.filled.size) in
     let pr : IsPair p w f = (m, c.requires.machine, (c.loop-k.k, c.loop-k.auto.k, c.loop-k-test.true, refl)) in
     let counted : get_or count f 0 ≡ count_on owner f = i.filled.counted.counts f (omega (arith, c.requires.f)) in
     elim c.if-owner-w.branch [
@@ -50,7 +50,7 @@ loop-k-preserved c =
           (IsFilled-set functions p most owner count w f i.filled.assigned i.filled.counted i.filled.within wl c.requires.f b.if-owner-w.true pr low)) in
           let here : get_or c.if-owner-w.owner w 0 ≡ f = ap (λ z. get_or z w 0) b.owner-is ∙ get_or-set_same owner w f 0 wl in
           record {
-            filled = IsFilled-trans functions p most c.args.owner.now owner c.if-owner-w.owner count c.if-owner-w.count i.filled step;
+            filled = IsFilled-trans functions p most c.args.tables.now.owner.now owner c.if-owner-w.owner count c.if-owner-w.count i.filled step;
             busy = AreBusyUpTo-more functions p most c.if-owner-w.owner f m c.loop-k.k (AreBusyUpTo-filled functions p most owner c.if-owner-w.owner c.if-owner-w.count f m c.loop-k.k step c.requires.f i.busy) (inl (omega (arith, here, c.requires.f)));
             looks = omega (arith, i.looks);
           }
@@ -61,8 +61,8 @@ loop-k-preserved c =
             | else-owner-w-via-else-owner-w d ↦ inl (omega (arith, i.filled.assigned.below w wl, d.if-owner-w.false))
           ] in
           record {
-            filled = subst (λ (z : List ℕ). IsFilled functions p most c.args.owner.now z c.if-owner-w.count) (sym b.owner-is)
-                (subst (λ (z : List ℕ). IsFilled functions p most c.args.owner.now owner z) (sym b.count-is) i.filled);
+            filled = subst (λ (z : List ℕ). IsFilled functions p most c.args.tables.now.owner.now z c.if-owner-w.count) (sym b.owner-is)
+                (subst (λ (z : List ℕ). IsFilled functions p most c.args.tables.now.owner.now owner z) (sym b.count-is) i.filled);
             busy = subst (λ (z : List ℕ). AreBusyUpTo p most z functions f m (c.loop-k.k + 1)) (sym b.owner-is) (AreBusyUpTo-more functions p most owner f m c.loop-k.k i.busy busy_here);
             looks = omega (arith, i.looks);
           }

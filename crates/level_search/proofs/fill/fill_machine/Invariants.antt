@@ -4,7 +4,7 @@ use Rattle.level_search.proofs.fill.fill_machine.Given as goal
 
 abbrev pub invariant-loop-k : goal.invariant-loop-k
 invariant-loop-k l = record {
-  filled : IsFilled l.functions l.pairs l.most l.fn.owner l.owner l.count;
-  busy : AreBusyUpTo l.pairs l.most l.owner l.functions l.f l.m l.k;
-  looks : l.looks + slice_index l.pairs.workers.first.now l.m ≡ l.fn.looks + l.k;
+  filled : IsFilled l.functions l.fn.tables.pairs l.fn.tables.most.now l.fn.tables.owner.now l.owner l.count;
+  busy : AreBusyUpTo l.fn.tables.pairs l.fn.tables.most.now l.owner l.functions l.f l.m l.k;
+  looks : l.looks + slice_index l.fn.tables.pairs.workers.first.now l.m ≡ l.fn.tables.looks + l.k;
 }

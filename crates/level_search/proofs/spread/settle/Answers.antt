@@ -1,10 +1,19 @@
 use Rattle.std.proofs.Common.{◌≡◌, ℕ, length, get_or, ap, sym, subst, ◌∙◌, arith}
 use Rattle.std.proofs.lemmas.Bool.{eq-eqb, false≢true}
 use Rattle.round_arena.specs.Plan.{count_on}
+use Rattle.level_search.specs.declared.previous.Origin.{Origin}
+use Rattle.level_search.specs.declared.previous.Origin.TheVariants.{Previous, Search}
 use Rattle.level_search.specs.Filled.{IsFilled}
 use Rattle.level_search.proofs.Spreading.{IsSettled-filled, filled-still}
 use Rattle.level_search.proofs.spread.settle.Goals as goal
-use Rattle.level_search.proofs.spread.settle.Goals.{then-kept, else-kept}
+use Rattle.level_search.proofs.spread.settle.Goals.{in-Previous, in-Search}
+
+abbrev IsPrevious : Origin → Type 0
+IsPrevious Previous = Unit {0}
+IsPrevious Search = ⊥
+
+search-moves : Search ≡ Previous → ⊥
+search-moves q = subst (λ (o : Origin). IsPrevious o) (sym q) (tt {0})
 
 pub spread-requires-clause-settled : goal.spread-requires-clause-settled
 spread-requires-clause-settled c =
@@ -34,7 +43,7 @@ returns-then-level-lt-TOP_LEVEL-clause-kept c kept full =
     let still : u.owner.now ≡ t.owner.now = filled-still n t u c.requires.sound filled full in
     let idle : get_or u.count.now m 0 ≡ get_or t.count.now m 0 =
     filled.counted.counts m (omega (arith, c.functions-functions.ensures.all)) ∙ ap (λ o. count_on o m) still ∙ sym (c.requires.sound.counted.counts m (omega (arith, c.functions-functions.ensures.all))) in
-    elim c.if-kept.branch [
-      | then-kept w ↦ absurd (false≢true (sym c.if-not-is_kept.true ∙ w.is_kept-is ∙ eq-eqb (get_or u.count.now m 0) (get_or t.count.now m 0) idle))
-      | else-kept w ↦ absurd (false≢true (sym w.if-kept.false ∙ kept))
+    elim c.match-origin.branch [
+      | in-Previous w ↦ absurd (false≢true (sym c.if-not-is_kept.true ∙ w.is_kept-is ∙ eq-eqb (get_or u.count.now m 0) (get_or t.count.now m 0) idle))
+      | in-Search w ↦ absurd (search-moves (sym w.in-Search.is ∙ kept))
     ]
