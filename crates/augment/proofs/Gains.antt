@@ -12,7 +12,7 @@ use Rattle.std.proofs.lemmas.List.Sums.{sum_by-cons}
 use Rattle.augment.specs.declared.search.Tree.{Tree}
 use Rattle.round_arena.specs.declared.tables.Pairs.{Pairs}
 use Rattle.round_arena.specs.declared.tables.Tables.{Tables}
-use Rattle.round_arena.specs.Round.{IsSound}
+use Rattle.round_arena.specs.Round.{IsConsistent}
 use Rattle.augment.specs.Round.{AreLimited}
 use Rattle.round_arena.specs.Plan.{pair_total, machine_count, IsAssigned, IsCounted, AreWithin, count_on}
 use Rattle.augment.specs.Tree.{HasRoom}
@@ -196,7 +196,7 @@ looks-le pairs order need before owner count tree looks_before looks_now done s 
     omega (arith, few, s.looks)
 
 -- needs that are within the greatest numbers give no function more
-pub AreWithin-served : (need : List ℕ) (t : Tables) (after : List ℕ) → IsSound (length need) t → AreLimited need t → ((f : ℕ) → f < length need → get_or need f 0 ≤ length t.owner.now)
+pub AreWithin-served : (need : List ℕ) (t : Tables) (after : List ℕ) → IsConsistent (length need) t → AreLimited need t → ((f : ℕ) → f < length need → get_or need f 0 ≤ length t.owner.now)
     → ((f : ℕ) → f < length need → count_on after f ≤ max (get_or need f 0) (count_on t.owner.now f)) → AreWithin (length need) t.most.now after
 AreWithin-served need t after s limited few capped f l =
     elim (limited f l) [

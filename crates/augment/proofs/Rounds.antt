@@ -5,16 +5,16 @@ use Rattle.std.specs.List.Sorted.{IsStrictlyIncreasing, IsPermutation}
 use Rattle.round_arena.specs.declared.tables.Pairs.{Pairs}
 use Rattle.round_arena.specs.declared.tables.Tables.{Tables}
 use Rattle.round_arena.specs.Plan.{IsGraph, IsAssigned, IsCounted, AreWithin}
-use Rattle.round_arena.specs.Round.{IsSound, SamePairs}
+use Rattle.round_arena.specs.Round.{IsConsistent, SamePairs}
 
 -- what stays over two calls
 pub SamePairs-trans : (t u v : Tables) → SamePairs t u → SamePairs u v → SamePairs t v
 SamePairs-trans t u v a b = record { pairs = b.pairs ∙ a.pairs; most = b.most ∙ a.most; machine = b.machine ∙ a.machine; slot = b.slot ∙ a.slot; order = b.order ∙ a.order; staff = b.staff ∙ a.staff }
 
 -- the tables with other owners and counts
-pub IsSound-moved : {functions : ℕ} {u : Tables} (t : Tables) (owner count : List ℕ) → IsSound functions t → length owner ≡ length t.owner.now → IsAssigned functions t.pairs owner → IsCounted functions owner count
-    → AreWithin functions t.most.now owner → SamePairs t u → u.owner.now ≡ owner → u.count.now ≡ count → IsSound functions u
-IsSound-moved {functions = functions} {u = u} t owner count s same_size a c within same eo ec =
+pub IsConsistent-moved : {functions : ℕ} {u : Tables} (t : Tables) (owner count : List ℕ) → IsConsistent functions t → length owner ≡ length t.owner.now → IsAssigned functions t.pairs owner → IsCounted functions owner count
+    → AreWithin functions t.most.now owner → SamePairs t u → u.owner.now ≡ owner → u.count.now ≡ count → IsConsistent functions u
+IsConsistent-moved {functions = functions} {u = u} t owner count s same_size a c within same eo ec =
     let size : length u.owner.now ≡ length t.owner.now = ap length eo ∙ same_size in
     let graph : IsGraph functions (length u.owner.now) u.pairs =
     subst (λ (p : Pairs). IsGraph functions (length u.owner.now) p) (sym same.pairs)

@@ -1,7 +1,7 @@
 ghost use Rattle.std.specs.Prelude.{◌≡◌, ℕ, ◌+◌, ◌*◌, ◌^◌, ◌<◌, ◌≤◌, length, slice_index, IfOk, OnErr, IfSome, IfNone};
 ghost use Rattle.augment.specs.Short.{marked};
 ghost use Rattle.round_arena.specs.Plan.{pair_total};
-ghost use Rattle.round_arena.specs.Round.{IsSound, SamePairs};
+ghost use Rattle.round_arena.specs.Round.{IsConsistent, SamePairs};
 ghost use Rattle.augment.specs.Round.{AreLimited, IsServed, KeepsServed, IsCapped, IsWithinLooks, PaysForWorkers};
 
 use crate::search::Tree;
@@ -28,10 +28,10 @@ use std::alloc::AllocError;
 /// The only error is that a growth of the arena was refused. All growths are made first, so then the
 /// tables are as before.
 pub fn serve<'a>(tables: &mut Tables<'a>, need: &[u32]) -> Result<Served<'a>, AllocError>
-    requires sound { IsSound (length need.now) tables.old }
+    requires sound { IsConsistent (length need.now) tables.old }
     requires limited { AreLimited need.now tables.old }
     requires looks { tables.old.looks + (length tables.old.owner.now + 1) * pair_total tables.old.pairs < 2 ^ 64 }
-    ensures sound { IsSound (length need.now) tables.new }
+    ensures sound { IsConsistent (length need.now) tables.new }
     ensures same { SamePairs tables.old tables.new }
     ensures served { IfOk result (IsServed need.now tables.new) }
     ensures kept { KeepsServed need.now tables.old tables.new }

@@ -9,7 +9,7 @@ use Rattle.plan_model.proofs.Reached.{need-falls}
 use Rattle.round_arena.specs.declared.tables.Tables.{Tables}
 use Rattle.round_arena.specs.declared.tables.Pairs.{Pairs}
 use Rattle.round_arena.specs.Plan.{pair_total, Represents}
-use Rattle.round_arena.specs.Round.{IsSound, SamePairs, Holds}
+use Rattle.round_arena.specs.Round.{IsConsistent, SamePairs, Holds}
 use Rattle.augment.specs.declared.serving.Served.{Served}
 use Rattle.augment.specs.declared.serving.Served.TheVariants.{All as Full, Short}
 use Rattle.augment.specs.Round.{Hires, IsServed, KeepsServed, IsWithinLooks}
@@ -56,7 +56,7 @@ IsProbed-served i needs level t (Short set) e fits h =
 
 -- how far the bisection has come
 pub record IsBisecting (i : Instance) (before now : Tables) (low high round : ℕ) (set : List ℕ) : Type 0 where
-  pub sound : IsSound (length i.least) now
+  pub sound : IsConsistent (length i.least) now
   pub same : SamePairs before now
   pub fits : Fits i now
   pub order : low ≤ high
@@ -142,7 +142,7 @@ passes-left i set before now low high h =
 
 -- the middle level was served
 pub IsBisecting-met : (i : Instance) (set : List ℕ) (before now then : Tables) (low high round middle : ℕ) → IsBisecting i before now low high round set → round < 33 → low < high → middle ≡ low + (high - low) / 2
-    → IsSound (length i.least) then → SamePairs now then → AreMet i then.owner.now middle → IsWithinLooks now then Full → Hires (length i.least) now then
+    → IsConsistent (length i.least) then → SamePairs now then → AreMet i then.owner.now middle → IsWithinLooks now then Full → Hires (length i.least) now then
     → IsBisecting i before then low middle (round + 1) set
 IsBisecting-met i set before now then low high round middle h r l m sound same met w more =
     let half : 2 ^ (33 - round) ≡ 2 ^ (33 - (round + 1)) + 2 ^ (33 - (round + 1)) = half_width round r in
@@ -161,7 +161,7 @@ IsBisecting-met i set before now then low high round middle h r l m sound same m
 
 -- the middle level is short
 pub IsBisecting-short : (i : Instance) (set : List ℕ) (before now then : Tables) (low high round middle : ℕ) (found : Served) (more : List ℕ) → IsBisecting i before now low high round set → round < 33 → low < high → middle ≡ low + (high - low) / 2
-    → IsSound (length i.least) then → SamePairs now then → KeepsMet i middle now then → IsShort i middle more → IsWithinLooks now then found → Hires (length i.least) now then
+    → IsConsistent (length i.least) then → SamePairs now then → KeepsMet i middle now then → IsShort i middle more → IsWithinLooks now then found → Hires (length i.least) now then
     → IsBisecting i before then (middle + 1) high (round + 1) more
 IsBisecting-short i set before now then low high round middle found more h r l m sound same kept short w hired =
     let half : 2 ^ (33 - round) ≡ 2 ^ (33 - (round + 1)) + 2 ^ (33 - (round + 1)) = half_width round r in

@@ -6,9 +6,9 @@ use Rattle.round_arena.specs.declared.tables.Pairs.{Pairs}
 use Rattle.augment.specs.Moves.{one_if_equal}
 use Rattle.round_arena.specs.declared.tables.Tables.{Tables}
 use Rattle.round_arena.specs.Plan.{IsPair, IsGraph, IsAssigned, IsCounted, AreWithin, count_on, machine_count}
-use Rattle.round_arena.specs.Round.{IsSound, SamePairs}
+use Rattle.round_arena.specs.Round.{IsConsistent, SamePairs}
 use Rattle.level_search.specs.Filled.{IsFilled, AreBusy, AreBusyUpTo, IsBusyUpTo}
-use Rattle.augment.proofs.Rounds.{IsSound-moved}
+use Rattle.augment.proofs.Rounds.{IsConsistent-moved}
 use Rattle.augment.proofs.Flips.{one_if_equal-same, one_if_equal-other, count_on-set, count_on-positive, IsAssigned-set, IsCounted-move}
 
 pub IsFilled-refl : (functions : ℕ) (pairs : Pairs) (most owner count : List ℕ) → IsAssigned functions pairs owner → IsCounted functions owner count → AreWithin functions most owner
@@ -104,10 +104,10 @@ known-pair pairs functions staff w f g l pair =
     let listed : m < machine_count pairs = omega (arith, of_function.3, g.machines.known of_function.0 (omega (arith, of_function.2, g.machines.ends (f + 1) (omega (arith, l))))) in
     omega (arith, of_machine.3, g.workers.known of_machine.0 (omega (arith, of_machine.2, g.workers.ends (m + 1) (omega (arith, listed)))))
 
-pub IsSound-filled : {functions : ℕ} {u : Tables} (t : Tables) (pairs : Pairs) (most owner count : List ℕ) → IsSound functions t → t.pairs ≡ pairs → t.most.now ≡ most → IsFilled functions pairs most t.owner.now owner count
-    → SamePairs t u → u.owner.now ≡ owner → u.count.now ≡ count → IsSound functions u
-IsSound-filled {functions} {u} t pairs most owner count s e em h same eo ec =
-    IsSound-moved {functions = functions} {u = u} t owner count s h.size (subst (λ (p : Pairs). IsAssigned functions p owner) (sym e) h.assigned) h.counted
+pub IsConsistent-filled : {functions : ℕ} {u : Tables} (t : Tables) (pairs : Pairs) (most owner count : List ℕ) → IsConsistent functions t → t.pairs ≡ pairs → t.most.now ≡ most → IsFilled functions pairs most t.owner.now owner count
+    → SamePairs t u → u.owner.now ≡ owner → u.count.now ≡ count → IsConsistent functions u
+IsConsistent-filled {functions} {u} t pairs most owner count s e em h same eo ec =
+    IsConsistent-moved {functions = functions} {u = u} t owner count s h.size (subst (λ (p : Pairs). IsAssigned functions p owner) (sym e) h.assigned) h.counted
     (subst (λ (m : List ℕ). AreWithin functions m owner) (sym em) h.within) same eo ec
 
 -- the filling over equal pairs and greatest numbers

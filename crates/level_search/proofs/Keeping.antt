@@ -32,7 +32,7 @@ IsFound-kept i t u owner (Level level set) e h s = (subst (λ (o : List ℕ). Ar
 IsFound-kept i t u owner (Nothing set) e h s = absurd s
 
 -- the owners and counts of the start fit the tables after the search
-pub IsSeed-later : (n : ℕ) (t u : Tables) (seed : Seed) → round.IsSound n t → SamePairs t u → seed.owner.now ≡ t.owner.now → seed.count.now ≡ t.count.now → IsSeed n u seed
+pub IsSeed-later : (n : ℕ) (t u : Tables) (seed : Seed) → round.IsConsistent n t → SamePairs t u → seed.owner.now ≡ t.owner.now → seed.count.now ≡ t.count.now → IsSeed n u seed
 IsSeed-later n t u seed s same eo ec = record {
   size = ap length eo ∙ sym same.staff;
   assigned = subst (λ (p : Pairs). IsAssigned n p seed.owner.now) (sym same.pairs) (subst (λ (o : List ℕ). IsAssigned n t.pairs o) (sym eo) s.assigned);
@@ -80,7 +80,7 @@ idle-filled i t h full w f inside idle below can =
           omega (arith, leb-true _ _ filled, workers_on-is i t h f below)
     ]
 
-pub Tells-now : (i : Instance) (t : Tables) → round.IsSound (length i.least) t → Fits i t → t.slot.now ≡ map (λ worker. worker.0) i.live → Tells i t
+pub Tells-now : (i : Instance) (t : Tables) → round.IsConsistent (length i.least) t → Fits i t → t.slot.now ≡ map (λ worker. worker.0) i.live → Tells i t
 Tells-now i t sound fits slots = record { sound = sound; fits = fits; slots = slots }
 
 -- the plan of tables with the same workers on the same functions
@@ -88,7 +88,7 @@ pub plan_of-same : (t u : Tables) → SamePairs t u → u.owner.now ≡ t.owner.
 plan_of-same t u same e =
     ap (λ n. entries_of (length n.now) u.slot.now u.owner.now) same.order ∙ ap (λ s. entries_of (length t.order.now) s.now u.owner.now) same.slot ∙ ap (λ o. entries_of (length t.order.now) t.slot.now o) e
 
-Tells-same : (i : Instance) (t u : Tables) → Starts i t → round.IsSound (length i.least) u → SamePairs t u → Tells i u
+Tells-same : (i : Instance) (t u : Tables) → Starts i t → round.IsConsistent (length i.least) u → SamePairs t u → Tells i u
 Tells-same i t u starts sound same = record { sound = sound; fits = Fits-same i t u same starts.fits; slots = ap (λ s. s.now) same.slot ∙ starts.slots }
 
 pub Tells-start : (i : Instance) (t : Tables) → Starts i t → Tells i t
@@ -96,7 +96,7 @@ Tells-start i t starts = record { sound = starts.sound; fits = starts.fits; slot
 
 -- the previous plan stays, from the tables at the start, after the search and put back
 pub steady-kept : (i : Instance) (t0 t1 t2 : Tables) (origin : Origin) (seed : Seed) (found : Found) (previous : List (ℕ × Option ℕ)) (answer : Answer) → IsInstance i → Starts i t0 → round.plan_of t0 ≡ cut_plan i previous → seed.owner.now ≡ t0.owner.now
-    → SamePairs t0 t1 → round.IsSound (length i.least) t1 → IsFound i t1 found → SamePairs t1 t2 → (Serves i seed.owner.now found → t2.owner.now ≡ seed.owner.now)
+    → SamePairs t0 t1 → round.IsConsistent (length i.least) t1 → IsFound i t1 found → SamePairs t1 t2 → (Serves i seed.owner.now found → t2.owner.now ≡ seed.owner.now)
     → (Serves i seed.owner.now found → origin ≡ Previous) → (origin ≡ Previous → Serves i t2.owner.now found → is_full i (assigned (round.plan_of t2)) ≡ true → HasPlan (round.plan_of t2) answer)
     → IsSteady i previous answer
 steady-kept i t0 t1 t2 origin seed found previous answer valid starts cut eo same1 sound found_at same2 put_back is_kept answers best full =

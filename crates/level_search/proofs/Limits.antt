@@ -5,7 +5,7 @@ use Rattle.std.proofs.lemmas.Bool.{cases_Bool}
 use Rattle.std.proofs.lemmas.List.{length-map}
 use Rattle.plan_model.specs.Planning.{Instance, need, counted_waiting, cost}
 use Rattle.round_arena.specs.declared.tables.Tables.{Tables}
-use Rattle.round_arena.specs.Round.{IsSound}
+use Rattle.round_arena.specs.Round.{IsConsistent}
 use Rattle.augment.specs.Round.{AreLimited}
 use Rattle.level_search.specs.Levels.{AreNeeds, Fits}
 
@@ -32,7 +32,7 @@ need-limited i level f =
       | inr none ↦ inr none
     ]
 
-pub AreLimited-needs : (i : Instance) (needs : List ℕ) (level : ℕ) (t : Tables) → AreNeeds i level needs → IsSound (length i.least) t → Fits i t → AreLimited needs t
+pub AreLimited-needs : (i : Instance) (needs : List ℕ) (level : ℕ) (t : Tables) → AreNeeds i level needs → IsConsistent (length i.least) t → Fits i t → AreLimited needs t
 AreLimited-needs i needs level t e sound fits f l =
     let is = e.each f (omega (arith, l, e.size)) in
     elim (need-limited i level f) [

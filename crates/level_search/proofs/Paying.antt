@@ -10,7 +10,7 @@ use Rattle.plan_model.proofs.Hall.{count_by-map, sum_by-le_each}
 use Rattle.round_arena.specs.declared.tables.Tables.{Tables}
 use Rattle.round_arena.specs.Input.{cut_plan}
 use Rattle.round_arena.specs.Plan.{pair_total, count_on}
-use Rattle.round_arena.specs.Round.{IsSound, SamePairs, function_at, plan_of}
+use Rattle.round_arena.specs.Round.{IsConsistent, SamePairs, function_at, plan_of}
 use Rattle.round_arena.proofs.Lists.{order-size}
 use Rattle.round_arena.proofs.Ranges.{range-below}
 use Rattle.augment.specs.Round.{Hires}
@@ -46,7 +46,7 @@ busy_or_idle n (f ∷ owner) below =
         by false p false q = absurd (grind (arith, nat_tests))
 
 -- the workers with a function, by the plan that the tables hold
-kept_by : (i : Instance) (t : Tables) (plan : List (ℕ × Option ℕ)) → IsSound (length i.least) t → plan_of t ≡ cut_plan i plan
+kept_by : (i : Instance) (t : Tables) (plan : List (ℕ × Option ℕ)) → IsConsistent (length i.least) t → plan_of t ≡ cut_plan i plan
     → kept_count i plan + count_on t.owner.now (length i.least) ≡ length t.owner.now
 kept_by i t plan sound same =
     let n = length i.least in
@@ -70,7 +70,7 @@ needed_by i owner level met =
     omega (arith, sum_by-le_each (need i level) (count_on owner) (functions i) each, total-range n (count_on owner), total-count_on (suc n) owner)
 
 -- what was paid when the level was found
-pub paid_by_then : (i : Instance) (t u : Tables) (plan : List (ℕ × Option ℕ)) (level : ℕ) → IsSound (length i.least) t → SamePairs t u → t.looks ≡ 0
+pub paid_by_then : (i : Instance) (t u : Tables) (plan : List (ℕ × Option ℕ)) (level : ℕ) → IsConsistent (length i.least) t → SamePairs t u → t.looks ≡ 0
     → plan_of t ≡ cut_plan i plan → Hires (length i.least) t u → AreMet i u.owner.now level
     → sum_by (need i level) (functions i) ≤ u.looks + kept_count i plan
 paid_by_then i t u plan level sound same fresh kept hired met =

@@ -59,7 +59,7 @@ any-at p (x ∷ xs) d (suc k) l h = or_right (p x) (list_any p xs) (any-at p xs 
 
 -- what the tables say of the plan that is copied from them
 pub record Tells (i : Instance) (t : Tables) : Type 0 where
-  pub sound : round.IsSound (length i.least) t
+  pub sound : round.IsConsistent (length i.least) t
   pub fits : Fits i t
   pub slots : t.slot.now ≡ map (λ worker. worker.0) i.live
 

@@ -12,7 +12,7 @@ use Rattle.round_arena.specs.declared.tables.Tables.{Tables}
 use Rattle.round_arena.specs.declared.tables.Pairs.{Pairs}
 use Rattle.round_arena.specs.Plan.{IsPair, IsCounted, AreWithin, count_on}
 use Rattle.round_arena.specs.Input.{pair_count}
-use Rattle.round_arena.specs.Round.{IsSound, SamePairs}
+use Rattle.round_arena.specs.Round.{IsConsistent, SamePairs}
 use Rattle.round_arena.specs.Round as round
 use Rattle.round_arena.proofs.Lists.{machines-known}
 use Rattle.augment.specs.Moves.{one_if_equal}
@@ -21,7 +21,7 @@ use Rattle.level_search.specs.Levels.{Fits, AreMet}
 use Rattle.level_search.specs.Filled.{IsFilled, IsFull}
 use Rattle.level_search.specs.Spread.{IsSettled, LeavesNobody, row_length, pairs_of}
 use Rattle.level_search.proofs.Bisecting.{Fits-same}
-use Rattle.augment.proofs.Rounds.{IsSound-moved}
+use Rattle.augment.proofs.Rounds.{IsConsistent-moved}
 use Rattle.level_search.proofs.Filling.{known-pair}
 use Rattle.level_search.proofs.Keeping.{idle-filled}
 use Rattle.level_search.proofs.Showing.{Tells, plan_of-is, plan_of}
@@ -37,23 +37,23 @@ IsFull-same n t u same eo h w f l pair =
 
 pub IsSettled-same : (i : Instance) (level : ℕ) (t u : Tables) → IsSettled i level t → SamePairs t u → u.owner.now ≡ t.owner.now → u.count.now ≡ t.count.now → IsSettled i level u
 IsSettled-same i level t u h same eo ec = record {
-  sound = IsSound-moved {functions = length i.least} {u = u} t t.owner.now t.count.now h.sound refl h.sound.assigned h.sound.counted h.sound.within same eo ec;
+  sound = IsConsistent-moved {functions = length i.least} {u = u} t t.owner.now t.count.now h.sound refl h.sound.assigned h.sound.counted h.sound.within same eo ec;
   fits = Fits-same i t u same h.fits;
   met = subst (λ (o : List ℕ). AreMet i o level) (sym eo) h.met;
   full = IsFull-same (length i.least) t u same eo h.full;
 }
 
-pub IsSettled-filled : (i : Instance) (n level : ℕ) (t u : Tables) → n ≡ length i.least → Fits i t → AreMet i t.owner.now level → IsSound n u → SamePairs t u → IsFilled n t.pairs t.most.now t.owner.now u.owner.now u.count.now → IsFull n u
+pub IsSettled-filled : (i : Instance) (n level : ℕ) (t u : Tables) → n ≡ length i.least → Fits i t → AreMet i t.owner.now level → IsConsistent n u → SamePairs t u → IsFilled n t.pairs t.most.now t.owner.now u.owner.now u.count.now → IsFull n u
     → IsSettled i level u
 IsSettled-filled i n level t u e fits met sound same filled full = record {
-  sound = subst (λ (m : ℕ). IsSound m u) e sound;
+  sound = subst (λ (m : ℕ). IsConsistent m u) e sound;
   fits = Fits-same i t u same fits;
   met = λ f l. omega (arith, met f l, filled.grows f (omega (arith, e, l)));
   full = subst (λ (m : ℕ). IsFull m u) e full;
 }
 
 -- filling changes nothing where nobody is idle for nothing
-pub filled-still : (n : ℕ) (t u : Tables) → IsSound n t → IsFilled n t.pairs t.most.now t.owner.now u.owner.now u.count.now → IsFull n t → u.owner.now ≡ t.owner.now
+pub filled-still : (n : ℕ) (t u : Tables) → IsConsistent n t → IsFilled n t.pairs t.most.now t.owner.now u.owner.now u.count.now → IsFull n t → u.owner.now ≡ t.owner.now
 filled-still n t u s filled full =
     ext_get_or 0 u.owner.now t.owner.now filled.size
     (λ w l. elim (cases_lt (get_or t.owner.now w 0) n) [
@@ -101,7 +101,7 @@ IsSettled-moved i level t u w a b h wl is al bl ne spare free can room same eo e
     ] in
     let stays : (g : ℕ) → g ≢ a → count_on owner g ≤ count_on after g = λ g other. omega (arith, moved g, one_if_equal-other a g (λ q. other (sym q))) in
     record {
-      sound = IsSound-moved {functions = n} {u = u} t after (set (set t.count.now a (get_or t.count.now a 0 - 1)) b (get_or (set t.count.now a (get_or t.count.now a 0 - 1)) b 0 + 1)) s (length-set owner w b)
+      sound = IsConsistent-moved {functions = n} {u = u} t after (set (set t.count.now a (get_or t.count.now a 0 - 1)) b (get_or (set t.count.now a (get_or t.count.now a 0 - 1)) b 0 + 1)) s (length-set owner w b)
           (IsAssigned-set n t.pairs owner w b s.assigned wl bl pair) counted within same eo ec;
       fits = Fits-same i t u same h.fits;
       met = λ f l. elim (cases_eq f a) [
@@ -195,7 +195,7 @@ pub rows-le-pairs : (i : Instance) → IsInstance i → sum_by (row_length i) (m
 rows-le-pairs i h = omega (arith, sum-short i h (machines_of i), sum_swap (may_do i) (functions i) (machines_of i))
 
 -- each worker's machine is known
-pub machine-below : (i : Instance) (t : Tables) (w d : ℕ) → IsInstance i → IsSound (length i.least) t → Fits i t → w < length t.owner.now → get_or t.machine.now w d < length i.may
+pub machine-below : (i : Instance) (t : Tables) (w d : ℕ) → IsInstance i → IsConsistent (length i.least) t → Fits i t → w < length t.owner.now → get_or t.machine.now w d < length i.may
 machine-below i t w d valid s fits l =
     let inside : w < length t.machine.now = omega (arith, l, s.staff) in
     let read : get_or t.machine.now w d ≡ get_or t.machine.now w 0 = get_or_default t.machine.now w d 0 inside in

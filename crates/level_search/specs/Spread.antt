@@ -2,13 +2,13 @@
 use Rattle.std.specs.Prelude.{◌≡◌, ℕ, ◌<◌, ◌⊎◌, List, [], length, take, sum_by, slice_index, slice_index_or}
 use Rattle.plan_model.specs.Planning.{Instance}
 use Rattle.round_arena.specs.declared.tables.Tables.{Tables}
-use Rattle.round_arena.specs.Round.{IsSound}
+use Rattle.round_arena.specs.Round.{IsConsistent}
 use Rattle.level_search.specs.Levels.{Fits, AreMet}
 use Rattle.level_search.specs.Filled.{IsFull}
 
 -- The tables fit the input and serve the level, and whoever is idle may do only functions at their greatest number.
 pub record IsSettled (i : Instance) (level : ℕ) (t : Tables) : Type 0 where
-  pub sound : IsSound (length i.least) t
+  pub sound : IsConsistent (length i.least) t
   pub fits : Fits i t
   pub met : AreMet i t.owner.now level
   pub full : IsFull (length i.least) t

@@ -1,6 +1,6 @@
 ghost use Rattle.std.specs.Prelude.{◌≡◌, ◌+◌, ◌*◌, ◌^◌, ◌<◌, ◌≤◌, length, IfOk, OnOk};
 ghost use Rattle.round_arena.specs.Plan.{pair_total};
-ghost use Rattle.round_arena.specs.Round.{IsSound, SamePairs};
+ghost use Rattle.round_arena.specs.Round.{IsConsistent, SamePairs};
 ghost use Rattle.augment.specs.Round.{Hires, IsWithinLooks};
 ghost use Rattle.level_search.specs.Levels.{AreNeeds, Fits};
 ghost use Rattle.level_search.specs.Found.{IsProbed, KeepsMet, IsFound};
@@ -32,10 +32,10 @@ fn fill_needs(input: &Input, level: u64, needs: &mut [u32])
 
 // Serves what each function needs at the level, or gives a set that is short there.
 fn probe<'a>(tables: &mut Tables<'a>, input: &Input, level: u64) -> Result<Served<'a>, AllocError>
-    requires sound { IsSound (length input.now.least) tables.old }
+    requires sound { IsConsistent (length input.now.least) tables.old }
     requires fits { Fits input.now tables.old }
     requires looks { tables.old.looks + (length tables.old.owner.now + 1) * pair_total tables.old.pairs < 2 ^ 64 }
-    ensures sound { IsSound (length input.now.least) tables.new }
+    ensures sound { IsConsistent (length input.now.least) tables.new }
     ensures same { SamePairs tables.old tables.new }
     ensures probed { IfOk result (IsProbed input.now level tables.new) }
     ensures kept { KeepsMet input.now level tables.old tables.new }
@@ -53,10 +53,10 @@ fn probe<'a>(tables: &mut Tables<'a>, input: &Input, level: u64) -> Result<Serve
 /// The least level that can be served, with a set that is short one level below, or a set that is
 /// short at the top level.
 pub fn solve_levels<'a>(tables: &mut Tables<'a>, input: &Input) -> Result<Found<'a>, AllocError>
-    requires sound { IsSound (length input.now.least) tables.old }
+    requires sound { IsConsistent (length input.now.least) tables.old }
     requires fits { Fits input.now tables.old }
     requires looks { tables.old.looks + 34 * ((length tables.old.owner.now + 1) * pair_total tables.old.pairs) < 2 ^ 64 }
-    ensures sound { IsSound (length input.now.least) tables.new }
+    ensures sound { IsConsistent (length input.now.least) tables.new }
     ensures same { SamePairs tables.old tables.new }
     ensures found { IfOk result (IsFound input.now tables.new) }
     ensures looks { IfOk result (λ found. tables.new.looks + passes found * pair_total tables.old.pairs ≤ tables.old.looks + 34 * ((length tables.old.owner.now + 1) * pair_total tables.old.pairs)) }

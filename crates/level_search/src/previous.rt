@@ -1,6 +1,6 @@
 ghost use Rattle.std.specs.Prelude.{◌≡◌, ℕ, ◌≤◌, ◌<◌, ◌↔◌, IsTrue, length, slice_index, IfOk};
 ghost use Rattle.round_arena.specs.Plan.{IsCounted};
-ghost use Rattle.round_arena.specs.Round.{IsSound, SamePairs};
+ghost use Rattle.round_arena.specs.Round.{IsConsistent, SamePairs};
 ghost use Rattle.level_search.specs.Levels.{Fits, AreMet};
 ghost use Rattle.level_search.specs.Found.{IsFound, Serves};
 ghost use Rattle.level_search.specs.Steady.{IsSeed};
@@ -66,10 +66,10 @@ fn serves(seed: &Seed, input: &Input, found: &Found) -> bool
 /// Puts the workers back on what they did before, where that serves the level that was found: a search that
 /// got stuck may have moved them for nothing.
 pub fn put_back(tables: &mut Tables, seed: &Seed, input: &Input, found: &Found) -> Origin
-    requires sound { IsSound (length input.now.least) tables.old }
+    requires sound { IsConsistent (length input.now.least) tables.old }
     requires seed { IsSeed (length input.now.least) tables.old seed.now }
     requires found { IsFound input.now tables.old found.now }
-    ensures sound { IsSound (length input.now.least) tables.new }
+    ensures sound { IsConsistent (length input.now.least) tables.new }
     ensures same { SamePairs tables.old tables.new }
     ensures found { IsFound input.now tables.new found.now }
     ensures kept { Serves input.now seed.now.owner.now found.now → tables.new.owner.now ≡ seed.now.owner.now }

@@ -4,7 +4,7 @@ ghost use Rattle.plan_model.specs.Planning.{assigned, is_full};
 ghost use Rattle.plan_model.specs.Shown.{Shown};
 ghost use Rattle.round_arena.specs.Input.{pair_count, cut_plan};
 ghost use Rattle.round_arena.specs.Plan.{pair_total};
-ghost use Rattle.round_arena.specs.Round.{IsSound, plan_of};
+ghost use Rattle.round_arena.specs.Round.{IsConsistent, plan_of};
 ghost use Rattle.level_search.specs.Levels.{Fits};
 ghost use Rattle.level_search.specs.Found.{IsFound, Serves};
 ghost use Rattle.level_search.specs.Answered.{Starts, evidence};
@@ -89,7 +89,7 @@ fn answer<'a>(
     found: Found<'a>,
     origin: Origin,
 ) -> Result<Answer, AllocError>
-    requires sound { IsSound (length input.now.least) tables.old }
+    requires sound { IsConsistent (length input.now.least) tables.old }
     requires fits { Fits input.now tables.old }
     requires slots { tables.old.slot.now ≡ map (λ worker. worker.0) input.now.live }
     requires found { IsFound input.now tables.old found }

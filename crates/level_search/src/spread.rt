@@ -2,7 +2,7 @@ ghost use Rattle.std.specs.Prelude.{◌≡◌, ◌+◌, ◌*◌, ◌^◌, ◌<�
 ghost use Rattle.plan_model.specs.Planning.{IsInstance, may_do, need};
 ghost use Rattle.round_arena.specs.Input.{pair_count};
 ghost use Rattle.round_arena.specs.Plan.{pair_total};
-ghost use Rattle.round_arena.specs.Round.{IsSound, SamePairs};
+ghost use Rattle.round_arena.specs.Round.{IsConsistent, SamePairs};
 ghost use Rattle.level_search.specs.Filled.{IsFull};
 ghost use Rattle.level_search.specs.Levels.{AreMet, Fits};
 ghost use Rattle.level_search.specs.Paid.{passes_at};
@@ -138,7 +138,7 @@ pub fn spread(tables: &mut Tables, input: &Input, level: u64)
 ///
 /// At the top level nobody is moved: there some function with the greatest number of waiting jobs has no worker at all.
 pub fn settle(tables: &mut Tables, input: &Input, level: u64, origin: Origin)
-    requires sound { IsSound (length input.now.least) tables.old }
+    requires sound { IsConsistent (length input.now.least) tables.old }
     requires fits { Fits input.now tables.old }
     requires met { AreMet input.now tables.old.owner.now level }
     requires pairs { pair_total tables.old.pairs ≡ pair_count input.now }

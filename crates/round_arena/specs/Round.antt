@@ -6,7 +6,7 @@ use Rattle.round_arena.specs.declared.tables.Tables.{Tables}
 use Rattle.round_arena.specs.Plan.{IsGraph, IsAssigned, IsCounted, AreWithin, Represents}
 
 -- The tables fit together, for that many functions.
-pub record IsSound (functions : ℕ) (t : Tables) : Type 0 where
+pub record IsConsistent (functions : ℕ) (t : Tables) : Type 0 where
   pub few : functions < 2 ^ 32
   pub graph : IsGraph functions (length t.owner.now) t.pairs
   pub assigned : IsAssigned functions t.pairs t.owner.now

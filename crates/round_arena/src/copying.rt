@@ -1,5 +1,5 @@
 ghost use Rattle.std.specs.Prelude.{◌≡◌, ℕ, length, IfOk};
-ghost use Rattle.round_arena.specs.Round.{IsSound, entries_of, function_at, plan_of};
+ghost use Rattle.round_arena.specs.Round.{IsConsistent, entries_of, function_at, plan_of};
 
 use crate::tables::Tables;
 use plan_model::{FuncId, Plan, SlotId};
@@ -35,7 +35,7 @@ fn copy_entries(
 /// Copies the tables' plan out of the arena: it lists each worker of the round by its slot, with its
 /// function or none. The only error is want of memory.
 pub fn copy_plan(alloc: Global, tables: &Tables) -> Result<Plan, AllocError>
-    requires sound { IsSound (length tables.now.order.now) tables.now }
+    requires sound { IsConsistent (length tables.now.order.now) tables.now }
     ensures { IfOk result (λ plan. plan ≡ plan_of tables.now) }
 {
     let entries = copy_entries(alloc, tables.slot, tables.owner, tables.order.len())?;

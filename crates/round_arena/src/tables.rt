@@ -26,7 +26,7 @@ pub struct Pairs<'p> {
 /// list of live workers.
 ///
 /// The fields are public, since the search moves workers over `owner` and `count` one step at a time;
-/// `IsSound` says how they fit together, and each call that takes tables asks for it and gives it back.
+/// `IsConsistent` says how they fit together, and each call that takes tables asks for it and gives it back.
 #[derive(Drop)]
 pub struct Tables<'a> {
     /// Where the tables lie, and where the search makes its own.

@@ -4,7 +4,7 @@ use Rattle.round_arena.specs.Plan.{pairs_up_to, staff_of}
 use Rattle.round_arena.proofs.Counts.{pairs_up_to-next, pairs_up_to-step, pairs_up_to-within}
 use Rattle.augment.proofs.Rounds.{SamePairs-trans}
 use Rattle.level_search.specs.Filled.{IsFilled, AreBusy}
-use Rattle.level_search.proofs.Filling.{IsFilled-trans, IsSound-filled, filled-at, IsBusyUpTo-filled, IsBusyUpTo-more}
+use Rattle.level_search.proofs.Filling.{IsFilled-trans, IsConsistent-filled, filled-at, IsBusyUpTo-filled, IsBusyUpTo-more}
 use Rattle.level_search.proofs.fill.fill_function.Goals as goal
 
 pub fill_machine-requires-clause-looks : goal.fill_machine-requires-clause-looks
@@ -31,7 +31,7 @@ loop-k-preserved c =
     subst (λ (q : Pairs). AreBusy q most u.owner.now c.args.functions f m) i.same.pairs (subst (λ (z : List ℕ). AreBusy t.pairs z u.owner.now c.args.functions f m) moved e.busy) in
     let next = pairs_up_to-next p c.args.functions (length c.args.tables.now.owner.now) f c.loop-k.k c.requires.sound.graph c.requires.f c.loop-k-test.true in
     record {
-      sound = IsSound-filled t t.pairs t.most.now u.owner.now u.count.now i.sound refl refl e.filled e.same refl refl;
+      sound = IsConsistent-filled t t.pairs t.most.now u.owner.now u.count.now i.sound refl refl e.filled e.same refl refl;
       same = SamePairs-trans c.args.tables.now t u i.same e.same;
       filled = IsFilled-trans c.args.functions p most c.args.tables.now.owner.now t.owner.now u.owner.now t.count.now u.count.now i.filled step;
       busy = IsBusyUpTo-more c.args.functions p most u.owner.now f c.loop-k.k (IsBusyUpTo-filled c.args.functions p most t.owner.now u.owner.now u.count.now f c.loop-k.k step c.requires.f i.busy) busy;

@@ -2,7 +2,7 @@ use Rattle.std.proofs.Common.{ℕ, length, ap, sym, ◌∙◌, subst, arith}
 use Rattle.std.proofs.lemmas.List.{length-map}
 use Rattle.level_search.specs.declared.bisect.Found.{Found}
 use Rattle.level_search.specs.declared.bisect.Found.TheVariants.{Level}
-use Rattle.round_arena.specs.Round.{IsSound}
+use Rattle.round_arena.specs.Round.{IsConsistent}
 use Rattle.level_search.specs.Found.{IsFound}
 use Rattle.round_arena.proofs.Lists.{order-size}
 use Rattle.level_search.proofs.Answering.{shown-settled}
@@ -23,8 +23,8 @@ pub copy_plan-requires : goal.copy_plan-requires
 copy_plan-requires c =
     let i = c.args.input.now in
     let u = c.settle.new.tables in
-    let sound : IsSound (length i.least) u = c.settle.ensures.settled.sound in
-    record { sound = subst (λ (n : ℕ). IsSound n u) (sym (order-size (length i.least) u.order.now sound.order)) sound }
+    let sound : IsConsistent (length i.least) u = c.settle.ensures.settled.sound in
+    record { sound = subst (λ (n : ℕ). IsConsistent n u) (sym (order-size (length i.least) u.order.now sound.order)) sound }
 
 pub returns-in_ok-short-in-Level-clause-kept : goal.returns-in_ok-short-in-Level-clause-kept
 returns-in_ok-short-in-Level-clause-kept c kept serves full =

@@ -2,7 +2,7 @@ use Rattle.std.proofs.Common.{◌≡◌, ℕ, zero, suc, ◌+◌, ◌*◌, ◌^�
 use Rattle.plan_model.specs.Planning.{Instance, IsInstance}
 use Rattle.round_arena.specs.declared.tables.Tables.{Tables}
 use Rattle.round_arena.specs.Plan.{pair_total}
-use Rattle.round_arena.specs.Round.{IsSound}
+use Rattle.round_arena.specs.Round.{IsConsistent}
 use Rattle.round_arena.proofs.Lists.{order-size}
 use Rattle.level_search.specs.Answered.{Starts}
 use Rattle.level_search.proofs.Looks.{looks-few, looks-start}
@@ -54,5 +54,5 @@ serve-requires-2-clause-limited g c f l =
 pub copy_plan-requires : goal.copy_plan-requires
 copy_plan-requires g c =
     let t = c.serve-2.new.tables in
-    let sound : IsSound 2 t = c.serve-2.ensures.sound in
-    record { sound = subst (λ (n : ℕ). IsSound n t) (sym (order-size 2 t.order.now sound.order)) sound }
+    let sound : IsConsistent 2 t = c.serve-2.ensures.sound in
+    record { sound = subst (λ (n : ℕ). IsConsistent n t) (sym (order-size 2 t.order.now sound.order)) sound }
