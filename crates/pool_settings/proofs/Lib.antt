@@ -7,6 +7,7 @@ pub mod Ranges
 pub mod Passing
 pub mod Numbers
 pub mod Cuts
+pub mod Lines
 pub mod Risen
 pub mod Planned
 pub mod WorkerNames

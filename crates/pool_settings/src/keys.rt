@@ -2,8 +2,11 @@
 
 ghost use Rattle.std.specs.Prelude.{◌≡◌, option_map};
 ghost use Rattle.toml.specs.View.{table_view};
+ghost use Rattle.pool_settings.specs.Entries.{shown};
 ghost use Rattle.pool_settings.specs.Reading as spec;
 
+use crate::checks::unless;
+use crate::place::Place;
 use crate::tree::{number_between, text_between, value_at};
 use toml::Table;
 
@@ -56,13 +59,13 @@ pub fn history_in(tree: &Table) -> Option<u32>
     number_or(tree, "history", 1, 1_048_576, 1_048_576)
 }
 
-pub fn has_good_limits(tree: &Table) -> bool
-    ensures { result ≡ spec.has_good_limits (table_view tree.now) }
+pub fn bad_limit(tree: &Table) -> Option<Place<&str>>
+    ensures { shown result ≡ spec.bad_limit (table_view tree.now) }
 {
-    server_in(tree).is_some()
-        && job_timeout_in(tree).is_some()
-        && max_runs_in(tree).is_some()
-        && round_in(tree).is_some()
-        && lull_in(tree).is_some()
-        && history_in(tree).is_some()
+    unless(server_in(tree).is_some(), Place::Key("server"))
+        .or_else(|| unless(job_timeout_in(tree).is_some(), Place::Key("job_timeout_ms")))
+        .or_else(|| unless(max_runs_in(tree).is_some(), Place::Key("max_runs")))
+        .or_else(|| unless(round_in(tree).is_some(), Place::Key("round_ms")))
+        .or_else(|| unless(lull_in(tree).is_some(), Place::Key("lull_ms")))
+        .or_else(|| unless(history_in(tree).is_some(), Place::Key("history")))
 }

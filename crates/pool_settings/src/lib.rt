@@ -4,10 +4,13 @@
 mod build;
 mod checks;
 mod error;
+mod fault;
+mod given;
 mod keys;
 mod law;
 mod limits;
 mod names;
+mod place;
 mod planning;
 mod settings;
 mod slots;
@@ -15,5 +18,8 @@ mod tree;
 mod worker_name;
 
 pub use error::SettingsError;
+pub use fault::Fault;
+pub use given::Given;
 pub use law::names_are_one_to_one;
+pub use place::{Counted, Place, Section};
 pub use settings::Settings;
