@@ -1,5 +1,6 @@
 pub mod Tables
 pub mod Trees
+pub mod Found
 pub mod Searches
 pub mod Marks
 pub mod SlotSums

@@ -1,6 +1,6 @@
 // The first fault of a settings file, and where it is.
 
-ghost use Rattle.std.specs.Prelude.{◌≡◌, IfOk, Some, length, option_map};
+ghost use Rattle.std.specs.Prelude.{◌≡◌, ◌≤◌, IfOk, filter, Some, length, option_map};
 ghost use Rattle.std.specs.List.{after_last};
 ghost use Rattle.toml.specs.View.{table_view};
 ghost use Rattle.pool_settings.specs.Fault as spec;
@@ -60,16 +60,34 @@ fn fault_in(alloc: Global, tree: &Table) -> Result<Option<Fault>, AllocError>
 fn text_fault(before: &[u8]) -> Fault
     ensures { spec.fault_view result ≡ spec.text_fault before.now }
 {
-    let line = before.iter().filter(|byte| **byte == b'\n').count() + 1;
-    let column = last_line(before)
-        .iter()
-        .filter(|byte| begins_character(**byte))
-        .count()
-        + 1;
+    let line = line_feeds(before) + 1;
+    let column = characters(last_line(before)) + 1;
     Fault {
         error: SettingsError::Text,
         place: Place::Text { line, column },
     }
+}
+
+/// How many line feeds there are.
+fn line_feeds(bytes: &[u8]) -> usize
+    ensures all { result ≡ length (filter spec.is_line_feed bytes.now) }
+    ensures few { result ≤ length bytes.now }
+{
+    bytes.iter().filter(|byte| **byte == b'\n').count()
+}
+
+/// How many characters begin there.
+fn characters(bytes: &[u8]) -> usize
+    ensures all { result ≡ length (filter spec.begins_character bytes.now) }
+    ensures few { result ≤ length bytes.now }
+{
+    let mut count = 0;
+    for byte in bytes {
+        if begins_character(*byte) {
+            count += 1;
+        }
+    }
+    count
 }
 
 fn begins_character(byte: u8) -> bool

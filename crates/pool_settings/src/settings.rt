@@ -62,7 +62,8 @@ impl Model for Settings {
 
 /// The first check that a tree fails, with its place.
 pub fn first_fault(tree: &Table) -> Option<(SettingsError, Place<&str>)>
-    ensures { told result ≡ spec.first_fault (table_view tree.now) }
+    ensures first { told result ≡ spec.first_fault (table_view tree.now) }
+    ensures refusal { IfSome result (λ f. f.0 ≢ SettingsError.Memory) }
 {
     if let Some(place) = bad_version(tree) {
         return Some((SettingsError::Version, place));
