@@ -1,15 +1,15 @@
 -- What is found in a text.
-use Rattle.std.proofs.Common.{◌≡◌, ℕ, ◌≤◌, List, Bool, true, false, cond, Option, Some, None, length, take, refl, sym, ap, subst, ◌∙◌}
+use Rattle.std.proofs.Common.{◌≡◌, ℕ, ◌≤◌, List, false, cond, Option, Some, None, length, take, sym, ap, ◌∙◌}
 use Rattle.std.specs.Str.{IsUtf8, is_utf8}
 use Rattle.std.specs.Str.Lossy.{utf8_valid_len}
 use Rattle.std.proofs.lemmas.Bool.{false≢true}
 use Rattle.std.proofs.lemmas.Option.{none-some}
-use Rattle.std.proofs.lemmas.Str.{IsUtf8-from_is_utf8, is_utf8-from_IsUtf8}
+use Rattle.std.proofs.lemmas.Str.{is_utf8-from_IsUtf8}
 use Rattle.toml.specs.Data.{Members}
 use Rattle.toml.specs.Parse.{parse_document}
 use Rattle.pool_settings.specs.Fault.{IsFoundIn, text_fault}
 use Rattle.pool_settings.specs.Reading.{Fault, first_fault, tree_of}
-use Rattle.pool_settings.proofs.Trees.{tree_is, tree_none}
+use Rattle.pool_settings.proofs.Trees.{tree_none}
 
 -- a text that is no UTF-8 has no tree
 no_utf8 : (text : List ℕ) → is_utf8 text ≡ false → tree_of text ≡ None

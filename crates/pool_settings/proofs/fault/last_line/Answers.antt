@@ -1,5 +1,4 @@
-use Rattle.std.proofs.Common.{◌≡◌, ◌+◌, ◌-◌, ◌<◌, ◌≤◌, ℕ, List, true, false, get_or, length, arith, sym, ap, ◌∙◌}
-use Rattle.pool_settings.specs.Fault.{is_line_feed}
+use Rattle.std.proofs.Common.{arith, sym, ◌∙◌}
 use Rattle.pool_settings.proofs.Cuts.{rest_taken}
 use Rattle.pool_settings.proofs.Lines.{line_here, one_line}
 use Rattle.pool_settings.proofs.fault.last_line.Goals as goal
