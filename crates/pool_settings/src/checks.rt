@@ -12,6 +12,7 @@ ghost use Rattle.pool_settings.specs.Reading as spec;
 ghost use Rattle.pool_settings.specs.Tree.{Entry, values_of};
 ghost use Rattle.std.specs.Prelude.{Option};
 
+use crate::bounds::MAX_WORKERS;
 use crate::keys::bad_limit;
 use crate::place::{Place, Section};
 use crate::tree::{number_between, table_at, value_at};
@@ -248,7 +249,7 @@ pub fn bad_name(tree: &Table) -> Option<Place<&str>>
 fn is_worker_count(value: &Value) -> bool
     ensures { result ≡ is_some (spec.worker_count (view value.now)) }
 {
-    number_between(0, 4096, value).is_some()
+    number_between(0, MAX_WORKERS, value).is_some()
 }
 
 fn has_good_count(table: &Table, key: &str) -> bool

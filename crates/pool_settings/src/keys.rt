@@ -5,6 +5,7 @@ ghost use Rattle.toml.specs.View.{table_view};
 ghost use Rattle.pool_settings.specs.Entries.{shown};
 ghost use Rattle.pool_settings.specs.Reading as spec;
 
+use crate::bounds::{MAX_HISTORY, MAX_PAUSE_MS};
 use crate::checks::unless;
 use crate::place::Place;
 use crate::tree::{number_between, text_between, value_at};
@@ -44,19 +45,19 @@ pub fn max_runs_in(tree: &Table) -> Option<u32>
 pub fn round_in(tree: &Table) -> Option<u32>
     ensures { result ≡ spec.round_in (table_view tree.now) }
 {
-    number_or(tree, "round_ms", 1, 3_600_000, 1_000)
+    number_or(tree, "round_ms", 1, MAX_PAUSE_MS, 1_000)
 }
 
 pub fn lull_in(tree: &Table) -> Option<u32>
     ensures { result ≡ spec.lull_in (table_view tree.now) }
 {
-    number_or(tree, "lull_ms", 1, 3_600_000, 100)
+    number_or(tree, "lull_ms", 1, MAX_PAUSE_MS, 100)
 }
 
 pub fn history_in(tree: &Table) -> Option<u32>
     ensures { result ≡ spec.history_in (table_view tree.now) }
 {
-    number_or(tree, "history", 1, 1_048_576, 1_048_576)
+    number_or(tree, "history", 1, MAX_HISTORY, MAX_HISTORY)
 }
 
 pub fn bad_limit(tree: &Table) -> Option<Place<&str>>

@@ -1,6 +1,7 @@
 //! The settings of a pool: read from a TOML file, checked, and numbered by name in byte order.
 #![tactic(auto)]
 
+mod bounds;
 mod build;
 mod checks;
 mod error;

@@ -8,6 +8,7 @@ ghost use Rattle.pool_settings.specs.Entries.{entries_if, shown, table_entries};
 ghost use Rattle.pool_settings.specs.Reading as spec;
 ghost use Rattle.pool_settings.specs.Tree.{values_of};
 
+use crate::bounds::{MAX_FUNCTIONS, MAX_MACHINES, MAX_WORKERS};
 use crate::build::{count_at, listed_in};
 use crate::checks::{first_in, unless};
 use crate::place::{Counted, Place};
@@ -72,7 +73,7 @@ fn table_workers_fit(table: &Table) -> bool
     let mut total = 0;
     for (_name, machine) in table {
         total += count_at(machine, "workers", 0);
-        if total > 4096 {
+        if total > MAX_WORKERS {
             return false;
         }
     }
@@ -93,10 +94,10 @@ pub fn too_many(tree: &Table) -> Option<Place<&str>>
 {
     let machines = table_at(tree, "machines");
     let functions = table_at(tree, "functions");
-    if count_of(machines) > 256 {
+    if count_of(machines) > MAX_MACHINES {
         return Some(Place::Count(Counted::Machines));
     }
-    if count_of(functions) > 1024 {
+    if count_of(functions) > MAX_FUNCTIONS {
         return Some(Place::Count(Counted::Functions));
     }
     unless(workers_fit(machines), Place::Count(Counted::Workers))
