@@ -1,10 +1,12 @@
 pub mod Tables
 pub mod Trees
+pub mod Found
 pub mod Searches
 pub mod Marks
 pub mod SlotSums
 pub mod Ranges
 pub mod Passing
+pub mod Lines
 pub mod Risen
 pub mod Planned
 pub mod WorkerNames

@@ -1,9 +1,10 @@
 -- A tree that passes the checks, and what its settings keep.
-use Rattle.std.proofs.Common.{◌≡◌, ℕ, ◌<◌, ◌≤◌, List, Bool, true, false, not, ◌&&◌, cond, Option, Some, None, is_some, leb, length, get_or, All, refl, sym, subst, ◌∙◌, arith}
+use Rattle.std.proofs.Common.{◌≡◌, ℕ, ◌<◌, ◌≤◌, List, [], ◌∷◌, Bool, true, false, Option, Some, None, is_some, leb, length, get_or, All, refl, sym, subst, ◌∙◌, arith}
 use Rattle.std.specs.Prelude.{sum, IsTrue, unwrap_or, option_and_then}
 use Rattle.std.specs.List.{list_all, range_with_len}
+use Rattle.std.specs.Option.{option_map_or, option_or}
 use Rattle.std.specs.List.Sorted.{IsStrictlyIncreasing}
-use Rattle.std.proofs.lemmas.Bool.{false≢true, leb-true, and_parts}
+use Rattle.std.proofs.lemmas.Bool.{false≢true, leb-true}
 use Rattle.std.proofs.lemmas.List.{length-map}
 use Rattle.std.proofs.lemmas.List.Elements.{All-map, All-filter}
 use Rattle.std.proofs.lemmas.List.Folds.{list_all_at}
@@ -12,43 +13,47 @@ use Rattle.plan_model.proofs.Ranges.{range-rises, range-below}
 use Rattle.toml.specs.Data.{Members, as_table, get_member}
 use Rattle.pool_settings.specs.declared.error.SettingsError.{SettingsError}
 use Rattle.pool_settings.specs.Names.{IsInByteOrder, is_machine_name, is_name}
+use Rattle.pool_settings.specs.declared.error.SettingsError.TheVariants as fault
+use Rattle.pool_settings.specs.declared.place.Counted.TheVariants as counted
+use Rattle.pool_settings.specs.declared.place.Place.TheVariants as place
+use Rattle.pool_settings.specs.Place.{first_in, unless}
 use Rattle.pool_settings.specs.Profile.{IsProfile, Profile}
 use Rattle.pool_settings.specs.Reading as spec
-use Rattle.pool_settings.specs.Tree.{Entry, entries_at}
+use Rattle.pool_settings.specs.Tree.{Entry, entries_at, entries_of}
 use Rattle.pool_settings.proofs.Ranges.{IsFrom, count_few, limit_range, text_range}
 
 -- each check is passed
 pub record Passes (tree : Members) : Type 0 where
-  pub version : spec.has_version tree ≡ true
-  pub known_keys : spec.has_known_keys tree ≡ true
-  pub needed_keys : spec.has_needed_keys tree ≡ true
-  pub good_names : spec.has_good_names tree ≡ true
-  pub good_values : spec.has_good_values tree ≡ true
-  pub known_functions : spec.has_known_functions tree ≡ true
-  pub room : spec.has_room tree ≡ true
+  pub good_names : spec.bad_name tree ≡ None
+  pub good_values : spec.bad_value tree ≡ None
+  pub room : spec.too_many tree ≡ None
 
--- a check that is passed leaves those behind it
-passed : (b : Bool) (f : SettingsError) (rest : Option SettingsError) → cond (not b) (Some f) rest ≡ None → (b ≡ true) × (rest ≡ None)
-passed true f rest h = (refl, h)
-passed false f rest h = absurd (cc)
+-- where the first of some faults is none, there is none of them
+none_of : {P : Type 0} (fault rest : Option P) → option_or fault rest ≡ None → (fault ≡ None) × (rest ≡ None)
+none_of None rest h = (refl, h)
+none_of (Some p) rest h = absurd (cc)
+
+none_at : (error : SettingsError) (found : Option spec.Where) → spec.fault_at error found ≡ None → found ≡ None
+none_at error None h = refl
+none_at error (Some p) h = absurd (cc)
+
+is_good : {P : Type 0} (good : Bool) (at : P) → unless good at ≡ None → good ≡ true
+is_good true at h = refl
+is_good false at h = absurd (cc)
 
 pub passes : (tree : Members) → spec.first_fault tree ≡ None → Passes tree
 passes tree h =
-    let version = passed (spec.has_version tree) _ _ h in
-    let known = passed (spec.has_known_keys tree) _ _ version.1 in
-    let needed = passed (spec.has_needed_keys tree) _ _ known.1 in
-    let names = passed (spec.has_good_names tree) _ _ needed.1 in
-    let values = passed (spec.has_good_values tree) _ _ names.1 in
-    let functions = passed (spec.has_known_functions tree) _ _ values.1 in
-    let room = passed (spec.has_room tree) _ _ functions.1 in
+    let version = none_of (spec.fault_at fault.Version (spec.bad_version tree)) _ h in
+    let known = none_of (spec.fault_at fault.UnknownKey (spec.unknown_key tree)) _ version.1 in
+    let needed = none_of (spec.fault_at fault.MissingKey (spec.missing_key tree)) _ known.1 in
+    let names = none_of (spec.fault_at fault.BadName (spec.bad_name tree)) _ needed.1 in
+    let values = none_of (spec.fault_at fault.BadValue (spec.bad_value tree)) _ names.1 in
+    let functions = none_of (spec.fault_at fault.UnknownFunction (spec.unknown_function tree)) _ values.1 in
+    let room = none_of (spec.fault_at fault.TooMany (spec.too_many tree)) _ functions.1 in
     record {
-      version = version.0;
-      known_keys = known.0;
-      needed_keys = needed.0;
-      good_names = names.0;
-      good_values = values.0;
-      known_functions = functions.0;
-      room = room.0;
+      good_names = none_at _ _ names.0;
+      good_values = none_at _ _ values.0;
+      room = none_at _ _ room.0;
     }
 
 -- there are not too many of anything
@@ -62,16 +67,37 @@ room_of tree p =
     let machines = length (entries_at spec.machines_key tree) in
     let functions = length (entries_at spec.functions_key tree) in
     let workers = sum (spec.workers_in tree) in
-    let parts = and_parts (leb machines 256 && leb functions 1024) (leb workers 4096) p.room in
-    let tables = and_parts (leb machines 256) (leb functions 1024) parts.0 in
-    record { machines = leb-true machines 256 tables.0; functions = leb-true functions 1024 tables.1; workers = leb-true workers 4096 parts.1 }
+    let first = none_of (unless (leb machines 256) (place.Count counted.Machines)) _ p.room in
+    let second = none_of (unless (leb functions 1024) (place.Count counted.Functions)) _ first.1 in
+    let third = none_of (unless (leb workers 4096) (place.Count counted.Workers)) None second.1 in
+    record { machines = leb-true machines 256 (is_good _ _ first.0); functions = leb-true functions 1024 (is_good _ _ second.0); workers = leb-true workers 4096 (is_good _ _ third.0) }
+
+abbrev table_of : List ℕ → Members → Option Members
+table_of key tree = option_and_then as_table (get_member key tree)
+
+table_there : (key : List ℕ) (check : Entry → Option spec.Where) (tree : Members) → spec.bad_table key check tree ≡ None → is_some (table_of key tree) ≡ true
+table_there key check tree h = by (table_of key tree) h
+  where
+    by : (o : Option Members) → option_map_or (λ table. first_in check (entries_of table)) o (Some (place.Key key)) ≡ None → is_some o ≡ true
+    by None h = absurd (cc)
+    by (Some table) h = refl
 
 -- both tables are there
-pub tables_there : (tree : Members) → Passes tree → (spec.is_table_at spec.functions_key tree ≡ true) × (spec.is_table_at spec.machines_key tree ≡ true)
+pub tables_there : (tree : Members) → Passes tree → (is_some (table_of spec.functions_key tree) ≡ true) × (is_some (table_of spec.machines_key tree) ≡ true)
 tables_there tree p =
-    let values = and_parts (spec.has_good_limits tree) _ p.good_values in
-    let tables = and_parts _ _ values.1 in
-    ((and_parts (spec.is_table_at spec.functions_key tree) _ tables.0).0, (and_parts (spec.is_table_at spec.machines_key tree) _ tables.1).0)
+    let limits = none_of (spec.bad_limit tree) _ p.good_values in
+    let functions = none_of (spec.bad_table spec.functions_key spec.bad_count_of tree) _ limits.1 in
+    let machines = none_of (spec.bad_table spec.machines_key spec.bad_machine_of tree) None functions.1 in
+    (table_there spec.functions_key spec.bad_count_of tree functions.0, table_there spec.machines_key spec.bad_machine_of tree machines.0)
+
+-- where no entry's name is at fault, each is good
+all_named : (p : List ℕ → Bool) (at : Entry → spec.Where) (es : List Entry) → first_in (λ e. unless (p e.0) (at e)) es ≡ None → list_all (λ e. p e.0) es ≡ true
+all_named p at [] h = refl
+all_named p at (e ∷ es) h =
+    let parts = none_of (unless (p e.0) (at e)) _ h in
+    let here : p e.0 ≡ true = is_good (p e.0) (at e) parts.0 in
+    let behind : list_all (λ e. p e.0) es ≡ true = all_named p at es parts.1 in
+    rw (here, behind)
 
 All-from_list_all : {X : Type 0} (p : X → Bool) (xs : List X) → list_all p xs ≡ true → All (λ x. IsTrue (p x)) xs
 All-from_list_all p xs h k d below = by (p (get_or xs k d)) refl
@@ -92,19 +118,21 @@ IsProfile-profile_of tree h functions_rise machines_rise =
     let functions = entries_at spec.functions_key tree in
     let machines = entries_at spec.machines_key tree in
     let n = length (spec.names_of functions) in
-    let names = and_parts (list_all (λ e. is_name e.0) functions) _ p.good_names in
-    let limits = (and_parts (spec.has_good_limits tree) _ p.good_values).0 in
-    let first = and_parts (is_some (spec.server_in tree)) _ limits in
-    let second = and_parts (is_some (spec.job_timeout_in tree)) _ first.1 in
-    let third = and_parts (is_some (spec.max_runs_in tree)) _ second.1 in
-    let fourth = and_parts (is_some (spec.round_in tree)) _ third.1 in
-    let fifth = and_parts (is_some (spec.lull_in tree)) (is_some (spec.history_in tree)) fourth.1 in
-    let server = text_range 1 255 _ (get_member spec.server_key tree) (omega arith, omega arith) first.0 in
-    let job_timeout : IsFrom 1 4294967295 (unwrap_or (spec.job_timeout_in tree) 0) = limit_range spec.job_timeout_key 1 4294967295 60000 tree (omega arith, omega arith) second.0 in
-    let max_runs : IsFrom 1 4294967295 (unwrap_or (spec.max_runs_in tree) 0) = limit_range spec.max_runs_key 1 4294967295 4294967295 tree (omega arith, omega arith) third.0 in
-    let round : IsFrom 1 3600000 (unwrap_or (spec.round_in tree) 0) = limit_range spec.round_key 1 3600000 1000 tree (omega arith, omega arith) fourth.0 in
-    let lull : IsFrom 1 3600000 (unwrap_or (spec.lull_in tree) 0) = limit_range spec.lull_key 1 3600000 100 tree (omega arith, omega arith) fifth.0 in
-    let history : IsFrom 1 1048576 (unwrap_or (spec.history_in tree) 0) = limit_range spec.history_key 1 1048576 1048576 tree (omega arith, omega arith) fifth.1 in
+    let names = none_of (spec.bad_function_name functions) _ p.good_names in
+    let machine_names = none_of (spec.bad_machine_name machines) None names.1 in
+    let limits = (none_of (spec.bad_limit tree) _ p.good_values).0 in
+    let first = none_of (unless (is_some (spec.server_in tree)) (place.Key spec.server_key)) _ limits in
+    let second = none_of (unless (is_some (spec.job_timeout_in tree)) (place.Key spec.job_timeout_key)) _ first.1 in
+    let third = none_of (unless (is_some (spec.max_runs_in tree)) (place.Key spec.max_runs_key)) _ second.1 in
+    let fourth = none_of (unless (is_some (spec.round_in tree)) (place.Key spec.round_key)) _ third.1 in
+    let fifth = none_of (unless (is_some (spec.lull_in tree)) (place.Key spec.lull_key)) _ fourth.1 in
+    let sixth = none_of (unless (is_some (spec.history_in tree)) (place.Key spec.history_key)) None fifth.1 in
+    let server = text_range 1 255 _ (get_member spec.server_key tree) (omega arith, omega arith) (is_good _ _ first.0) in
+    let job_timeout : IsFrom 1 4294967295 (unwrap_or (spec.job_timeout_in tree) 0) = limit_range spec.job_timeout_key 1 4294967295 60000 tree (omega arith, omega arith) (is_good _ _ second.0) in
+    let max_runs : IsFrom 1 4294967295 (unwrap_or (spec.max_runs_in tree) 0) = limit_range spec.max_runs_key 1 4294967295 4294967295 tree (omega arith, omega arith) (is_good _ _ third.0) in
+    let round : IsFrom 1 3600000 (unwrap_or (spec.round_in tree) 0) = limit_range spec.round_key 1 3600000 1000 tree (omega arith, omega arith) (is_good _ _ fourth.0) in
+    let lull : IsFrom 1 3600000 (unwrap_or (spec.lull_in tree) 0) = limit_range spec.lull_key 1 3600000 100 tree (omega arith, omega arith) (is_good _ _ fifth.0) in
+    let history : IsFrom 1 1048576 (unwrap_or (spec.history_in tree) 0) = limit_range spec.history_key 1 1048576 1048576 tree (omega arith, omega arith) (is_good _ _ sixth.0) in
     let many_functions : n ≡ length functions = length-map functions (λ e. e.0) in
     let many_machines : length (spec.names_of machines) ≡ length machines = length-map machines (λ e. e.0) in
     record {
@@ -121,14 +149,14 @@ IsProfile-profile_of tree h functions_rise machines_rise =
       history_some = history.0;
       history_few = history.1;
       functions_rise = functions_rise;
-      functions_named = named is_name functions names.0;
+      functions_named = named is_name functions (all_named is_name _ functions names.0);
       functions_few = omega (arith, many_functions, room.functions);
       least_paired = length-map functions (λ e. spec.count_at spec.least_key 0 e.1) ∙ sym many_functions;
       least_few = All-map (λ n. n ≤ 4096) (λ e. spec.count_at spec.least_key 0 e.1) functions (λ k d below. count_few 4096 0 (omega arith) (option_and_then (get_member spec.least_key) (as_table (get_or functions k d).1)));
       most_paired = length-map functions (λ e. spec.count_at spec.most_key (sum (spec.workers_in tree)) e.1) ∙ sym many_functions;
       most_few = All-map (λ n. n ≤ 4096) (λ e. spec.count_at spec.most_key (sum (spec.workers_in tree)) e.1) functions (λ k d below. count_few 4096 (sum (spec.workers_in tree)) room.workers (option_and_then (get_member spec.most_key) (as_table (get_or functions k d).1)));
       machines_rise = machines_rise;
-      machines_named = named is_machine_name machines names.1;
+      machines_named = named is_machine_name machines (all_named is_machine_name _ machines machine_names.0);
       machines_few = omega (arith, many_machines, room.machines);
       workers_paired = length-map machines (λ e. spec.count_at spec.workers_key 0 e.1) ∙ sym many_machines;
       workers_few = room.workers;

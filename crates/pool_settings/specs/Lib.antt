@@ -4,6 +4,8 @@ pub mod Slots
 pub mod Rows
 pub mod Planning
 pub mod Tree
+pub mod Place
+pub mod Fault
 pub mod Reading
 pub mod Entries
 pub mod Refusal

@@ -1,18 +1,45 @@
-// The checks of a settings file. Each looks at the whole tree.
+// The checks of a settings file. Each looks at the whole tree, and answers where the first fault is.
 
-ghost use Rattle.std.specs.Prelude.{◌≡◌, ◌&&◌, is_some, true, false};
+ghost use Rattle.std.specs.Prelude.{◌≡◌, ◌&&◌, is_some, false};
 ghost use Rattle.std.specs.Option.{option_map_or};
 ghost use Rattle.std.specs.List.{list_all};
 ghost use Rattle.toml.specs.Data.{as_str};
 ghost use Rattle.toml.specs.View.{array_view, table_view, view};
-ghost use Rattle.pool_settings.specs.Entries.{table_entries, entries_if};
+ghost use Rattle.pool_settings.specs.Entries.{Finds, entries_if, shown};
 ghost use Rattle.pool_settings.specs.Names as names;
+ghost use Rattle.pool_settings.specs.Place as places;
 ghost use Rattle.pool_settings.specs.Reading as spec;
-ghost use Rattle.pool_settings.specs.Tree.{entries_at, entries_in, values_of};
+ghost use Rattle.pool_settings.specs.Tree.{Entry, values_of};
+ghost use Rattle.std.specs.Prelude.{Option};
 
-use crate::keys::has_good_limits;
+use crate::bounds::MAX_WORKERS;
+use crate::keys::bad_limit;
+use crate::place::{Place, Section};
 use crate::tree::{number_between, table_at, value_at};
 use toml::{Table, Value};
+
+/// A fault there, unless all is good.
+pub fn unless(good: bool, place: Place<&str>) -> Option<Place<&str>>
+    ensures { shown result ≡ places.unless good (places.place_view (λ t. t.now) place.entry) }
+{
+    if good { None } else { Some(place) }
+}
+
+/// The first fault that a check finds in the entries of a table, in the order of their keys.
+pub fn first_in<'t, F>(table: Option<&'t Table>, check: F) -> Option<Place<&'t str>>
+where
+    F: Fn(&'t str, &'t Value) -> Option<Place<&'t str>>,
+    requires { F.IsAlwaysCallable check }
+    ensures { (find : Entry → Option spec.Where) → Finds (F.post check) find → shown result ≡ places.first_in find (entries_if table.entry) }
+{
+    let entries = table?;
+    for (key, value) in entries {
+        if let Some(place) = check(key.as_str(), value) {
+            return Some(place);
+        }
+    }
+    None
+}
 
 fn version_in(tree: &Table) -> Option<u32>
     ensures { result ≡ spec.version_in (table_view tree.now) }
@@ -23,10 +50,10 @@ fn version_in(tree: &Table) -> Option<u32>
     }
 }
 
-pub fn has_version(tree: &Table) -> bool
-    ensures { result ≡ spec.has_version (table_view tree.now) }
+pub fn bad_version(tree: &Table) -> Option<Place<&str>>
+    ensures { shown result ≡ spec.bad_version (table_view tree.now) }
 {
-    version_in(tree).is_some()
+    unless(version_in(tree).is_some(), Place::Key("version"))
 }
 
 fn is_version_2(tree: &Table) -> bool
@@ -69,148 +96,90 @@ fn is_machine_key(key: &str) -> bool
     key == "workers" || key == "functions"
 }
 
-fn has_top_keys(table: &Table) -> bool
-    ensures { result ≡ spec.has_keys_of spec.is_top_key (table_entries table.now) }
+fn is_entry_key(section: Section, tree: &Table, key: &str) -> bool
+    ensures { result ≡ spec.is_entry_key section (table_view tree.now) key.now }
 {
-    for (key, _value) in table {
-        if !is_top_key(key.as_str()) {
-            return false;
-        }
-    }
-    true
-}
-
-fn has_only_function_keys(tree: &Table, table: &Table) -> bool
-    ensures { result ≡ spec.has_keys_of (spec.is_function_key (table_view tree.now)) (table_entries table.now) }
-{
-    for (key, _value) in table {
-        if !is_function_key(tree, key.as_str()) {
-            return false;
-        }
-    }
-    true
-}
-
-fn has_function_keys(tree: &Table, value: &Value) -> bool
-    ensures { result ≡ spec.has_keys_of (spec.is_function_key (table_view tree.now)) (entries_in (view value.now)) }
-{
-    match value.as_table() {
-        Some(table) => has_only_function_keys(tree, table),
-        None => true,
+    match section {
+        Section::Functions => is_function_key(tree, key),
+        Section::Machines => is_machine_key(key),
     }
 }
 
-fn has_only_machine_keys(table: &Table) -> bool
-    ensures { result ≡ spec.has_keys_of spec.is_machine_key (table_entries table.now) }
+fn unknown_top_key(tree: &Table) -> Option<Place<&str>>
+    ensures { shown result ≡ spec.unknown_top_key (table_view tree.now) }
 {
-    for (key, _value) in table {
-        if !is_machine_key(key.as_str()) {
-            return false;
-        }
-    }
-    true
+    first_in(Some(tree), |key, _value| {
+        unless(is_top_key(key), Place::Key(key))
+    })
 }
 
-fn has_machine_keys(value: &Value) -> bool
-    ensures { result ≡ spec.has_keys_of spec.is_machine_key (entries_in (view value.now)) }
+/// The first unknown key of the table of a function or a machine. What is no table has no keys.
+fn unknown_key_of<'t>(
+    section: Section,
+    tree: &Table,
+    name: &'t str,
+    value: &'t Value,
+) -> Option<Place<&'t str>>
+    ensures { shown result ≡ spec.unknown_key_of section (table_view tree.now) (name.now, view value.now) }
 {
-    match value.as_table() {
-        Some(table) => has_only_machine_keys(table),
-        None => true,
-    }
+    first_in(value.as_table(), |key, _value| {
+        unless(
+            is_entry_key(section, tree, key),
+            Place::EntryKey(section, name, key),
+        )
+    })
 }
 
-fn functions_have_keys(tree: &Table, table: &Table) -> bool
-    ensures { result ≡ list_all (λ e. spec.has_keys_of (spec.is_function_key (table_view tree.now)) (entries_in e.1)) (table_entries table.now) }
+fn unknown_key_in<'t>(
+    section: Section,
+    tree: &Table,
+    table: Option<&'t Table>,
+) -> Option<Place<&'t str>>
+    ensures { shown result ≡ places.first_in (spec.unknown_key_of section (table_view tree.now)) (entries_if table.entry) }
 {
-    for (_name, value) in table {
-        if !has_function_keys(tree, value) {
-            return false;
-        }
-    }
-    true
+    first_in(
+        table,
+        |name, value| unknown_key_of(section, tree, name, value),
+    )
 }
 
-fn machines_have_keys(table: &Table) -> bool
-    ensures { result ≡ list_all (λ e. spec.has_keys_of spec.is_machine_key (entries_in e.1)) (table_entries table.now) }
+pub fn unknown_key(tree: &Table) -> Option<Place<&str>>
+    ensures { shown result ≡ spec.unknown_key (table_view tree.now) }
 {
-    for (_name, value) in table {
-        if !has_machine_keys(value) {
-            return false;
-        }
-    }
-    true
-}
-
-fn all_functions_have_keys(tree: &Table, table: Option<&Table>) -> bool
-    ensures { result ≡ list_all (λ e. spec.has_keys_of (spec.is_function_key (table_view tree.now)) (entries_in e.1)) (entries_if table.entry) }
-{
-    match table {
-        Some(table) => functions_have_keys(tree, table),
-        None => true,
-    }
-}
-
-fn all_machines_have_keys(table: Option<&Table>) -> bool
-    ensures { result ≡ list_all (λ e. spec.has_keys_of spec.is_machine_key (entries_in e.1)) (entries_if table.entry) }
-{
-    match table {
-        Some(table) => machines_have_keys(table),
-        None => true,
-    }
-}
-
-pub fn has_known_keys(tree: &Table) -> bool
-    ensures { result ≡ spec.has_known_keys (table_view tree.now) }
-{
-    has_top_keys(tree)
-        && all_functions_have_keys(tree, table_at(tree, "functions"))
-        && all_machines_have_keys(table_at(tree, "machines"))
+    unknown_top_key(tree)
+        .or_else(|| unknown_key_in(Section::Functions, tree, table_at(tree, "functions")))
+        .or_else(|| unknown_key_in(Section::Machines, tree, table_at(tree, "machines")))
 }
 
 // ---- needed keys
 
-fn has_key(table: &Table, key: &str) -> bool
+pub fn has_key(table: &Table, key: &str) -> bool
     ensures { result ≡ spec.has_key key.now (table_view table.now) }
 {
     value_at(table, key).is_some()
 }
 
-fn is_complete_machine(value: &Value) -> bool
-    ensures { result ≡ spec.is_complete_machine (view value.now) }
+/// The first key that a machine lacks. What is no table lacks none.
+fn missing_key_of<'t>(name: &'t str, value: &'t Value) -> Option<Place<&'t str>>
+    ensures { shown result ≡ spec.missing_key_of (name.now, view value.now) }
 {
-    match value.as_table() {
-        Some(table) => has_key(table, "workers") && has_key(table, "functions"),
-        None => true,
-    }
+    let machine = value.as_table()?;
+    unless(
+        has_key(machine, "workers"),
+        Place::EntryKey(Section::Machines, name, "workers"),
+    )
+    .or_else(|| unless(
+        has_key(machine, "functions"),
+        Place::EntryKey(Section::Machines, name, "functions"),
+    ))
 }
 
-fn machines_are_complete(table: &Table) -> bool
-    ensures { result ≡ list_all (λ e. spec.is_complete_machine e.1) (table_entries table.now) }
+pub fn missing_key(tree: &Table) -> Option<Place<&str>>
+    ensures { shown result ≡ spec.missing_key (table_view tree.now) }
 {
-    for (_name, value) in table {
-        if !is_complete_machine(value) {
-            return false;
-        }
-    }
-    true
-}
-
-fn all_machines_are_complete(table: Option<&Table>) -> bool
-    ensures { result ≡ list_all (λ e. spec.is_complete_machine e.1) (entries_if table.entry) }
-{
-    match table {
-        Some(table) => machines_are_complete(table),
-        None => true,
-    }
-}
-
-pub fn has_needed_keys(tree: &Table) -> bool
-    ensures { result ≡ spec.has_needed_keys (table_view tree.now) }
-{
-    has_key(tree, "functions")
-        && has_key(tree, "machines")
-        && all_machines_are_complete(table_at(tree, "machines"))
+    unless(has_key(tree, "functions"), Place::Key("functions"))
+        .or_else(|| unless(has_key(tree, "machines"), Place::Key("machines")))
+        .or_else(|| first_in(table_at(tree, "machines"), missing_key_of))
 }
 
 // ---- names
@@ -251,51 +220,28 @@ fn has_machine_name_bytes(name: &[u8]) -> bool
     name.iter().all(|byte| is_machine_name_byte(*byte))
 }
 
-fn functions_have_names(table: &Table) -> bool
-    ensures { result ≡ list_all (λ e. names.is_name e.0) (table_entries table.now) }
+fn bad_function_name(table: Option<&Table>) -> Option<Place<&str>>
+    ensures { shown result ≡ spec.bad_function_name (entries_if table.entry) }
 {
-    for (name, _value) in table {
-        if !is_name(name.as_str()) {
-            return false;
-        }
-    }
-    true
+    first_in(table, |name, _value| {
+        unless(is_name(name), Place::Entry(Section::Functions, name))
+    })
 }
 
-fn machines_have_names(table: &Table) -> bool
-    ensures { result ≡ list_all (λ e. names.is_machine_name e.0) (table_entries table.now) }
+fn bad_machine_name(table: Option<&Table>) -> Option<Place<&str>>
+    ensures { shown result ≡ spec.bad_machine_name (entries_if table.entry) }
 {
-    for (name, _value) in table {
-        if !is_machine_name(name.as_str()) {
-            return false;
-        }
-    }
-    true
+    first_in(table, |name, _value| {
+        unless(is_machine_name(name), Place::Entry(Section::Machines, name))
+    })
 }
 
-fn all_functions_have_names(table: Option<&Table>) -> bool
-    ensures { result ≡ list_all (λ e. names.is_name e.0) (entries_if table.entry) }
+pub fn bad_name(tree: &Table) -> Option<Place<&str>>
+    ensures { shown result ≡ spec.bad_name (table_view tree.now) }
 {
-    match table {
-        Some(table) => functions_have_names(table),
-        None => true,
-    }
-}
-
-fn all_machines_have_names(table: Option<&Table>) -> bool
-    ensures { result ≡ list_all (λ e. names.is_machine_name e.0) (entries_if table.entry) }
-{
-    match table {
-        Some(table) => machines_have_names(table),
-        None => true,
-    }
-}
-
-pub fn has_good_names(tree: &Table) -> bool
-    ensures { result ≡ spec.has_good_names (table_view tree.now) }
-{
-    all_functions_have_names(table_at(tree, "functions"))
-        && all_machines_have_names(table_at(tree, "machines"))
+    bad_function_name(table_at(tree, "functions")).or_else(|| bad_machine_name(table_at(
+        tree, "machines",
+    )))
 }
 
 // ---- values
@@ -303,7 +249,7 @@ pub fn has_good_names(tree: &Table) -> bool
 fn is_worker_count(value: &Value) -> bool
     ensures { result ≡ is_some (spec.worker_count (view value.now)) }
 {
-    number_between(0, 4096, value).is_some()
+    number_between(0, MAX_WORKERS, value).is_some()
 }
 
 fn has_good_count(table: &Table, key: &str) -> bool
@@ -315,13 +261,21 @@ fn has_good_count(table: &Table, key: &str) -> bool
     }
 }
 
-fn is_good_function(value: &Value) -> bool
-    ensures { result ≡ spec.is_good_function (view value.now) }
+/// Where a function's table is no table, or has no number of workers at a key that it has.
+fn bad_count_of<'t>(name: &'t str, value: &'t Value) -> Option<Place<&'t str>>
+    ensures { shown result ≡ spec.bad_count_of (name.now, view value.now) }
 {
-    match value.as_table() {
-        Some(table) => has_good_count(table, "least") && has_good_count(table, "most"),
-        None => false,
-    }
+    let Some(function) = value.as_table() else {
+        return Some(Place::Entry(Section::Functions, name));
+    };
+    unless(
+        has_good_count(function, "least"),
+        Place::EntryKey(Section::Functions, name, "least"),
+    )
+    .or_else(|| unless(
+        has_good_count(function, "most"),
+        Place::EntryKey(Section::Functions, name, "most"),
+    ))
 }
 
 fn are_texts(values: &Vec<Value>) -> bool
@@ -344,78 +298,57 @@ fn is_list_of_texts(value: &Value) -> bool
     }
 }
 
-fn is_good_workers(value: Option<&Value>) -> bool
-    ensures { result ≡ option_map_or (λ v. is_some (spec.worker_count (view v.now))) value.entry false }
+fn has_workers(machine: &Table) -> bool
+    ensures { result ≡ spec.has_workers (table_view machine.now) }
 {
-    match value {
+    match value_at(machine, "workers") {
         Some(value) => is_worker_count(value),
         None => false,
     }
 }
 
-fn is_good_listing(value: Option<&Value>) -> bool
-    ensures { result ≡ option_map_or (λ v. spec.is_list_of_texts (view v.now)) value.entry false }
+fn has_listing(machine: &Table) -> bool
+    ensures { result ≡ spec.has_listing (table_view machine.now) }
 {
-    match value {
+    match value_at(machine, "functions") {
         Some(value) => is_list_of_texts(value),
         None => false,
     }
 }
 
-fn is_good_machine(value: &Value) -> bool
-    ensures { result ≡ spec.is_good_machine (view value.now) }
+/// Where a machine's table is no table, or has no number of workers or no list of texts.
+fn bad_machine_of<'t>(name: &'t str, value: &'t Value) -> Option<Place<&'t str>>
+    ensures { shown result ≡ spec.bad_machine_of (name.now, view value.now) }
 {
-    match value.as_table() {
-        Some(table) => {
-            is_good_workers(value_at(table, "workers"))
-                && is_good_listing(value_at(table, "functions"))
-        }
-        None => false,
+    let Some(machine) = value.as_table() else {
+        return Some(Place::Entry(Section::Machines, name));
+    };
+    unless(
+        has_workers(machine),
+        Place::EntryKey(Section::Machines, name, "workers"),
+    )
+    .or_else(|| unless(
+        has_listing(machine),
+        Place::EntryKey(Section::Machines, name, "functions"),
+    ))
+}
+
+fn bad_table<'t, F>(tree: &'t Table, key: &'t str, check: F) -> Option<Place<&'t str>>
+where
+    F: Fn(&'t str, &'t Value) -> Option<Place<&'t str>>,
+    requires { F.IsAlwaysCallable check }
+    ensures { (find : Entry → Option spec.Where) → Finds (F.post check) find → shown result ≡ spec.bad_table key.now find (table_view tree.now) }
+{
+    match table_at(tree, key) {
+        Some(table) => first_in(Some(table), check),
+        None => Some(Place::Key(key)),
     }
 }
 
-fn functions_are_good(table: &Table) -> bool
-    ensures { result ≡ list_all (λ e. spec.is_good_function e.1) (table_entries table.now) }
+pub fn bad_value(tree: &Table) -> Option<Place<&str>>
+    ensures { shown result ≡ spec.bad_value (table_view tree.now) }
 {
-    for (_name, value) in table {
-        if !is_good_function(value) {
-            return false;
-        }
-    }
-    true
-}
-
-fn machines_are_good(table: &Table) -> bool
-    ensures { result ≡ list_all (λ e. spec.is_good_machine e.1) (table_entries table.now) }
-{
-    for (_name, value) in table {
-        if !is_good_machine(value) {
-            return false;
-        }
-    }
-    true
-}
-
-fn are_functions_good(tree: &Table) -> bool
-    ensures { result ≡ (spec.is_table_at spec.functions_key (table_view tree.now) && list_all (λ e. spec.is_good_function e.1) (entries_at spec.functions_key (table_view tree.now))) }
-{
-    match table_at(tree, "functions") {
-        Some(table) => functions_are_good(table),
-        None => false,
-    }
-}
-
-fn are_machines_good(tree: &Table) -> bool
-    ensures { result ≡ (spec.is_table_at spec.machines_key (table_view tree.now) && list_all (λ e. spec.is_good_machine e.1) (entries_at spec.machines_key (table_view tree.now))) }
-{
-    match table_at(tree, "machines") {
-        Some(table) => machines_are_good(table),
-        None => false,
-    }
-}
-
-pub fn has_good_values(tree: &Table) -> bool
-    ensures { result ≡ spec.has_good_values (table_view tree.now) }
-{
-    has_good_limits(tree) && are_functions_good(tree) && are_machines_good(tree)
+    bad_limit(tree)
+        .or_else(|| bad_table(tree, "functions", bad_count_of))
+        .or_else(|| bad_table(tree, "machines", bad_machine_of))
 }

@@ -2,8 +2,12 @@
 
 ghost use Rattle.std.specs.Prelude.{◌≡◌, option_map};
 ghost use Rattle.toml.specs.View.{table_view};
+ghost use Rattle.pool_settings.specs.Entries.{shown};
 ghost use Rattle.pool_settings.specs.Reading as spec;
 
+use crate::bounds::{MAX_HISTORY, MAX_PAUSE_MS};
+use crate::checks::unless;
+use crate::place::Place;
 use crate::tree::{number_between, text_between, value_at};
 use toml::Table;
 
@@ -41,28 +45,28 @@ pub fn max_runs_in(tree: &Table) -> Option<u32>
 pub fn round_in(tree: &Table) -> Option<u32>
     ensures { result ≡ spec.round_in (table_view tree.now) }
 {
-    number_or(tree, "round_ms", 1, 3_600_000, 1_000)
+    number_or(tree, "round_ms", 1, MAX_PAUSE_MS, 1_000)
 }
 
 pub fn lull_in(tree: &Table) -> Option<u32>
     ensures { result ≡ spec.lull_in (table_view tree.now) }
 {
-    number_or(tree, "lull_ms", 1, 3_600_000, 100)
+    number_or(tree, "lull_ms", 1, MAX_PAUSE_MS, 100)
 }
 
 pub fn history_in(tree: &Table) -> Option<u32>
     ensures { result ≡ spec.history_in (table_view tree.now) }
 {
-    number_or(tree, "history", 1, 1_048_576, 1_048_576)
+    number_or(tree, "history", 1, MAX_HISTORY, MAX_HISTORY)
 }
 
-pub fn has_good_limits(tree: &Table) -> bool
-    ensures { result ≡ spec.has_good_limits (table_view tree.now) }
+pub fn bad_limit(tree: &Table) -> Option<Place<&str>>
+    ensures { shown result ≡ spec.bad_limit (table_view tree.now) }
 {
-    server_in(tree).is_some()
-        && job_timeout_in(tree).is_some()
-        && max_runs_in(tree).is_some()
-        && round_in(tree).is_some()
-        && lull_in(tree).is_some()
-        && history_in(tree).is_some()
+    unless(server_in(tree).is_some(), Place::Key("server"))
+        .or_else(|| unless(job_timeout_in(tree).is_some(), Place::Key("job_timeout_ms")))
+        .or_else(|| unless(max_runs_in(tree).is_some(), Place::Key("max_runs")))
+        .or_else(|| unless(round_in(tree).is_some(), Place::Key("round_ms")))
+        .or_else(|| unless(lull_in(tree).is_some(), Place::Key("lull_ms")))
+        .or_else(|| unless(history_in(tree).is_some(), Place::Key("history")))
 }

@@ -1,18 +1,25 @@
 //! The settings of a pool: read from a TOML file, checked, and numbered by name in byte order.
 #![tactic(auto)]
 
+mod bounds;
 mod build;
 mod checks;
 mod error;
+mod fault;
+mod given;
 mod keys;
 mod law;
 mod limits;
 mod names;
+mod place;
 mod planning;
 mod settings;
 mod slots;
 mod tree;
 
 pub use error::SettingsError;
+pub use fault::Fault;
+pub use given::Given;
 pub use law::names_are_one_to_one;
+pub use place::{Counted, Place, Section};
 pub use settings::Settings;

@@ -1,14 +1,17 @@
 // The last two checks: each listed function is there, and there are not too many of anything.
 
-ghost use Rattle.std.specs.Prelude.{◌≡◌, length, nat_le, is_some, sum};
-ghost use Rattle.std.specs.List.{filter_map, list_all};
+ghost use Rattle.std.specs.Prelude.{◌≡◌, length, nat_le, not, option_map, sum};
+ghost use Rattle.std.specs.List.{filter_map, find};
 ghost use Rattle.toml.specs.Data.{as_str};
 ghost use Rattle.toml.specs.View.{array_view, table_view, view};
-ghost use Rattle.pool_settings.specs.Entries.{entries_if, table_entries};
+ghost use Rattle.pool_settings.specs.Entries.{entries_if, shown, table_entries};
 ghost use Rattle.pool_settings.specs.Reading as spec;
 ghost use Rattle.pool_settings.specs.Tree.{values_of};
 
+use crate::bounds::{MAX_FUNCTIONS, MAX_MACHINES, MAX_WORKERS};
 use crate::build::{count_at, listed_in};
+use crate::checks::{first_in, unless};
+use crate::place::{Counted, Place};
 use crate::tree::{table_at, value_at};
 use toml::{Table, Value};
 
@@ -21,46 +24,38 @@ fn is_function(tree: &Table, name: &str) -> bool
     }
 }
 
-fn are_functions(tree: &Table, names: &Vec<Value>) -> bool
-    ensures { result ≡ list_all (spec.is_function_of (table_view tree.now)) (filter_map as_str (values_of (array_view names.now))) }
+/// The first text of some values that is no function.
+fn no_function<'t>(tree: &Table, names: &'t Vec<Value>) -> Option<&'t str>
+    ensures { option_map (λ t. t.now) result ≡ find (λ name. not (spec.is_function_of (table_view tree.now) name)) (filter_map as_str (values_of (array_view names.now))) }
 {
     for value in names {
         if let Some(name) = value.as_str() {
             if !is_function(tree, name) {
-                return false;
+                return Some(name);
             }
         }
     }
-    true
+    None
 }
 
-fn lists_functions(tree: &Table, machine: &Value) -> bool
-    ensures { result ≡ list_all (spec.is_function_of (table_view tree.now)) (spec.listed (view machine.now)) }
+/// The first name that a machine lists and that is no function.
+fn unknown_function_of<'t>(
+    tree: &Table,
+    machine: &'t str,
+    value: &'t Value,
+) -> Option<Place<&'t str>>
+    ensures { shown result ≡ spec.unknown_function_of (table_view tree.now) (machine.now, view value.now) }
 {
-    match listed_in(machine) {
-        Some(names) => are_functions(tree, names),
-        None => true,
-    }
+    let name = no_function(tree, listed_in(value)?)?;
+    Some(Place::Listed(machine, name))
 }
 
-fn machines_list_functions(tree: &Table, machines: &Table) -> bool
-    ensures { result ≡ list_all (λ e. list_all (spec.is_function_of (table_view tree.now)) (spec.listed e.1)) (table_entries machines.now) }
+pub fn unknown_function(tree: &Table) -> Option<Place<&str>>
+    ensures { shown result ≡ spec.unknown_function (table_view tree.now) }
 {
-    for (_name, machine) in machines {
-        if !lists_functions(tree, machine) {
-            return false;
-        }
-    }
-    true
-}
-
-pub fn has_known_functions(tree: &Table) -> bool
-    ensures { result ≡ spec.has_known_functions (table_view tree.now) }
-{
-    match table_at(tree, "machines") {
-        Some(machines) => machines_list_functions(tree, machines),
-        None => true,
-    }
+    first_in(table_at(tree, "machines"), |machine, value| {
+        unknown_function_of(tree, machine, value)
+    })
 }
 
 fn count_of(table: Option<&Table>) -> usize
@@ -78,7 +73,7 @@ fn table_workers_fit(table: &Table) -> bool
     let mut total = 0;
     for (_name, machine) in table {
         total += count_at(machine, "workers", 0);
-        if total > 4096 {
+        if total > MAX_WORKERS {
             return false;
         }
     }
@@ -94,10 +89,16 @@ fn workers_fit(table: Option<&Table>) -> bool
     }
 }
 
-pub fn has_room(tree: &Table) -> bool
-    ensures { result ≡ spec.has_room (table_view tree.now) }
+pub fn too_many(tree: &Table) -> Option<Place<&str>>
+    ensures { shown result ≡ spec.too_many (table_view tree.now) }
 {
-    count_of(table_at(tree, "machines")) <= 256
-        && count_of(table_at(tree, "functions")) <= 1024
-        && workers_fit(table_at(tree, "machines"))
+    let machines = table_at(tree, "machines");
+    let functions = table_at(tree, "functions");
+    if count_of(machines) > MAX_MACHINES {
+        return Some(Place::Count(Counted::Machines));
+    }
+    if count_of(functions) > MAX_FUNCTIONS {
+        return Some(Place::Count(Counted::Functions));
+    }
+    unless(workers_fit(machines), Place::Count(Counted::Workers))
 }

@@ -4,7 +4,7 @@ ghost use Rattle.std.specs.Prelude.{◌≡◌, ◌≢◌, ◌<◌, ◌≤◌, �
 ghost use Rattle.std.specs.List.Sorted.{IsStrictlyIncreasing};
 ghost use Rattle.toml.specs.Errors.{IsBlank};
 ghost use Rattle.toml.specs.View.{table_view};
-ghost use Rattle.pool_settings.specs.Entries.{table_entries};
+ghost use Rattle.pool_settings.specs.Entries.{table_entries, told};
 ghost use Rattle.pool_settings.specs.Names as names;
 ghost use Rattle.pool_settings.specs.Planning.{instance_of};
 ghost use Rattle.pool_settings.specs.Profile.{IsProfile};
@@ -15,12 +15,11 @@ ghost use Rattle.pool_settings.specs.Tree.{entries_at};
 
 use crate::SettingsError;
 use crate::build::{read_counts, read_rows};
-use crate::checks::{
-    has_good_names, has_good_values, has_known_keys, has_needed_keys, has_version,
-};
+use crate::checks::{bad_name, bad_value, bad_version, missing_key, unknown_key};
 use crate::keys::{history_in, job_timeout_in, lull_in, max_runs_in, round_in, server_in};
-use crate::limits::{has_known_functions, has_room};
+use crate::limits::{too_many, unknown_function};
 use crate::names::Names;
+use crate::place::Place;
 use crate::planning::live_workers;
 use crate::slots::SlotTable;
 use crate::tree::table_at;
@@ -61,33 +60,31 @@ impl Model for Settings {
     ghost invariant = { λ s. IsProfile (profile_view s) };
 }
 
-/// The first check that a tree fails.
-fn first_fault(tree: &Table) -> Option<SettingsError>
-    ensures first { result ≡ spec.first_fault (table_view tree.now) }
-    ensures told { IfSome result (λ f. f ≢ SettingsError.Memory) }
+/// The first check that a tree fails, with its place.
+pub fn first_fault(tree: &Table) -> Option<(SettingsError, Place<&str>)>
+    ensures first { told result ≡ spec.first_fault (table_view tree.now) }
+    ensures refusal { IfSome result (λ f. f.0 ≢ SettingsError.Memory) }
 {
-    if !has_version(tree) {
-        return Some(SettingsError::Version);
+    if let Some(place) = bad_version(tree) {
+        return Some((SettingsError::Version, place));
     }
-    if !has_known_keys(tree) {
-        return Some(SettingsError::UnknownKey);
+    if let Some(place) = unknown_key(tree) {
+        return Some((SettingsError::UnknownKey, place));
     }
-    if !has_needed_keys(tree) {
-        return Some(SettingsError::MissingKey);
+    if let Some(place) = missing_key(tree) {
+        return Some((SettingsError::MissingKey, place));
     }
-    if !has_good_names(tree) {
-        return Some(SettingsError::BadName);
+    if let Some(place) = bad_name(tree) {
+        return Some((SettingsError::BadName, place));
     }
-    if !has_good_values(tree) {
-        return Some(SettingsError::BadValue);
+    if let Some(place) = bad_value(tree) {
+        return Some((SettingsError::BadValue, place));
     }
-    if !has_known_functions(tree) {
-        return Some(SettingsError::UnknownFunction);
+    if let Some(place) = unknown_function(tree) {
+        return Some((SettingsError::UnknownFunction, place));
     }
-    if !has_room(tree) {
-        return Some(SettingsError::TooMany);
-    }
-    None
+    let place = too_many(tree)?;
+    Some((SettingsError::TooMany, place))
 }
 
 /// The settings of a tree that passes the checks.
@@ -132,8 +129,8 @@ fn read_tree(alloc: Global, tree: &Table) -> Result<Settings, SettingsError>
     ensures refused { IfErr result (λ f. f ≢ SettingsError.Memory → spec.read_tree (table_view tree.now) ≡ Err f) }
     ensures memory { IfErr result (λ f. f ≡ SettingsError.Memory → spec.first_fault (table_view tree.now) ≡ None) }
 {
-    if let Some(fault) = first_fault(tree) {
-        return Err(fault);
+    if let Some((error, _place)) = first_fault(tree) {
+        return Err(error);
     }
     let Some(functions) = table_at(tree, "functions") else {
         unreachable!()

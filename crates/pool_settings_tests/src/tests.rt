@@ -1,4 +1,5 @@
 //! Settings files, with what they say.
 
 mod files;
+mod places;
 mod rules;

@@ -5,7 +5,8 @@ use Rattle.std.proofs.lemmas.Result.{IfErr-weaker}
 use Rattle.toml.specs.Errors.{IsBlank}
 use Rattle.toml.specs.View.{table_view}
 use Rattle.pool_settings.specs.declared.error.SettingsError.TheVariants.{Memory, Version}
-use Rattle.pool_settings.specs.Reading.{first_fault}
+use Rattle.pool_settings.specs.declared.place.Place.TheVariants.{Key}
+use Rattle.pool_settings.specs.Reading.{first_fault, version_key}
 use Rattle.pool_settings.proofs.Trees.{blank_fault, no_tree, taken_tree}
 use Rattle.pool_settings.proofs.settings.Settings.read.Goals as goal
 
@@ -28,5 +29,5 @@ pub returns-in-Ok-clause-memory : goal.returns-in-Ok-clause-memory
 returns-in-Ok-clause-memory c =
     let tree = table_view c.in-Ok.tree in
     IfErr-weaker c.read_tree.result (λ f. f ≡ Memory → first_fault tree ≡ None) (λ f. f ≡ Memory → ¬ IsBlank c.args.bytes.now)
-    (λ f none is blank. none-some Version (sym (none is) ∙ blank_fault c.args.bytes.now tree blank c.in-Ok.ensures.ok.1))
+    (λ f none is blank. none-some (Version, Key version_key) (sym (none is) ∙ blank_fault c.args.bytes.now tree blank c.in-Ok.ensures.ok.1))
     c.read_tree.ensures.memory
