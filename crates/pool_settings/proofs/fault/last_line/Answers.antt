@@ -1,5 +1,5 @@
 use Rattle.std.proofs.Common.{arith, sym, ◌∙◌}
-use Rattle.pool_settings.proofs.Cuts.{rest_taken}
+use Rattle.text_pieces.proofs.Cutting.{rest_taken}
 use Rattle.pool_settings.proofs.Lines.{line_here, one_line}
 use Rattle.pool_settings.proofs.fault.last_line.Goals as goal
 
