@@ -1,16 +1,18 @@
 -- A command of several arguments, added one by one.
-use Rattle.std.proofs.Common.{◌≡◌, ◌<◌, slice_index, codes, inl, inr, ℕ, zero, suc, List, [], ◌∷◌, map, false, refl, ap, sym, ◌∙◌, arith}
+use Rattle.std.proofs.Common.{◌≡◌, ◌<◌, Result, Ok, Err, slice_index, codes, inl, inr, ℕ, zero, suc, List, [], ◌∷◌, map, false, refl, ap, sym, ◌∙◌, arith}
 use Rattle.std.specs.List.{All}
+use Rattle.std.specs.Prelude.{IfOk}
 use Rattle.std.specs.Str.{bytes_eq}
 use Rattle.std.proofs.lemmas.Bool.{false≢true}
 use Rattle.std.proofs.lemmas.List.Elements.{All-from_recursion}
-use Rattle.clap.specs.Built.{AddsArg, AddsInTurn, FitsChain, HasDistinctIds, IsPlainArg}
+use Rattle.clap.specs.Built.{AddsArg, AddsInTurn, AddsSubcommand, FitsChain, HasDistinctIds, IsPlainArg}
 use Rattle.clap.specs.Kinds.{or_else}
-use Rattle.clap.specs.Simple.{App, app_of}
+use Rattle.clap.specs.Simple.{App, app_of, with_subcommand}
 use Rattle.clap.specs.Walk.{Rule, rule_of}
 use Rattle.clap.specs.declared.builder.arg.Arg.{Arg}
 use Rattle.clap.specs.Words.{HasKind, Kinds}
 use Rattle.clap.specs.declared.builder.command.Command.{Command}
+use Rattle.clap.specs.declared.builder.command.Command.TheViews.{out-Command}
 use Rattle.clap.specs.declared.error.Error.{Error}
 use Rattle.command_line.specs.Words.{with_rules}
 
@@ -115,3 +117,14 @@ pub in_first : (first second : Kinds) (error : Error) → HasKind first error �
 in_first first second error (inl memory) = inl memory
 in_first [] second error (inr among) = absurd among
 in_first (k ∷ ks) second error (inr among) = inr among
+
+-- a command to which one without global arguments was added
+pub app_with_subcommand : (old sub new : Command) → AddsSubcommand old sub new → (out-Command sub).has_globals ≡ false
+    → {app below : App} → app_of old ≡ app → app_of sub ≡ below → app_of new ≡ with_subcommand app below.top
+app_with_subcommand old sub new adds local whole part = rw (← whole, ← part) (adds.shape local)
+
+pub app_if_subcommand : {E : Type 0} (old sub : Command) (result : Result Command E) → IfOk result (AddsSubcommand old sub)
+    → (out-Command sub).has_globals ≡ false → {app below : App} → app_of old ≡ app → app_of sub ≡ below
+    → IfOk result (λ new. app_of new ≡ with_subcommand app below.top)
+app_if_subcommand old sub (Ok new) adds local whole part = app_with_subcommand old sub new adds local whole part
+app_if_subcommand old sub (Err e) adds local whole part = tt

@@ -3,9 +3,9 @@ use Rattle.std.specs.Prelude.{◌≡◌, ◌≢◌, ◌≤◌, map}
 use Rattle.clap.specs.Words.{IsAmong, Kinds, kind_of}
 use Rattle.clap.specs.declared.error.Error.{Error}
 use Rattle.clap.specs.declared.error.kind.ErrorKind.TheVariants.{OutOfMemory}
-use Rattle.command_line.specs.Words.{Named, plan, check, replay, run, least_rounds, most_rounds}
+use Rattle.command_line.specs.Words.{Named, plan, check, replay, show_settings, run, least_rounds, most_rounds}
 use Rattle.command_line.specs.declared.command.Command.{Command}
-use Rattle.command_line.specs.declared.command.Command.TheVariants.{Plan, Check, Replay, Run}
+use Rattle.command_line.specs.declared.command.Command.TheVariants.{Plan, Check, Replay, Settings, Run}
 use Rattle.command_line.specs.declared.command.CommandError.{CommandError}
 use Rattle.command_line.specs.declared.command.CommandError.TheVariants.{Usage, Memory}
 
@@ -13,6 +13,7 @@ abbrev pub named : Command → Named
 named (Plan settings lost) = plan settings.now (map (λ w. w.now) lost.items)
 named (Check settings status lost) = check settings.now status.now (map (λ w. w.now) lost.items)
 named (Replay settings) = replay settings.now
+named (Settings settings) = show_settings settings.now
 named (Run settings rounds) = run settings.now rounds
 
 -- the rounds of a run, where the command is one, are neither too few nor too many

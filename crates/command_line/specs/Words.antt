@@ -63,6 +63,10 @@ check_app = with_rules (new_app (codes "check")) (operand settings ∷ operand s
 abbrev pub replay_app : App
 replay_app = with_rules (new_app (codes "replay")) (operand settings ∷ [])
 
+-- `settings SETTINGS`
+abbrev pub settings_app : App
+settings_app = with_rules (new_app (codes "settings")) (operand settings ∷ [])
+
 -- `run SETTINGS ROUNDS`
 abbrev pub run_app : App
 run_app = with_rules (new_app (codes "run")) (operand settings ∷ number rounds least_rounds most_rounds ∷ [])
@@ -72,6 +76,7 @@ pub data Named : Type 0 where
   plan : Text → List Text → Named
   check : Text → Text → List Text → Named
   replay : Text → Named
+  show_settings : Text → Named
   run : Text → ℕ → Named
 
 abbrev pub lost_in : List Row → List Text
@@ -89,6 +94,9 @@ check_in rows = option_and_then (check_of rows) (first_of settings rows)
 abbrev pub replay_in : List Row → Option Named
 replay_in rows = option_map replay (first_of settings rows)
 
+abbrev pub settings_in : List Row → Option Named
+settings_in rows = option_map show_settings (first_of settings rows)
+
 -- the number that a text writes in decimal digits, of which a `+` may stand in front
 abbrev pub decimal : Text → ℕ
 decimal text = digits_value 10 (without_leading_plus text)
@@ -103,29 +111,42 @@ run_of rows s = option_map (run s) (rounds_in rows)
 abbrev pub run_in : List Row → Option Named
 run_in rows = option_and_then (run_of rows) (first_of settings rows)
 
+-- the command of a name that takes nothing from standard input, from its own words, of which the name is the first
+abbrev pub named_without_input : Text → List Text → Option Named
+named_without_input name words =
+    if bytes_eq name (codes "settings") then settings_in (matches_of settings_app words)
+    else (if bytes_eq name (codes "run") then run_in (matches_of run_app words)
+    else None)
+
 -- the command of a name, from its own words, of which the name is the first: each command is a command line of its own
 abbrev pub command_named : Text → List Text → Option Named
 command_named name words =
     if bytes_eq name (codes "plan") then plan_in (matches_of plan_app words)
     else (if bytes_eq name (codes "check") then check_in (matches_of check_app words)
     else (if bytes_eq name (codes "replay") then replay_in (matches_of replay_app words)
-    else (if bytes_eq name (codes "run") then run_in (matches_of run_app words)
-    else None)))
+    else named_without_input name words))
 
 -- the command that the words ask for, the first of them being the program's name and the second the command's
 abbrev pub command_in : List Text → Option Named
 command_in words = option_and_then (λ name. command_named name (drop 1 words)) (slice_get words 1)
 
--- the command line that wants one of four commands, by which words that name none are answered
+-- the command line that wants one of five commands, each with its operands, by which words that name none are answered
 abbrev pub overview_app : App
 overview_app =
-    with_subcommand (with_subcommand (with_subcommand (with_subcommand
-    (on_top (λ top. record top { subcommand_required = true }) (new_app (codes "poolman")))
-    (new_shape (codes "plan"))) (new_shape (codes "check"))) (new_shape (codes "replay"))) (new_shape (codes "run"))
+    with_subcommand (with_subcommand (with_subcommand (with_subcommand (with_subcommand
+    (on_top (λ top. record top { subcommand_required = true; has_version = true }) (new_app (codes "poolman")))
+    plan_app.top) check_app.top) replay_app.top) settings_app.top) run_app.top
 
 -- what is wrong with words that name no command: the kinds of `clap`'s first fault, and else that a command is missing
 abbrev pub overview_faults : List Text → Kinds
 overview_faults words = or_else (fault_of overview_app words) (MissingSubcommand ∷ [])
+
+-- What is wrong with words that have this name of a command which takes nothing from standard input, or of none.
+abbrev pub faults_without_input : List Text → Text → Kinds
+faults_without_input words name =
+    if bytes_eq name (codes "settings") then fault_of settings_app (drop 1 words)
+    else (if bytes_eq name (codes "run") then fault_of run_app (drop 1 words)
+    else overview_faults words)
 
 -- What is wrong with words that have this name of a command: the kinds of the first fault that `clap` finds in them from the name on,
 -- and nothing where they are taken.
@@ -134,8 +155,7 @@ faults_as words name =
     if bytes_eq name (codes "plan") then fault_of plan_app (drop 1 words)
     else (if bytes_eq name (codes "check") then fault_of check_app (drop 1 words)
     else (if bytes_eq name (codes "replay") then fault_of replay_app (drop 1 words)
-    else (if bytes_eq name (codes "run") then fault_of run_app (drop 1 words)
-    else overview_faults words)))
+    else faults_without_input words name))
 
 -- the same, of which the first word is the program's name and the second the command's
 abbrev pub faults_in : List Text → Kinds

@@ -1,12 +1,12 @@
 //! What the words of the command line ask for.
 
-ghost use Rattle.std.specs.Prelude.{◌≡◌, IfErr, IfOk, Some, [], map};
+ghost use Rattle.std.specs.Prelude.{◌≡◌, ◌≤◌, IfErr, IfOk, Some, [], drop, length, map};
 ghost use Rattle.clap.specs.Simple.{matches_of};
 ghost use Rattle.clap.specs.Words.{fault_of};
 ghost use Rattle.command_line.specs.Named.{HasRoundsInRange, IsOfKinds, Tells, named};
 ghost use Rattle.command_line.specs.Words as spec;
 
-use crate::operands::{check_words, overview, plan_words, replay_words, run_words};
+use crate::operands::{check_words, overview, plan_words, replay_words, run_words, settings_words};
 use clap::Error;
 use clap::error::ErrorKind;
 use std::alloc::{AllocError, Global};
@@ -28,6 +28,10 @@ pub enum Command<'a> {
     },
     /// `replay SETTINGS`: what the command lines on standard input answer.
     Replay {
+        settings: &'a str,
+    },
+    /// `settings SETTINGS`: what the settings file means, or where its first fault is.
+    Settings {
         settings: &'a str,
     },
     /// `run SETTINGS ROUNDS`: keeps workers on the functions that need them, for 1 to 65,536 rounds.
@@ -105,6 +109,17 @@ fn replay_of<'a, W: AsStr>(alloc: Global, words: &'a [W]) -> Result<Command<'a>,
     }
 }
 
+fn settings_of<'a, W: AsStr>(alloc: Global, words: &'a [W]) -> Result<Command<'a>, CommandError>
+    ensures ok { IfOk result (λ c. spec.settings_in (matches_of spec.settings_app (map W.text words.now)) ≡ Some (named c)) }
+    ensures taken { IfOk result (λ _. fault_of spec.settings_app (map W.text words.now) ≡ []) }
+    ensures usage { IfErr result (IsOfKinds (fault_of spec.settings_app (map W.text words.now))) }
+{
+    match settings_words(alloc, words) {
+        Ok(settings) => Ok(Command::Settings { settings }),
+        Err(error) => Err(refused(error)),
+    }
+}
+
 fn run_of<'a, W: AsStr>(alloc: Global, words: &'a [W]) -> Result<Command<'a>, CommandError>
     ensures ok { IfOk result (λ c. spec.run_in (matches_of spec.run_app (map W.text words.now)) ≡ Some (named c)) }
     ensures taken { IfOk result (λ _. fault_of spec.run_app (map W.text words.now) ≡ []) }
@@ -114,6 +129,50 @@ fn run_of<'a, W: AsStr>(alloc: Global, words: &'a [W]) -> Result<Command<'a>, Co
     match run_words(alloc, words) {
         Ok((settings, rounds)) => Ok(Command::Run { settings, rounds }),
         Err(error) => Err(refused(error)),
+    }
+}
+
+/// The command of this name, from words of which it is the second, where it is one that takes nothing from standard input.
+fn command_without_input<'a, W: AsStr>(
+    alloc: Global,
+    name: &str,
+    words: &'a [W],
+) -> Result<Command<'a>, CommandError>
+    requires { 1 ≤ length words.now }
+    ensures ok { IfOk result (λ c. spec.named_without_input name.now (drop 1 (map W.text words.now)) ≡ Some (named c)) }
+    ensures taken { IfOk result (λ _. spec.faults_without_input (map W.text words.now) name.now ≡ []) }
+    ensures rounds { IfOk result HasRoundsInRange }
+    ensures usage { IfErr result (IsOfKinds (spec.faults_without_input (map W.text words.now) name.now)) }
+{
+    if name == "settings" {
+        settings_of(alloc, &words[1..])
+    } else if name == "run" {
+        run_of(alloc, &words[1..])
+    } else {
+        Err(refused(overview(alloc, words)?))
+    }
+}
+
+/// The command of this name, from words of which it is the second.
+fn command_named<'a, W: AsStr>(
+    alloc: Global,
+    name: &str,
+    words: &'a [W],
+) -> Result<Command<'a>, CommandError>
+    requires { 1 ≤ length words.now }
+    ensures ok { IfOk result (λ c. spec.command_named name.now (drop 1 (map W.text words.now)) ≡ Some (named c)) }
+    ensures taken { IfOk result (λ _. spec.faults_as (map W.text words.now) name.now ≡ []) }
+    ensures rounds { IfOk result HasRoundsInRange }
+    ensures usage { IfErr result (IsOfKinds (spec.faults_as (map W.text words.now) name.now)) }
+{
+    if name == "plan" {
+        plan_of(alloc, &words[1..])
+    } else if name == "check" {
+        check_of(alloc, &words[1..])
+    } else if name == "replay" {
+        replay_of(alloc, &words[1..])
+    } else {
+        command_without_input(alloc, name, words)
     }
 }
 
@@ -128,19 +187,8 @@ pub fn command_of<'a, W: AsStr>(alloc: Global, words: &'a [W]) -> Result<Command
     ensures rounds { IfOk result HasRoundsInRange }
     ensures usage { IfErr result (IsOfKinds (spec.faults_in (map W.text words.now))) }
 {
-    if let Some(name) = words.get(1) {
-        if name.as_str() == "plan" {
-            return plan_of(alloc, &words[1..]);
-        }
-        if name.as_str() == "check" {
-            return check_of(alloc, &words[1..]);
-        }
-        if name.as_str() == "replay" {
-            return replay_of(alloc, &words[1..]);
-        }
-        if name.as_str() == "run" {
-            return run_of(alloc, &words[1..]);
-        }
+    match words.get(1) {
+        Some(name) => command_named(alloc, name.as_str(), words),
+        None => Err(refused(overview(alloc, words)?)),
     }
-    Err(refused(overview(alloc, words)?))
 }

@@ -39,6 +39,12 @@ const REPLAY: Help = Help {
     example: "Example: printf 'join a/0\nload x 6 0\nround\norder a/0\n' | poolman replay settings.toml",
 };
 
+const SETTINGS: Help = Help {
+    about: "Reads a settings file and prints what it means, or where its first fault is",
+    usage: "poolman settings SETTINGS",
+    example: "Example: poolman settings settings.toml",
+};
+
 const RUN: Help = Help {
     about: "Keeps workers on the functions that need them, for ROUNDS rounds, and accounts for each job",
     usage: "poolman run SETTINGS ROUNDS",
@@ -50,6 +56,9 @@ const PROGRAM: Help = Help {
     usage: "poolman COMMAND ...",
     example: "`poolman COMMAND --help` explains a command.",
 };
+
+/// The version of the program.
+const VERSION: &str = "0.1.0";
 
 /// A word that has to be there.
 fn operand<'a>(alloc: Global, id: &'a str, help: &'a str) -> Arg<'a>
@@ -225,6 +234,21 @@ pub fn replay_words<'a, W: AsStr>(alloc: Global, words: &'a [W]) -> Result<&'a s
     Ok(settings)
 }
 
+/// The text of the word of `settings`: the settings.
+pub fn settings_words<'a, W: AsStr>(alloc: Global, words: &'a [W]) -> Result<&'a str, Error>
+    ensures settings { IfOk result (λ m. first_of spec.settings (matches_of spec.settings_app (map W.text words.now)) ≡ Some m.now) }
+    ensures kinds { FailsBy (fault_of spec.settings_app (map W.text words.now)) result }
+{
+    let settings = settings(alloc);
+    let command = command(alloc, "settings", SETTINGS);
+    let command = command.arg(settings)?;
+    let matches = command.try_get_matches_from(words)?;
+    let Some(settings) = matches.get_str("SETTINGS") else {
+        unreachable!()
+    };
+    Ok(settings)
+}
+
 /// What the words of `run` give: its settings and its rounds.
 pub fn run_words<'a, W: AsStr>(alloc: Global, words: &'a [W]) -> Result<(&'a str, u32), Error>
     ensures settings { IfOk result (λ m. first_of spec.settings (matches_of spec.run_app (map W.text words.now)) ≡ Some m.0.now) }
@@ -246,16 +270,65 @@ pub fn run_words<'a, W: AsStr>(alloc: Global, words: &'a [W]) -> Result<(&'a str
     Ok((settings, rounds))
 }
 
+/// `plan` with its operands, as the help of the program explains it.
+fn plan_help<'a>(alloc: Global) -> Result<Command<'a>, AllocError>
+    ensures app { IfOk result (λ c. app_of c ≡ spec.plan_app) }
+    ensures local { IfOk result (λ c. (fields_of c).has_globals ≡ false) }
+{
+    command(alloc, "plan", PLAN)
+        .arg(settings(alloc))?
+        .arg(lost(alloc))
+}
+
+/// `check` with its operands.
+fn check_help<'a>(alloc: Global) -> Result<Command<'a>, AllocError>
+    ensures app { IfOk result (λ c. app_of c ≡ spec.check_app) }
+    ensures local { IfOk result (λ c. (fields_of c).has_globals ≡ false) }
+{
+    command(alloc, "check", CHECK)
+        .arg(settings(alloc))?
+        .arg(status(alloc))?
+        .arg(lost(alloc))
+}
+
+/// `replay` with its operand.
+fn replay_help<'a>(alloc: Global) -> Result<Command<'a>, AllocError>
+    ensures app { IfOk result (λ c. app_of c ≡ spec.replay_app) }
+    ensures local { IfOk result (λ c. (fields_of c).has_globals ≡ false) }
+{
+    command(alloc, "replay", REPLAY).arg(settings(alloc))
+}
+
+/// `settings` with its operand.
+fn settings_help<'a>(alloc: Global) -> Result<Command<'a>, AllocError>
+    ensures app { IfOk result (λ c. app_of c ≡ spec.settings_app) }
+    ensures local { IfOk result (λ c. (fields_of c).has_globals ≡ false) }
+{
+    command(alloc, "settings", SETTINGS).arg(settings(alloc))
+}
+
+/// `run` with its operands.
+fn run_help<'a>(alloc: Global) -> Result<Command<'a>, AllocError>
+    ensures app { IfOk result (λ c. app_of c ≡ spec.run_app) }
+    ensures local { IfOk result (λ c. (fields_of c).has_globals ≡ false) }
+{
+    command(alloc, "run", RUN)
+        .arg(settings(alloc))?
+        .arg(rounds(alloc))
+}
+
 /// The command line of words that name no command.
 fn program<'a>(alloc: Global) -> Result<Command<'a>, AllocError>
     ensures app { IfOk result (λ p. app_of p ≡ spec.overview_app) }
 {
     command(alloc, "poolman", PROGRAM)
+        .version(VERSION)
         .subcommand_required(true)
-        .subcommand(command(alloc, "plan", PLAN))?
-        .subcommand(command(alloc, "check", CHECK))?
-        .subcommand(command(alloc, "replay", REPLAY))?
-        .subcommand(command(alloc, "run", RUN))
+        .subcommand(plan_help(alloc)?)?
+        .subcommand(check_help(alloc)?)?
+        .subcommand(replay_help(alloc)?)?
+        .subcommand(settings_help(alloc)?)?
+        .subcommand(run_help(alloc)?)
 }
 
 /// What to print where the words name no command: the help that they ask for, or what is wrong.

@@ -1,6 +1,6 @@
 -- What a command does, by the files that it names.
 use Rattle.std.specs.Prelude.{◌⊎◌, ℕ, List}
-use Rattle.command_line.specs.Words.{Named, plan, check, replay, run}
+use Rattle.command_line.specs.Words.{Named, plan, check, replay, show_settings, run}
 use Rattle.devices.specs.Folder.{IsRead, IsUnread, Known}
 use Rattle.devices.specs.Whole.{IsUntouched}
 use Rattle.devices.specs.declared.error.InputError.{InputError}
@@ -13,6 +13,7 @@ use Rattle.plan_commands.specs.Problem.{load_of, problem}
 use Rattle.plan_commands.specs.declared.ending.Exit.{Exit}
 use Rattle.replay_command.specs.Replay.{Replays}
 use Rattle.run_command.specs.Run.{Supervises}
+use Rattle.settings_command.specs.Told.{TellsSettings}
 
 -- This keeps a file of the command from being read whole, and is the first that does: files are read in the order of the words.
 abbrev pub IsUnreadIn : (List ℕ → Known) → Named → InputError → Type 0
@@ -20,9 +21,11 @@ IsUnreadIn file (plan s lost) e = IsUnread (file s) e
 IsUnreadIn file (check s t lost) e =
     IsUnread (file s) e ⊎ ((settings : List ℕ) × IsRead (file s) settings × IsUnread (file t) e)
 IsUnreadIn file (replay s) e = IsUnread (file s) e
+IsUnreadIn file (show_settings s) e = IsUnread (file s) e
 IsUnreadIn file (run s rounds) e = IsUnread (file s) e
 
--- The files of the command were read, and it does with their bytes what its call says. A run takes nothing from the input.
+-- The files of the command were read, and it does with their bytes what its call says. `settings` and a run take nothing from the
+-- input.
 abbrev pub Runs : (List ℕ → Known) → Named → Met → Output → Output → Exit → Type 0
 Runs file (plan s lost) met old new exit =
     (settings : List ℕ) × IsRead (file s) settings × Plans settings lost met old new exit
@@ -31,6 +34,8 @@ Runs file (check s t lost) met old new exit =
     × Checks (problem settings lost (load_of text)) met old new exit
 Runs file (replay s) met old new exit =
     (settings : List ℕ) × IsRead (file s) settings × Replays settings met old new exit
+Runs file (show_settings s) met old new exit =
+    (settings : List ℕ) × IsRead (file s) settings × IsUntouched met × TellsSettings settings old new exit
 Runs file (run s rounds) met old new exit =
     (settings : List ℕ) × IsRead (file s) settings × IsUntouched met × Supervises settings rounds old new exit
 

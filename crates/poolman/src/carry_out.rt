@@ -12,11 +12,12 @@ use gear_status::{Sink, Source};
 use plan_commands::{Exit, Fault, check_text, plan_text};
 use replay_command::run_commands;
 use run_command::{Host, run_rounds};
+use settings_command::settings_text;
 use std::alloc::Global;
 
-/// Carries out a command: reads its files, and then does what `plan_text`, `check_text`, `run_commands` or `run_rounds` says of
-/// them. A file that cannot be read is told before any fault of a text, and nothing is taken from the source or written then. A run takes
-/// nothing from the source.
+/// Carries out a command: reads its files, and then does what `plan_text`, `check_text`, `run_commands`, `settings_text` or
+/// `run_rounds` says of them. A file that cannot be read is told before any fault of a text, and nothing is taken from the source or
+/// written then. `settings` and a run take nothing from the source.
 pub fn carry_out<F: Folder, H: Host, R: Source, S: Sink>(
     files: &F,
     host: &H,
@@ -45,6 +46,10 @@ pub fn carry_out<F: Folder, H: Host, R: Source, S: Sink>(
         },
         Command::Replay { settings } => match read_file(files, alloc, settings) {
             Ok(text) => run_commands(alloc, &text, source, sink),
+            Err(error) => Exit::refused(Fault::from(error)),
+        },
+        Command::Settings { settings } => match read_file(files, alloc, settings) {
+            Ok(text) => settings_text(alloc, &text, sink),
             Err(error) => Exit::refused(Fault::from(error)),
         },
         Command::Run { settings, rounds } => match read_file(files, alloc, settings) {

@@ -14,7 +14,9 @@ fn texts_of<'a>(alloc: Global, words: &'a [&'a str]) -> Option<(&'a str, Option<
             status,
             lost,
         } => Some((settings, Some(status), lost.len())),
-        Command::Replay { settings } => Some((settings, None, 0)),
+        Command::Replay { settings } | Command::Settings { settings } => {
+            Some((settings, None, 0))
+        }
         Command::Run { .. } => None,
     }
 }
@@ -59,6 +61,8 @@ fn commands_of_words(rt: HostRuntime) {
     assert!(rt; texts_of(alloc, &check) == Some(("s.toml", Some("status.txt"), 0)));
     let replay = ["poolman", "replay", "s.toml"];
     assert!(rt; texts_of(alloc, &replay) == Some(("s.toml", None, 0)));
+    let settings = ["poolman", "settings", "s.toml"];
+    assert!(rt; texts_of(alloc, &settings) == Some(("s.toml", None, 0)));
 }
 
 #[test]
@@ -129,5 +133,52 @@ fn help_of_run_tells_the_range(rt: HostRuntime) -> Result<(), Fail> {
         text.as_str()
             .contains("Example: poolman run settings.toml 3600")
     );
+    Ok(())
+}
+
+/// Whether the words ask for help, and what is printed has all of these.
+fn helps(alloc: Global, words: &[&str], parts: &[&str]) -> bool {
+    let Err(CommandError::Usage(help)) = command_of(alloc, words) else {
+        return false;
+    };
+    match format!(in alloc; "{help}") {
+        Ok(text) => {
+            help.kind() == ErrorKind::DisplayHelp
+                && parts.iter().all(|part| text.as_str().contains(part))
+        }
+        Err(_) => false,
+    }
+}
+
+#[test]
+fn help_lists_the_operands_either_way(rt: HostRuntime) {
+    let alloc = rt.alloc();
+    let plan = ["<SETTINGS>  ", "[LOST]...   "];
+    assert!(rt; helps(alloc, &["poolman", "plan", "--help"], &plan));
+    assert!(rt; helps(alloc, &["poolman", "help", "plan"], &plan));
+    let check = ["<SETTINGS>  ", "<STATUS>  ", "[LOST]...   "];
+    assert!(rt; helps(alloc, &["poolman", "check", "--help"], &check));
+    assert!(rt; helps(alloc, &["poolman", "help", "check"], &check));
+    let run = ["<SETTINGS>  ", "<ROUNDS>  "];
+    assert!(rt; helps(alloc, &["poolman", "run", "--help"], &run));
+    assert!(rt; helps(alloc, &["poolman", "help", "run"], &run));
+    for name in ["replay", "settings"] {
+        assert!(rt; helps(alloc, &["poolman", name, "--help"], &["<SETTINGS>  "]));
+        assert!(rt; helps(alloc, &["poolman", "help", name], &["<SETTINGS>  "]));
+    }
+}
+
+#[test]
+fn name_and_version(rt: HostRuntime) -> Result<(), Fail> {
+    let alloc = rt.alloc();
+    for word in ["--version", "-V"] {
+        let Err(CommandError::Usage(version)) = command_of(alloc, &["poolman", word]) else {
+            assert!(rt; false);
+            return Ok(());
+        };
+        assert!(rt; version.kind() == ErrorKind::DisplayVersion);
+        let text = format!(in alloc; "{version}")?;
+        assert!(rt; text.as_str() == "poolman 0.1.0\n");
+    }
     Ok(())
 }

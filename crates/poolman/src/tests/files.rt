@@ -1,7 +1,7 @@
 //! Commands on files, of which two are there.
 
 use super::away::Away;
-use super::one_worker::{LIMIT, REPORT, SETTINGS, STATUS};
+use super::one_worker::{LIMIT, MEANING, REPORT, SETTINGS, STATUS};
 use crate::carry_out::carry_out;
 use command_line::Command;
 use devices::Folder;
@@ -96,6 +96,10 @@ fn commands_read_their_files(rt: HostRuntime) {
         settings: "settings.toml",
     };
     assert!(rt; carries_out(&host, alloc, &replay, b"", done, b""));
+    let told = Command::Settings {
+        settings: "settings.toml",
+    };
+    assert!(rt; carries_out(&host, alloc, &told, b"", done, MEANING));
     let run = Command::Run {
         settings: "settings.toml",
         rounds: 1,

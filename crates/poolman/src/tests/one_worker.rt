@@ -16,5 +16,18 @@ work a/0 x
 end
 ";
 
+/// What the settings mean.
+pub const MEANING: &[u8] = b"server 127.0.0.1:4730
+job_timeout_ms 60000
+max_runs 4294967295
+round_ms 1000
+lull_ms 100
+history 1048576
+function x least 0
+function x most 1
+machine a workers 1
+may a x
+";
+
 /// The most bytes that a file or an input may have.
 pub const LIMIT: usize = 16_777_216;

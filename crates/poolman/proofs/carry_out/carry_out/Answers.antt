@@ -82,7 +82,7 @@ pub returns-in-Err-read_file-2 : goal.returns-in-Err-read_file-2
 returns-in-Err-read_file-2 g c = record {
   carries_out = unread (g.F.Folder.file c.args.files.now) (named c.args.command.now) (g.R.Device.input c.args.source.now)
       (g.S.Device.output c.args.sink.now) c.in-Err-read_file-2.error c.refused-in-Err-read_file-2.result
-      (c.refused-in-Err-read_file-2.ensures ∙ ap refused c.from-in-Err-read_file-2.ensures) (rw c.in-Run.is c.in-Err-read_file-2.ensures.err);
+      (c.refused-in-Err-read_file-2.ensures ∙ ap refused c.from-in-Err-read_file-2.ensures) (rw c.in-Settings.is c.in-Err-read_file-2.ensures.err);
 }
 
 -- nothing was taken
@@ -92,10 +92,34 @@ returns-in-Ok-read_file-2 g c =
       carries_out = (
         nothing_from side,
         meets_nothing side,
-        rw c.in-Run.is (inl (
+        rw c.in-Settings.is (inl (
           c.deref-in-Ok-read_file-2.result.now,
-          subst (IsRead (g.F.Folder.file c.args.files.now c.in-Run.settings.now)) (sym c.deref-in-Ok-read_file-2.ensures.value)
+          subst (IsRead (g.F.Folder.file c.args.files.now c.in-Settings.settings.now)) (sym c.deref-in-Ok-read_file-2.ensures.value)
               c.in-Ok-read_file-2.ensures.whole,
+          (refl, refl, refl),
+          c.settings_text.ensures.tells,
+        )),
+      );
+    }
+
+pub returns-in-Err-read_file-3 : goal.returns-in-Err-read_file-3
+returns-in-Err-read_file-3 g c = record {
+  carries_out = unread (g.F.Folder.file c.args.files.now) (named c.args.command.now) (g.R.Device.input c.args.source.now)
+      (g.S.Device.output c.args.sink.now) c.in-Err-read_file-3.error c.refused-in-Err-read_file-3.result
+      (c.refused-in-Err-read_file-3.ensures ∙ ap refused c.from-in-Err-read_file-3.ensures) (rw c.in-Run.is c.in-Err-read_file-3.ensures.err);
+}
+
+-- nothing was taken
+pub returns-in-Ok-read_file-3 : goal.returns-in-Ok-read_file-3
+returns-in-Ok-read_file-3 g c =
+    let side = g.R.Device.input c.args.source.now in record {
+      carries_out = (
+        nothing_from side,
+        meets_nothing side,
+        rw c.in-Run.is (inl (
+          c.deref-in-Ok-read_file-3.result.now,
+          subst (IsRead (g.F.Folder.file c.args.files.now c.in-Run.settings.now)) (sym c.deref-in-Ok-read_file-3.ensures.value)
+              c.in-Ok-read_file-3.ensures.whole,
           (refl, refl, refl),
           c.run_rounds.ensures.supervises,
         )),
