@@ -1,3 +1,5 @@
+//! The search over the tables of a round: it serves each function, or shows a set that is short.
+
 ghost use Rattle.std.specs.Prelude.{◌≡◌, ℕ, ◌+◌, ◌*◌, ◌^◌, ◌<◌, ◌≤◌, length, slice_index, IfOk, OnErr, IfSome, IfNone};
 ghost use Rattle.augment.specs.Short.{marked};
 ghost use Rattle.round_arena.specs.Plan.{pair_total};

@@ -18,10 +18,10 @@ known_of None = unknown
 known_of (Some all) = holds all
 
 -- A file of which this is known is open, and its reader has this left.
-abbrev pub IsOpen : Known → Option (List ℕ) → Type 0
-IsOpen unknown left = Unit {0}
-IsOpen absent left = ⊥
-IsOpen (holds all) left = left ≡ Some all
+abbrev pub IsOpenFile : Known → Option (List ℕ) → Type 0
+IsOpenFile unknown left = Unit {0}
+IsOpenFile absent left = ⊥
+IsOpenFile (holds all) left = left ≡ Some all
 
 -- A file of which this is known is not opened, with an error of this kind. One that is known to be there fails to open for want of
 -- memory alone.
@@ -36,15 +36,15 @@ IsTextOf absent text = ⊥
 IsTextOf (holds all) text = text ≡ all
 
 -- A file of which this is known is read whole, and these are its bytes.
-abbrev pub IsRead : Known → List ℕ → Type 0
-IsRead known text = IsTextOf known text × (length text ≤ limit)
+abbrev pub IsReadFile : Known → List ℕ → Type 0
+IsReadFile known text = IsTextOf known text × (length text ≤ limit)
 
 -- A file of which this is known is not read whole by this error. Any file may lack memory, and a device may fail for any that is there;
 -- but for these, one that is known not to be there has no other error, and one whose bytes are known is above the limit.
-abbrev pub IsUnread : Known → InputError → Type 0
-IsUnread unknown error = Unit {0}
-IsUnread absent error.NoFile = Unit {0}
-IsUnread (holds all) error.TooLong = limit < length all
-IsUnread (holds all) error.ReadFault = Unit {0}
-IsUnread known error.Memory = Unit {0}
-IsUnread known other = ⊥
+abbrev pub IsUnreadFile : Known → InputError → Type 0
+IsUnreadFile unknown error = Unit {0}
+IsUnreadFile absent error.NoFile = Unit {0}
+IsUnreadFile (holds all) error.TooLong = limit < length all
+IsUnreadFile (holds all) error.ReadFault = Unit {0}
+IsUnreadFile known error.Memory = Unit {0}
+IsUnreadFile known other = ⊥

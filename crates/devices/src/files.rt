@@ -1,7 +1,7 @@
 //! Files, read whole and no further than their limit.
 
 ghost use Rattle.std.specs.Prelude.{◌≤◌, IfErr, IfOk, length};
-ghost use Rattle.devices.specs.Folder.{IsRead, IsTextOf, IsUnread, known_of};
+ghost use Rattle.devices.specs.Folder.{IsReadFile, IsTextOf, IsUnreadFile, known_of};
 ghost use Rattle.devices.specs.Whole.{limit};
 
 use crate::error::InputError;
@@ -16,7 +16,7 @@ use std::io::Read;
 pub trait Folder {
     ghost use Rattle.std.specs.Prelude.{ℕ, List, IfErr, IfOk};
     ghost use Rattle.std.specs.IoError.{error_kind};
-    ghost use Rattle.devices.specs.Folder.{IsOpen, IsUnopened, Known};
+    ghost use Rattle.devices.specs.Folder.{IsOpenFile, IsUnopened, Known};
 
     /// An open file.
     type File: Read + Drop;
@@ -26,7 +26,7 @@ pub trait Folder {
 
     /// Opens the file of exactly this name, to be read from its first byte.
     fn open(&self, name: &str) -> io::Result<Self::File>
-        ensures bytes { IfOk result (λ opened. IsOpen (file self.now name.now) (Self.File.remaining opened)) }
+        ensures bytes { IfOk result (λ opened. IsOpenFile (file self.now name.now) (Self.File.remaining opened)) }
         ensures err { IfErr result (λ e. IsUnopened (file self.now name.now) (error_kind e)) };
 }
 
@@ -47,8 +47,8 @@ impl Folder for HostRuntime {
 /// `NoFile` where the file is not there or may not be opened, `ReadFault` where a read of it fails, `TooLong` above the limit,
 /// `Memory` where memory is refused.
 pub fn read_file<F: Folder>(files: &F, alloc: Global, name: &str) -> Result<Vec<u8>, InputError>
-    ensures whole { IfOk result (λ bytes. IsRead (F.file files.now name.now) bytes.items) }
-    ensures err { IfErr result (IsUnread (F.file files.now name.now)) }
+    ensures whole { IfOk result (λ bytes. IsReadFile (F.file files.now name.now) bytes.items) }
+    ensures err { IfErr result (IsUnreadFile (F.file files.now name.now)) }
 {
     match files.open(name) {
         Ok(file) => read_within(alloc, file),
@@ -60,7 +60,7 @@ pub fn read_file<F: Folder>(files: &F, alloc: Global, name: &str) -> Result<Vec<
 fn read_within<R: Read + Drop>(alloc: Global, reader: R) -> Result<Vec<u8>, InputError>
     ensures within { IfOk result (λ bytes. length bytes.items ≤ limit) }
     ensures whole { IfOk result (λ bytes. IsTextOf (known_of (R.remaining reader)) bytes.items) }
-    ensures err { IfErr result (IsUnread (known_of (R.remaining reader))) }
+    ensures err { IfErr result (IsUnreadFile (known_of (R.remaining reader))) }
 {
     let mut bytes = Vec::new(alloc);
     match reader.take(LIMIT + 1).read_to_end(&mut bytes) {

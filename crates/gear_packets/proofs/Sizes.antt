@@ -6,7 +6,7 @@ use Rattle.std.proofs.lemmas.List.{length-append}
 use Rattle.std.proofs.lemmas.Bool.{le-ltb}
 use Rattle.gear_packets.specs.Frame.{body_limit}
 use Rattle.gear_packets.specs.Request.{IsHandle, work_status, body_of}
-use Rattle.gear_packets.specs.Refusal.{request_refusal}
+use Rattle.gear_packets.specs.PacketRefusals.{request_refusal}
 
 status_length : (handle : List ℕ) (part all : ℕ) → IsHandle handle → part < 2 ^ 32 → all < 2 ^ 32 → length (body_of (work_status handle part all)) ≤ 85
 status_length handle part all h a b =

@@ -5,7 +5,7 @@ use Rattle.std.proofs.lemmas.Bool.{and_parts, false≢true}
 use Rattle.std.proofs.lemmas.Bool.Decides.{nat_tests}
 use Rattle.gear_status.specs.Sides.{Met, Undisturbed}
 use Rattle.gear_status.specs.Status.{Line, at_end, is_line_feed, is_period, is_too_long, line_meaning, meaning_from, put, status, without_return}
-use Rattle.gear_status.specs.Stream.{Answers, EndsWithPiece, IsPart, Part, is_open, is_verdict, meaning_with}
+use Rattle.gear_status.specs.Stream.{AnswersStatus, EndsWithPiece, IsPart, Part, is_open, is_verdict, meaning_with}
 use Rattle.gear_status.specs.declared.error.StatusError.{StatusError}
 use Rattle.gear_status.specs.declared.error.StatusError.TheVariants.{BadLine, BadNumber, LineTooLong, Memory, ReadFault, TooManyLines, Truncated}
 
@@ -129,7 +129,7 @@ led_on bytes piece p q ahead on rest =
 
 -- what a piece's fault lets a call answer
 pub fault_answer : (met : Met) (f : StatusError) → is_verdict f ≡ true → (f ≢ Memory → status met.bytes ≡ Err f)
-    → EndsWithPiece met → Undisturbed met → Answers met (Err f)
+    → EndsWithPiece met → Undisturbed met → AnswersStatus met (Err f)
 fault_answer met Memory v e last calm = (last, calm)
 fault_answer met Truncated v e last calm = absurd (false≢true v)
 fault_answer met ReadFault v e last calm = absurd (false≢true v)

@@ -3,7 +3,7 @@ pub mod Entries
 pub mod Cut
 pub mod Device
 pub mod Stream
-pub mod Refusal
+pub mod StatusRefusals
 pub mod Memory
 pub mod Script
 pub mod Played

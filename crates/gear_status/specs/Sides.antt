@@ -2,14 +2,14 @@
 use Rattle.std.specs.Prelude.{ℕ, ◌≡◌, ◌+◌, ◌<◌, ◌≤◌, ◌⊎◌, List, ◌++◌, Bool, false, Option, None, length, option_map, take}
 
 -- What was read: the bytes that it gave so far, in order, and how many lulls there were, each where it tells them; how often a read
--- failed; and whether the last read found the end, which is false before the first
+-- failed; and whether the last read found the end, which is false before the first.
 pub record Input : Type 0 where
   pub given : Option (List ℕ)
   pub lulls : Option ℕ
   pub failures : ℕ
   pub has_ended : Bool
 
--- What was written: the bytes that it took so far, in order, where it tells them, and how often a write failed
+-- What was written: the bytes that it took so far, in order, where it tells them, and how often a write failed.
 pub record Output : Type 0 where
   pub got : Option (List ℕ)
   pub failures : ℕ
@@ -32,14 +32,14 @@ counted before more = option_map (λ n. n + more) before
 -- ---- reading
 
 -- What one call met at its source: the bytes that it took, in order, the lulls, the reads that failed, and whether the last read found
--- the end
+-- the end.
 pub record Met : Type 0 where
   pub bytes : List ℕ
   pub lulls : ℕ
   pub failures : ℕ
   pub has_ended : Bool
 
--- The side of a source before a call, what the call met there, and the side after it
+-- The side of a source before a call, what the call met there, and the side after it.
 abbrev pub Meets : Input → Met → Input → Type 0
 Meets old met new =
     (new.given ≡ and_then old.given met.bytes) × (new.lulls ≡ counted old.lulls met.lulls)
@@ -55,11 +55,11 @@ GaveUp met = (met.failures ≡ 1) ⊎ (met.lulls ≡ 65)
 
 -- ---- writing
 
--- The side of a sink before a text was written and after it: it has the whole text, and no write failed
+-- The side of a sink before a text was written and after it: it has the whole text, and no write failed.
 abbrev pub HasText : Output → List ℕ → Output → Type 0
 HasText old text new = (new.got ≡ and_then old.got text) × (new.failures ≡ old.failures)
 
--- The same where a write failed: it has a front of so many bytes, and not the whole text
+-- The same where a write failed: it has a front of so many bytes, and not the whole text.
 abbrev pub HasFront : Output → List ℕ → ℕ → Output → Type 0
 HasFront old text count new =
     (new.got ≡ and_then old.got (take count text)) × (count < length text) × (new.failures ≡ old.failures + 1)

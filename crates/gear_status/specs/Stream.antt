@@ -49,21 +49,21 @@ EndsWithPiece met =
     × (met.has_ended ≡ false)
 
 -- What a call may answer that met this. Want of memory comes while a piece is taken in, and nothing before that piece decides.
-abbrev pub Answers : Met → Result (List Line) StatusError → Type 0
-Answers met (Ok load) = (status met.bytes ≡ Ok load) × EndsWithPiece met × Undisturbed met
-Answers met (Err fault.Memory) = EndsWithPiece met × Undisturbed met
-Answers met (Err fault.Truncated) =
+abbrev pub AnswersStatus : Met → Result (List Line) StatusError → Type 0
+AnswersStatus met (Ok load) = (status met.bytes ≡ Ok load) × EndsWithPiece met × Undisturbed met
+AnswersStatus met (Err fault.Memory) = EndsWithPiece met × Undisturbed met
+AnswersStatus met (Err fault.Truncated) =
     (status met.bytes ≡ Err fault.Truncated) × (met.has_ended ≡ true) × Undisturbed met
-Answers met (Err fault.ReadFault) = (status met.bytes ≡ Err fault.Truncated) × GaveUp met
-Answers met (Err f) = (status met.bytes ≡ Err f) × EndsWithPiece met × Undisturbed met
+AnswersStatus met (Err fault.ReadFault) = (status met.bytes ≡ Err fault.Truncated) × GaveUp met
+AnswersStatus met (Err f) = (status met.bytes ≡ Err f) × EndsWithPiece met × Undisturbed met
 
 -- No text that is undecided is longer than this: 65,536 lines of 4,096 bytes with their line feeds, and one more line.
 abbrev pub longest : ℕ
 longest = 65537 * 4097
 
--- The same, of a call that takes so many bytes at most and one byte more to see whether the text goes on
+-- The same, of a call that takes so many bytes at most and one byte more to see whether the text goes on.
 abbrev pub AnswersWithin : ℕ → Met → Result (Option (List Line)) StatusError → Type 0
-AnswersWithin limit met (Ok (Some load)) = Answers met (Ok load) × (length met.bytes ≤ limit)
+AnswersWithin limit met (Ok (Some load)) = AnswersStatus met (Ok load) × (length met.bytes ≤ limit)
 AnswersWithin limit met (Ok None) =
     (length met.bytes ≡ limit + 1) × (status (take limit met.bytes) ≡ Err fault.Truncated) × (limit ≤ longest) × Undisturbed met
-AnswersWithin limit met (Err f) = Answers met (Err f) × (length met.bytes ≤ limit)
+AnswersWithin limit met (Err f) = AnswersStatus met (Err f) × (length met.bytes ≤ limit)

@@ -1,4 +1,4 @@
-// What bytes are read from and written to.
+//! What bytes are read from and written to.
 
 ghost use Rattle.std.specs.Prelude.{◌≡◌, ◌+◌, ◌-◌, ◌^◌, ◌<◌, ◌≤◌, length, IfOk, IfErr, OnOk, OnErr, take};
 ghost use Rattle.gear_status.specs.Device.{FitsBuffer, failure_of, gone, is_end, lull_of, taken};

@@ -1,7 +1,7 @@
-// Why a status text is not taken.
+//! Why a status text is not taken.
 
 ghost use Rattle.std.specs.Prelude.{◌≡◌};
-ghost use Rattle.gear_status.specs.Refusal as spec;
+ghost use Rattle.gear_status.specs.StatusRefusals as spec;
 
 use refusal::{Label, Labelled, Refusal};
 use std::alloc::{AllocError, AllocFailed};
@@ -37,7 +37,7 @@ pub enum StatusError {
 
 /// The number of a refusal is its place in the list of variants, from 1 to 7.
 impl Labelled for StatusError {
-    ghost use Rattle.gear_status.specs.Refusal.{status_label};
+    ghost use Rattle.gear_status.specs.StatusRefusals.{status_label};
 
     ghost label = { status_label };
 
@@ -55,7 +55,7 @@ impl Labelled for StatusError {
 }
 
 impl Refusal for StatusError {
-    ghost use Rattle.gear_status.specs.Refusal.{is_status_memory};
+    ghost use Rattle.gear_status.specs.StatusRefusals.{is_status_memory};
 
     ghost is_memory = { is_status_memory };
 }
@@ -63,7 +63,7 @@ impl Refusal for StatusError {
 impl StatusError {
     /// The line that is refused, counted from 1, where it is one line.
     pub fn line(self) -> Option<u32>
-        ensures line { result ≡ spec.line_of self }
+        ensures line { result ≡ spec.status_line_of self }
     {
         match self {
             StatusError::BadLine(line)

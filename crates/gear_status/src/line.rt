@@ -1,4 +1,4 @@
-// One line of a status text.
+//! One line of a status text.
 
 ghost use Rattle.std.specs.Prelude.{◌≡◌, option_map, Ok, Err, IfOk, IfErr, true};
 ghost use Rattle.gear_status.specs.Stream.{is_verdict};

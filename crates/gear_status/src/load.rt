@@ -1,4 +1,4 @@
-// A load: the functions of a status text with their counts, in the order of its lines.
+//! A load: the functions of a status text with their counts, in the order of its lines.
 
 ghost use Rattle.std.specs.Prelude.{◌≡◌, [], IfOk, OnErr, OnOk};
 ghost use Rattle.gear_status.specs.Status.{put, waiting};

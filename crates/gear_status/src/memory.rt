@@ -1,4 +1,4 @@
-// Devices over memory, which tell their bytes.
+//! Devices over memory, which tell their bytes.
 
 ghost use Rattle.std.specs.Prelude.{◌≡◌, ◌<◌, ◌≤◌, ◌^◌, ◌+◌, ◌-◌, ◌++◌, [], IfOk, OnErr, false, length};
 ghost use Rattle.gear_status.specs.Memory.{ReadsText};

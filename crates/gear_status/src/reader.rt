@@ -1,4 +1,4 @@
-// A status text, read as it comes.
+//! A status text, read as it comes.
 
 ghost use Rattle.std.specs.Prelude.{◌≡◌, ◌≢◌, ◌∷◌, ◌++◌, ◌^◌, ◌-◌, ◌<◌, [], IfOk, IfErr, Err, List, ℕ, true};
 ghost use Rattle.gear_status.specs.Stream.{IsPart, LeadsTo, is_verdict, meaning_with};

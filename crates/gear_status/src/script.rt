@@ -1,4 +1,4 @@
-// A device in memory that follows a script, for tests.
+//! A device in memory that follows a script, for tests.
 
 ghost use Rattle.std.specs.Prelude.{◌≡◌, ◌<◌, ◌≤◌, ◌-◌, ◌^◌, ◌++◌, ◌∷◌, [], min, length, take, IfOk, OnOk, OnErr, Some, None};
 ghost use Rattle.gear_status.specs.Script.{Reads, Writes, first_play, fails, one_less};

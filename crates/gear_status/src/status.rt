@@ -1,10 +1,10 @@
-// A load, read from a source.
+//! A load, read from a source.
 
 ghost use Rattle.std.specs.Prelude.{◌≡◌, ◌≢◌, ◌+◌, ◌-◌, ◌^◌, ◌<◌, Err, IfErr, IfOk, Ok, ℕ, List, length, max, min};
 ghost use Rattle.gear_status.specs.Device.{FitsBuffer, failure_of, is_end, lull_of, taken};
 ghost use Rattle.gear_status.specs.Sides.{Meets, Met, and_then, counted};
 ghost use Rattle.gear_status.specs.Status.{status};
-ghost use Rattle.gear_status.specs.Stream.{Answers, AnswersWithin};
+ghost use Rattle.gear_status.specs.Stream.{AnswersStatus, AnswersWithin};
 
 use crate::reader::Unfinished;
 use crate::{DeviceFault, Load, Source, StatusError, Took};
@@ -26,7 +26,7 @@ const LULLS: u32 = 64;
 /// or lulled for the 65th time in it, before its bytes decided: after the first failure nothing is read.
 pub fn read_status<S: Source>(alloc: Global, source: &mut S) -> Result<Load, StatusError>
     requires count { (S.input source.old).failures < 2 ^ 64 - 1 }
-    ensures answers { (met : Met) × Meets (S.input source.old) met (S.input source.new) × Answers met result }
+    ensures answers { (met : Met) × Meets (S.input source.old) met (S.input source.new) × AnswersStatus met result }
 {
     match read_status_within(alloc, source, u64::MAX)? {
         Some(load) => Ok(load),

@@ -12,14 +12,14 @@ use Rattle.job_runner.specs.declared.end.EndCause.{EndCause}
 use Rattle.job_runner.specs.declared.end.SessionEnd.{SessionEnd}
 use Rattle.worker_state.specs.declared.cause.Cause.{Cause}
 use Rattle.job_runner.specs.declared.session.Tally.{Tally}
-use Rattle.job_runner.specs.Book.{Book, after_loss}
+use Rattle.job_runner.specs.Book.{Ledger, after_loss}
 use Rattle.job_runner.specs.Course.{Duty, asks, Ends, OneAtATime}
 use Rattle.job_runner.specs.Ends.{loss_of}
 use Rattle.job_runner.specs.Run.{Link, Lost, Served, Reason, tally_of}
 use Rattle.gear_status.specs.Sides.{and_then}
 use Rattle.job_runner.specs.Loop.{Halts}
 
-ends_lost : (duty : Duty) (bytes : List ℕ) (taken : List AssignedJob) (t : Tally) (b : Book) (reason : EndCause) (c : Cause) → Ends duty bytes taken t b reason → Ends duty bytes taken t (after_loss b c) reason
+ends_lost : (duty : Duty) (bytes : List ℕ) (taken : List AssignedJob) (t : Tally) (b : Ledger) (reason : EndCause) (c : Cause) → Ends duty bytes taken t b reason → Ends duty bytes taken t (after_loss b c) reason
 ends_lost duty bytes taken t b reason c e = record {
   answered = e.answered;
   begun = e.begun;
@@ -47,13 +47,13 @@ fronts_sent [] qs h = tt
 fronts_sent (p ∷ ps) qs h = (h.0, fronts_sent ps qs h.1)
 
 -- whole packets are read as they were sent
-pub read_again : SaysItsPackets → (duty : Duty) (bytes : List ℕ) (taken : List AssignedJob) (t : Tally) (b : Book) (reason : EndCause) (e : Ends duty bytes taken t b reason) → reason ≢ WriteFault → (sent bytes).packets ≡ e.cut.sent
+pub read_again : SaysItsPackets → (duty : Duty) (bytes : List ℕ) (taken : List AssignedJob) (t : Tally) (b : Ledger) (reason : EndCause) (e : Ends duty bytes taken t b reason) → reason ≢ WriteFault → (sent bytes).packets ≡ e.cut.sent
 read_again law duty bytes taken t b reason e other =
     let same : bytes ≡ text_of e.cut.sent = e.cut.bytes_are ∙ ap (λ (x : List ℕ). text_of e.cut.sent ++ x) (e.whole other) ∙ append-nil (text_of e.cut.sent) in
     ap (λ (x : List ℕ). (sent x).packets) same ∙ law e.cut.sent (fronts_sent e.cut.sent e.cut.next e.cut.each_sent)
 
 -- so the work in them is the replies to the first jobs
-pub work_done : SaysItsPackets → (duty : Duty) (bytes : List ℕ) (taken : List AssignedJob) (t : Tally) (b : Book) (reason : EndCause) → Ends duty bytes taken t b reason → reason ≢ WriteFault → work_requests bytes ≡ replies duty.told (take t.answered taken)
+pub work_done : SaysItsPackets → (duty : Duty) (bytes : List ℕ) (taken : List AssignedJob) (t : Tally) (b : Ledger) (reason : EndCause) → Ends duty bytes taken t b reason → reason ≢ WriteFault → work_requests bytes ≡ replies duty.told (take t.answered taken)
 work_done law duty bytes taken t b reason e other =
     let first : take t.answered taken ≡ e.answered =
     ap (λ (n : ℕ). take n taken) e.chain.answered_is ∙ ap (take (length e.answered)) e.in_order ∙ take-append_seam e.answered (e.begun ++ e.later) in
@@ -70,7 +70,7 @@ one_within (suc k) names [] few h = few
 one_within (suc k) names (p ∷ ps) few h = one_within k (register names p) ps h.0 h.2
 
 -- after each whole packet at most one function is registered
-pub one_registered : SaysItsPackets → (duty : Duty) (bytes : List ℕ) (taken : List AssignedJob) (t : Tally) (b : Book) (reason : EndCause) (e : Ends duty bytes taken t b reason) (k : ℕ) → length (registered (text_of (take k (e.cut.sent ++ e.cut.next)))) ≤ 1
+pub one_registered : SaysItsPackets → (duty : Duty) (bytes : List ℕ) (taken : List AssignedJob) (t : Tally) (b : Ledger) (reason : EndCause) (e : Ends duty bytes taken t b reason) (k : ℕ) → length (registered (text_of (take k (e.cut.sent ++ e.cut.next)))) ≤ 1
 one_registered law duty bytes taken t b reason e k =
     let ps = e.cut.sent ++ e.cut.next in
     subst (λ (x : List Packet). length (registered_by [] x) ≤ 1) (sym (law (take k ps) (take_sent k ps e.cut.each_sent))) (one_within k [] ps (omega arith) e.cut.one)
@@ -80,7 +80,7 @@ one_asked names [] after p h asked = h.1 asked
 one_asked names (q ∷ before) after p h asked = one_asked (register names q) before after p h.2 asked
 
 -- and exactly one where the packet asks for it
-pub one_where_asked : SaysItsPackets → (duty : Duty) (bytes : List ℕ) (taken : List AssignedJob) (t : Tally) (b : Book) (reason : EndCause) (e : Ends duty bytes taken t b reason) (before after : List Packet) (p : Packet) → e.cut.sent ++ e.cut.next ≡ before ++ p ∷ after
+pub one_where_asked : SaysItsPackets → (duty : Duty) (bytes : List ℕ) (taken : List AssignedJob) (t : Tally) (b : Ledger) (reason : EndCause) (e : Ends duty bytes taken t b reason) (before after : List Packet) (p : Packet) → e.cut.sent ++ e.cut.next ≡ before ++ p ∷ after
     → asks p ≡ true → length (registered (text_of (before ++ p ∷ []))) ≡ 1
 one_where_asked law duty bytes taken t b reason e before after p same asked =
     let front = before ++ p ∷ [] in
@@ -89,11 +89,11 @@ one_where_asked law duty bytes taken t b reason e before after p same asked =
     subst (λ (x : List Packet). length (registered_by [] x) ≡ 1) (sym (law front each)) (one_asked [] before after p (subst (OneAtATime []) same e.cut.one) asked)
 
 -- what a session promises, as one fact over what was written
-abbrev pub Promised : Duty → List ℕ → Option (List ℕ) → Option (List ℕ) → Link → Link → Book → SessionEnd → Type 0
+abbrev pub Promised : Duty → List ℕ → Option (List ℕ) → Option (List ℕ) → Link → Link → Ledger → SessionEnd → Type 0
 Promised duty read before out old new book e = (bytes : List ℕ) × (out ≡ and_then before bytes) × Served duty read bytes old new book e
 
 -- with no loss
-pub promised_kept : SaysItsPackets → (duty : Duty) (read : List ℕ) (before out : Option (List ℕ)) (old new : Link) (b : Book) (e : SessionEnd) → Halts duty before read out (tally_of e) b e.cause × Reason duty.generation read e.grabbed old new b.last_answer e.cause → b.losses ≡ 0 → loss_of e.cause ≡ None → Promised duty read before out old new b e
+pub promised_kept : SaysItsPackets → (duty : Duty) (read : List ℕ) (before out : Option (List ℕ)) (old new : Link) (b : Ledger) (e : SessionEnd) → Halts duty before read out (tally_of e) b e.cause × Reason duty.generation read e.grabbed old new b.last_answer e.cause → b.losses ≡ 0 → loss_of e.cause ≡ None → Promised duty read before out old new b e
 promised_kept law duty read before out old new b e ran none is = (
   ran.0.bytes,
   ran.0.at,
@@ -109,8 +109,8 @@ promised_kept law duty read before out old new b e ran none is = (
 )
 
 -- with one
-pub promised_lost : SaysItsPackets → (duty : Duty) (read : List ℕ) (before out : Option (List ℕ)) (old new : Link) (b after : Book) (e : SessionEnd) (c : Cause) → Halts duty before read out (tally_of e) b e.cause × Reason duty.generation read e.grabbed old new b.last_answer e.cause → b.losses ≡ 0 → loss_of e.cause ≡ Some c → after ≡ after_loss b c → Promised duty read before out old new after e
-promised_lost law duty read before out old new b after e c ran none is same = subst (λ (x : Book). Promised duty read before out old new x e) (sym same) (
+pub promised_lost : SaysItsPackets → (duty : Duty) (read : List ℕ) (before out : Option (List ℕ)) (old new : Link) (b after : Ledger) (e : SessionEnd) (c : Cause) → Halts duty before read out (tally_of e) b e.cause × Reason duty.generation read e.grabbed old new b.last_answer e.cause → b.losses ≡ 0 → loss_of e.cause ≡ Some c → after ≡ after_loss b c → Promised duty read before out old new after e
+promised_lost law duty read before out old new b after e c ran none is same = subst (λ (x : Ledger). Promised duty read before out old new x e) (sym same) (
   ran.0.bytes,
   ran.0.at,
   record {

@@ -9,7 +9,7 @@ use Rattle.job_runner.specs.declared.end.EndCause.{EndCause}
 use Rattle.job_runner.specs.declared.end.EndCause.TheVariants.{WriteFault}
 use Rattle.job_runner.specs.declared.session.Tally.{Tally}
 use Rattle.job_runner.specs.Told.{reply}
-use Rattle.job_runner.specs.Book.{Book}
+use Rattle.job_runner.specs.Book.{Ledger}
 use Rattle.job_runner.specs.Course.{Duty, Wrote, Even, Chain, Ends}
 use Rattle.gear_status.specs.Sides.{and_then}
 use Rattle.job_runner.proofs.Told.{goes_behind}
@@ -17,11 +17,11 @@ use Rattle.job_runner.proofs.Steps.{wrote_answer, ends_whole, ends_cut, left_ove
 use Rattle.job_runner.proofs.Counts.{Moved, Counted, chain, even_again}
 
 -- what an exit leaves
-abbrev pub Left : Duty → Option (List ℕ) → Option (List ℕ) → List AssignedJob → Tally → Book → EndCause → Type 0
+abbrev pub Left : Duty → Option (List ℕ) → Option (List ℕ) → List AssignedJob → Tally → Ledger → EndCause → Type 0
 Left duty before out taken tally book cause = (more : List ℕ) × (out ≡ and_then before more) × Ends duty more taken tally book cause
 
 -- nothing of the answer was written
-pub leaves_unwritten : (duty : Duty) (before : Option (List ℕ)) (bytes : List ℕ) (out : Option (List ℕ)) (registered : List (List ℕ)) (done : List AssignedJob) (a : AssignedJob) (t new : Tally) (b book : Book) (cause : EndCause) (grabbed begins : ℕ)
+pub leaves_unwritten : (duty : Duty) (before : Option (List ℕ)) (bytes : List ℕ) (out : Option (List ℕ)) (registered : List (List ℕ)) (done : List AssignedJob) (a : AssignedJob) (t new : Tally) (b book : Ledger) (cause : EndCause) (grabbed begins : ℕ)
     → out ≡ and_then before bytes → Wrote duty bytes registered done → Even t b (length done) → Counted t new grabbed 0 0 → Moved b book grabbed begins 0 → begins ≤ grabbed → grabbed ≤ 1 → cause ≢ WriteFault
     → Left duty before out (done ++ a ∷ []) new book cause
 leaves_unwritten duty before bytes out registered done a t new b book cause grabbed begins at w even c m h1 h2 no-fault =
@@ -29,7 +29,7 @@ leaves_unwritten duty before bytes out registered done a t new b book cause grab
     (bytes, at, ends_whole duty bytes registered done (a ∷ []) (done ++ a ∷ []) new book cause w refl (subst (λ (n : ℕ). Chain new book n 0) (add-zero (length done)) order) no-fault)
 
 -- the write failed
-pub leaves_cut : (duty : Duty) (before : Option (List ℕ)) (bytes : List ℕ) (old out : Option (List ℕ)) (text : List ℕ) (count : ℕ) (registered : List (List ℕ)) (done : List AssignedJob) (a : AssignedJob) (t new : Tally) (b book : Book)
+pub leaves_cut : (duty : Duty) (before : Option (List ℕ)) (bytes : List ℕ) (old out : Option (List ℕ)) (text : List ℕ) (count : ℕ) (registered : List (List ℕ)) (done : List AssignedJob) (a : AssignedJob) (t new : Tally) (b book : Ledger)
     → old ≡ and_then before bytes → Wrote duty bytes registered done → Even t b (length done) → Counted t new 1 0 0 → Moved b book 1 1 0
     → AllByRecursion IsSent (reply duty.told a) → text ≡ text_of (reply duty.told a) → count < length text → out ≡ and_then old (take count text)
     → Left duty before out (done ++ a ∷ []) new book WriteFault
@@ -42,7 +42,7 @@ leaves_cut duty before bytes old out text count registered done a t new b book a
     )
 
 -- the answer was written
-pub leaves_written : (duty : Duty) (before : Option (List ℕ)) (bytes : List ℕ) (old out : Option (List ℕ)) (text : List ℕ) (registered : List (List ℕ)) (done : List AssignedJob) (a : AssignedJob) (t new : Tally) (b book : Book) (cause : EndCause) (reported : ℕ)
+pub leaves_written : (duty : Duty) (before : Option (List ℕ)) (bytes : List ℕ) (old out : Option (List ℕ)) (text : List ℕ) (registered : List (List ℕ)) (done : List AssignedJob) (a : AssignedJob) (t new : Tally) (b book : Ledger) (cause : EndCause) (reported : ℕ)
     → old ≡ and_then before bytes → Wrote duty bytes registered done → Even t b (length done) → Counted t new 1 1 reported → Moved b book 1 1 reported → reported ≤ 1
     → AllByRecursion IsSent (reply duty.told a) → text ≡ text_of (reply duty.told a) → out ≡ and_then old text → cause ≢ WriteFault
     → Left duty before out (done ++ a ∷ []) new book cause
@@ -55,7 +55,7 @@ leaves_written duty before bytes old out text registered done a t new b book cau
     )
 
 -- the answer was written and reported, and the session goes on
-pub goes_on : (duty : Duty) (before : Option (List ℕ)) (bytes : List ℕ) (old out : Option (List ℕ)) (text : List ℕ) (registered : List (List ℕ)) (done : List AssignedJob) (a : AssignedJob) (t new : Tally) (b book : Book)
+pub goes_on : (duty : Duty) (before : Option (List ℕ)) (bytes : List ℕ) (old out : Option (List ℕ)) (text : List ℕ) (registered : List (List ℕ)) (done : List AssignedJob) (a : AssignedJob) (t new : Tally) (b book : Ledger)
     → old ≡ and_then before bytes → Wrote duty bytes registered done → Even t b (length done) → Counted t new 1 1 1 → Moved b book 1 1 1
     → AllByRecursion IsSent (reply duty.told a) → text ≡ text_of (reply duty.told a) → out ≡ and_then old text
     → (more : List ℕ) × (out ≡ and_then before more) × (Wrote duty more registered (done ++ a ∷ []) × Even new book (length done + 1))

@@ -10,7 +10,7 @@ use Rattle.gear_packets.specs.Frame.{body_limit}
 use Rattle.gear_packets.specs.Request.{can_do, cant_do, set_client_id, has_nul}
 use Rattle.gear_packets.specs.Text.{is_name}
 use Rattle.pool_settings.specs.Names.{name_at, is_name_byte, is_machine_name_byte}
-use Rattle.pool_settings.specs.Profile.{Profile, IsProfile}
+use Rattle.pool_settings.specs.Settings.{Settings, AreSettings}
 use Rattle.pool_settings.specs.Slots.{machine_of, worker_number, slots}
 use Rattle.worker_state.specs.declared.slot.WorkerName.{WorkerName}
 use Rattle.job_runner.specs.Course.{IsAccepted, IsFunctionName, name_of, obeying}
@@ -98,17 +98,17 @@ known_named functions None h = tt
 known_named functions (Some f) h = at_named functions f h
 
 -- the text that names a worker
-pub worker_accepted : (rules : Profile) (worker : WorkerName) → IsProfile rules → worker.slot < slots rules → machine_of rules worker.slot < length rules.machines → worker.generation < 2 ^ 32 → IsAccepted (set_client_id (worker_text rules worker))
-worker_accepted rules worker valid slot there small =
-    let name = name_at rules.machines (machine_of rules worker.slot) in
-    let number = decimal (worker_number rules worker.slot) in
+pub worker_accepted : (settings : Settings) (worker : WorkerName) → AreSettings settings → worker.slot < slots settings → machine_of settings worker.slot < length settings.machines → worker.generation < 2 ^ 32 → IsAccepted (set_client_id (worker_text settings worker))
+worker_accepted settings worker valid slot there small =
+    let name = name_at settings.machines (machine_of settings worker.slot) in
+    let number = decimal (worker_number settings worker.slot) in
     let generation = decimal worker.generation in
-    let named = valid.machines_named (machine_of rules worker.slot) [] there in
+    let named = valid.machines_named (machine_of settings worker.slot) [] there in
     let p = and_parts (nat_le 1 (length name) && nat_le (length name) 64) (list_all is_machine_name_byte name) named in
     let short = leb-true (length name) 64 (and_parts (nat_le 1 (length name)) (nat_le (length name) 64) p.0).1 in
-    let few : worker_number rules worker.slot < 10 ^ 10 = omega (arith, slot, valid.workers_few) in
-    let a = length-decimal-le 10 (worker_number rules worker.slot) (omega arith) few (omega (arith, few)) in
+    let few : worker_number settings worker.slot < 10 ^ 10 = omega (arith, slot, valid.workers_few) in
+    let a = length-decimal-le 10 (worker_number settings worker.slot) (omega arith) few (omega (arith, few)) in
     let b = length-decimal-le 10 worker.generation (omega arith) (omega (arith, small)) (omega (arith, small)) in
-    id_accepted (worker_text rules worker)
+    id_accepted (worker_text settings worker)
     (omega (arith, short, a, b, length-append name (47 ∷ number), length-append (name ++ 47 ∷ number) (35 ∷ generation)))
-    (nul_append (name ++ 47 ∷ number) (35 ∷ generation) (nul_append name (47 ∷ number) (machine_bytes name p.1) (decimal_named (worker_number rules worker.slot) (omega (arith, few)))) (decimal_named worker.generation (omega (arith, small))))
+    (nul_append (name ++ 47 ∷ number) (35 ∷ generation) (nul_append name (47 ∷ number) (machine_bytes name p.1) (decimal_named (worker_number settings worker.slot) (omega (arith, few)))) (decimal_named worker.generation (omega (arith, small))))

@@ -14,7 +14,7 @@ use Rattle.job_runner.specs.declared.end.EndCause.TheVariants.{WriteFault, Memor
 use Rattle.worker_state.specs.OrderParts.{OrderParts}
 use Rattle.job_runner.specs.declared.session.Tally.{Tally}
 use Rattle.job_runner.specs.Told.{Told}
-use Rattle.job_runner.specs.Book.{Book, after_order}
+use Rattle.job_runner.specs.Book.{Ledger, after_order}
 use Rattle.gear_status.specs.Sides.{and_then}
 use Rattle.job_runner.specs.Course.{Duty, OneAtATime, Wrote, Even, Chain, Ends, Sends, obeying, name_of, known}
 use Rattle.job_runner.proofs.Told.{goes_behind}
@@ -70,10 +70,10 @@ order_leads told from to =
     let keeps = obeying_keeps from to in
     record { registered_is = keeps.registered_is; one = keeps.one; works = keeps.works; few = few_named to }
 
-pub even_order : (t : Tally) (b new : Book) (order : OrderParts) (n : ℕ) → new ≡ after_order b order → Even t b n → Even t new n
-even_order t b new order n e even = subst (λ (x : Book). Even t x n) (sym e) (record { grabbed = even.grabbed; answered = even.answered; reported = even.reported; grabs = even.grabs; begins = even.begins; reports = even.reports })
+pub even_order : (t : Tally) (b new : Ledger) (order : OrderParts) (n : ℕ) → new ≡ after_order b order → Even t b n → Even t new n
+even_order t b new order n e even = subst (λ (x : Ledger). Even t x n) (sym e) (record { grabbed = even.grabbed; answered = even.answered; reported = even.reported; grabs = even.grabs; begins = even.begins; reports = even.reports })
 
-pub even_chain : (t : Tally) (b : Book) (n : ℕ) → Even t b n → Chain t b n 0
+pub even_chain : (t : Tally) (b : Ledger) (n : ℕ) → Even t b n → Chain t b n 0
 even_chain t b n even = record {
   answered_is = even.answered;
   reported = omega (arith, even.answered, even.reported);
@@ -85,7 +85,7 @@ even_chain t b n even = record {
 }
 
 -- an end at rest
-pub ends_at_rest : (duty : Duty) (bytes : List ℕ) (registered : List (List ℕ)) (done : List AssignedJob) (t : Tally) (b : Book) (cause : EndCause) → Wrote duty bytes registered done → Even t b (length done) → cause ≢ WriteFault → Ends duty bytes done t b cause
+pub ends_at_rest : (duty : Duty) (bytes : List ℕ) (registered : List (List ℕ)) (done : List AssignedJob) (t : Tally) (b : Ledger) (cause : EndCause) → Wrote duty bytes registered done → Even t b (length done) → cause ≢ WriteFault → Ends duty bytes done t b cause
 ends_at_rest duty bytes registered done t b cause w even no-fault = ends_whole duty bytes registered done [] done t b cause w (sym (append-nil done)) (even_chain t b (length done) even) no-fault
 
 -- ---- packets that were sent
@@ -101,7 +101,7 @@ sent_whole duty before bytes old new from to packets done sends at w leads =
     )
 
 -- or not: the session ends
-pub sent_part : (duty : Duty) (before : Option (List ℕ)) (bytes : List ℕ) (old new : Option (List ℕ)) (from to : List (List ℕ)) (packets : List Packet) (done : List AssignedJob) (t : Tally) (b : Book) (e : EndCause) → Sends old new packets (Err e) → old ≡ and_then before bytes
+pub sent_part : (duty : Duty) (before : Option (List ℕ)) (bytes : List ℕ) (old new : Option (List ℕ)) (from to : List (List ℕ)) (packets : List Packet) (done : List AssignedJob) (t : Tally) (b : Ledger) (e : EndCause) → Sends old new packets (Err e) → old ≡ and_then before bytes
     → Wrote duty bytes from done → Leads duty.told from packets to [] → Even t b (length done) → Left duty before new done t b e
 sent_part duty before bytes old new from to packets done t b WriteFault sends at w leads even =
     let part = take sends.0 (text_of packets) in (

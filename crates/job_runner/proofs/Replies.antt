@@ -8,14 +8,14 @@ use Rattle.std.proofs.lemmas.Bool.{le-leb}
 use Rattle.gear_packets.specs.Frame.{body_limit}
 use Rattle.gear_packets.specs.Request.{Packet, body_of, names_nul, spelling, IsSent}
 use Rattle.gear_packets.specs.Text.{text_of}
-use Rattle.gear_packets.specs.Refusal.{refusal_told, request_refusal}
+use Rattle.gear_packets.specs.PacketRefusals.{refusal_told, request_refusal}
 use Rattle.gear_packets.specs.declared.encoding.EncodeError.{EncodeError}
 use Rattle.gear_packets.specs.declared.encoding.EncodeError.TheVariants.{TooLarge, NulInArgument, Memory}
 use Rattle.job_runner.specs.declared.job.Note.{Note}
-use Rattle.job_runner.specs.Told.{Told, Remark, piece, warning, progress, Finish, complete, fail, remark_of, remark_packet, finish_packet, told_packets, has_room, answer_to, end_kind_of, kind_of_answer}
+use Rattle.job_runner.specs.Told.{Told, Remark, piece, warning, progress, Finish, complete, fail, remark_of, remark_packet, finish_packet, told_packets, can_send, answer_to, end_kind_of, kind_of_answer}
 use Rattle.job_runner.proofs.Steps.{all_append, text_append}
 
-all_fit : (ps : List Packet) → AllByRecursion IsSent ps → list_all has_room ps ≡ true
+all_fit : (ps : List Packet) → AllByRecursion IsSent ps → list_all can_send ps ≡ true
 all_fit [] h = refl
 all_fit (p ∷ ps) h = rw (le-leb (length (body_of p)) body_limit h.0.fits, all_fit ps h.1) refl
 
@@ -25,7 +25,7 @@ unfolding answer_to
 answers_told handle told h = rw (all_fit (told_packets handle told) h) refl
 
 -- and WORK_FAIL where one is too large
-pub answers_failed : (handle : List ℕ) (told : Told) → list_all has_room (told_packets handle told) ≡ false → answer_to handle (Some told) ≡ answer_to handle None
+pub answers_failed : (handle : List ℕ) (told : Told) → list_all can_send (told_packets handle told) ≡ false → answer_to handle (Some told) ≡ answer_to handle None
 unfolding answer_to
 answers_failed handle told h = rw h refl
 
@@ -34,7 +34,7 @@ pub kind_told : (handle : List ℕ) (told : Told) → AllByRecursion IsSent (tol
 unfolding kind_of_answer
 kind_told handle told h = rw (all_fit (told_packets handle told) h) refl
 
-pub kind_failed : (handle : List ℕ) (told : Told) → list_all has_room (told_packets handle told) ≡ false → kind_of_answer handle (Some told) ≡ kind_of_answer handle None
+pub kind_failed : (handle : List ℕ) (told : Told) → list_all can_send (told_packets handle told) ≡ false → kind_of_answer handle (Some told) ≡ kind_of_answer handle None
 unfolding kind_of_answer
 kind_failed handle told h = rw h refl
 
@@ -82,35 +82,35 @@ finish_nameless : (handle : List ℕ) (f : Finish) → names_nul (finish_packet 
 finish_nameless handle (complete bytes) = refl
 finish_nameless handle fail = refl
 
-no_room : (p : Packet) → nat_lt body_limit (length (body_of p)) ≡ true → has_room p ≡ false
-no_room p h = by (has_room p) refl
+no_room : (p : Packet) → nat_lt body_limit (length (body_of p)) ≡ true → can_send p ≡ false
+no_room p h = by (can_send p) refl
   where
-    by : (b : Bool) → has_room p ≡ b → b ≡ false
+    by : (b : Bool) → can_send p ≡ b → b ≡ false
     by false e = refl
     by true e = absurd (grind (arith, h, e))
 
 -- a packet without a name is refused for its size alone
-refused_for_size : (p : Packet) (e : EncodeError) → refusal_told (let z : Result (Unit {0}) EncodeError = Err e in z) ≡ request_refusal p → e ≢ Memory → names_nul p ≡ false → has_room p ≡ false
+refused_for_size : (p : Packet) (e : EncodeError) → refusal_told (let z : Result (Unit {0}) EncodeError = Err e in z) ≡ request_refusal p → e ≢ Memory → names_nul p ≡ false → can_send p ≡ false
 refused_for_size p e told other nameless = by (nat_lt body_limit (length (body_of p))) refl e told other
   where
-    by : (b : Bool) → nat_lt body_limit (length (body_of p)) ≡ b → (x : EncodeError) → refusal_told (let z : Result (Unit {0}) EncodeError = Err x in z) ≡ request_refusal p → x ≢ Memory → has_room p ≡ false
+    by : (b : Bool) → nat_lt body_limit (length (body_of p)) ≡ b → (x : EncodeError) → refusal_told (let z : Result (Unit {0}) EncodeError = Err x in z) ≡ request_refusal p → x ≢ Memory → can_send p ≡ false
     by true s x t o = no_room p s
     by false s TooLarge t o = absurd (let clash : Some TooLarge ≡ None = t ∙ rw (s, nameless) refl in cc)
     by false s NulInArgument t o = absurd (let clash : Some NulInArgument ≡ None = t ∙ rw (s, nameless) refl in cc)
     by false s Memory t o = absurd (o refl)
 
-breaks_all : (xs ys : List Packet) (p : Packet) → has_room p ≡ false → list_all has_room (xs ++ p ∷ ys) ≡ false
+breaks_all : (xs ys : List Packet) (p : Packet) → can_send p ≡ false → list_all can_send (xs ++ p ∷ ys) ≡ false
 breaks_all [] ys p h = rw h refl
-breaks_all (x ∷ xs) ys p h = rw (breaks_all xs ys p h) (by (has_room x))
+breaks_all (x ∷ xs) ys p h = rw (breaks_all xs ys p h) (by (can_send x))
   where
     by : (b : Bool) → (b && false) ≡ false
     by true = refl
     by false = refl
 
 pub note_too_large : (handle : List ℕ) (told : Told) (notes : List Note) (i : ℕ) (n : Note) (p : Packet) (e : EncodeError) → i < length notes → n ≡ get_or notes i n → p ≡ remark_packet handle (remark_of n) → told.remarks ≡ map remark_of notes
-    → refusal_told (let z : Result (Unit {0}) EncodeError = Err e in z) ≡ request_refusal p → e ≢ Memory → list_all has_room (told_packets handle told) ≡ false
+    → refusal_told (let z : Result (Unit {0}) EncodeError = Err e in z) ≡ request_refusal p → e ≢ Memory → list_all can_send (told_packets handle told) ≡ false
 note_too_large handle told notes i n p e within is same all refused other =
-    let small : has_room p ≡ false = refused_for_size p e refused other (ap names_nul same ∙ remark_nameless handle (remark_of n)) in
+    let small : can_send p ≡ false = refused_for_size p e refused other (ap names_nul same ∙ remark_nameless handle (remark_of n)) in
     let ps = note_packets handle (take i notes) in
     let rest = note_packets handle (drop (i + 1) notes) in
     let front : note_packets handle (take (i + 1) notes) ≡ ps ++ p ∷ [] = one_more handle notes i n within is ∙ ap (λ (x : Packet). ps ++ x ∷ []) (sym same) in
@@ -120,10 +120,10 @@ note_too_large handle told notes i n p e within is same all refused other =
     ap (λ (rs : List Remark). map (remark_packet handle) rs ++ finish_packet handle told.finish ∷ []) all
     ∙ ap (λ (x : List Packet). x ++ finish_packet handle told.finish ∷ []) (split ∙ ap (λ (x : List Packet). x ++ rest) front ∙ append_assoc ps (p ∷ []) rest)
     ∙ append_assoc ps (p ∷ rest) (finish_packet handle told.finish ∷ []) in
-    ap (list_all has_room) parts ∙ breaks_all ps (rest ++ finish_packet handle told.finish ∷ []) p small
+    ap (list_all can_send) parts ∙ breaks_all ps (rest ++ finish_packet handle told.finish ∷ []) p small
 
-pub end_too_large : (handle : List ℕ) (told : Told) (p : Packet) (e : EncodeError) → p ≡ finish_packet handle told.finish → refusal_told (let z : Result (Unit {0}) EncodeError = Err e in z) ≡ request_refusal p → e ≢ Memory → list_all has_room (told_packets handle told) ≡ false
+pub end_too_large : (handle : List ℕ) (told : Told) (p : Packet) (e : EncodeError) → p ≡ finish_packet handle told.finish → refusal_told (let z : Result (Unit {0}) EncodeError = Err e in z) ≡ request_refusal p → e ≢ Memory → list_all can_send (told_packets handle told) ≡ false
 end_too_large handle told p e same refused other =
-    let small : has_room p ≡ false = refused_for_size p e refused other (ap names_nul same ∙ finish_nameless handle told.finish) in
+    let small : can_send p ≡ false = refused_for_size p e refused other (ap names_nul same ∙ finish_nameless handle told.finish) in
     let ps = map (remark_packet handle) told.remarks in
-    ap (λ (x : Packet). list_all has_room (ps ++ x ∷ [])) (sym same) ∙ breaks_all ps [] p small
+    ap (λ (x : Packet). list_all can_send (ps ++ x ∷ [])) (sym same) ∙ breaks_all ps [] p small

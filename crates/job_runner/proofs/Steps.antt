@@ -8,8 +8,8 @@ use Rattle.gear_packets.specs.Text.{text_of, is_work, register, registered_by}
 use Rattle.job_runner.specs.declared.end.EndCause.{EndCause}
 use Rattle.job_runner.specs.declared.end.EndCause.TheVariants.{WriteFault}
 use Rattle.job_runner.specs.declared.session.Tally.{Tally}
-use Rattle.job_runner.specs.Told.{Told, Remark, piece, warning, progress, Finish, complete, fail, remark_packet, finish_packet, told_packets, has_room, answer_to, reply, replies}
-use Rattle.job_runner.specs.Book.{Book}
+use Rattle.job_runner.specs.Told.{Told, Remark, piece, warning, progress, Finish, complete, fail, remark_packet, finish_packet, told_packets, can_send, answer_to, reply, replies}
+use Rattle.job_runner.specs.Book.{Ledger}
 use Rattle.job_runner.specs.Course.{Duty, asks, OneAtATime, Introduces, MayIntroduce, Wrote, Chain, Ends}
 
 -- ---- lists of packets
@@ -110,7 +110,7 @@ pub answer_work : (handle : List ℕ) (o : Option Told) → AllByRecursion IsWor
 unfolding answer_to
 answer_work handle None = (refl, tt)
 answer_work handle (Some told) =
-    either_work (list_all has_room (told_packets handle told)) (told_packets handle told) (work_fail handle ∷ [])
+    either_work (list_all can_send (told_packets handle told)) (told_packets handle told) (work_fail handle ∷ [])
     (all_append IsWork (map (remark_packet handle) told.remarks) (finish_packet handle told.finish ∷ []) (remarks_work handle told.remarks) (finish_work handle told.finish, tt))
     (refl, tt)
 
@@ -142,7 +142,7 @@ wrote_on duty bytes from to packets done more w each l = record {
 }
 
 -- or is cut within them
-pub cut_on : (duty : Duty) (bytes : List ℕ) (from to : List (List ℕ)) (packets : List Packet) (done more taken : List AssignedJob) (part lost : List ℕ) (tally : Tally) (book : Book) → Wrote duty bytes from done → AllByRecursion IsSent packets → Leads duty.told from packets to more
+pub cut_on : (duty : Duty) (bytes : List ℕ) (from to : List (List ℕ)) (packets : List Packet) (done more taken : List AssignedJob) (part lost : List ℕ) (tally : Tally) (book : Ledger) → Wrote duty bytes from done → AllByRecursion IsSent packets → Leads duty.told from packets to more
     → text_of packets ≡ part ++ lost → 0 < length lost → taken ≡ done ++ (more ++ []) → Chain tally book (length done) (length more) → Ends duty (bytes ++ part) taken tally book WriteFault
 cut_on duty bytes from to packets done more taken part lost tally book w each l text proper order chain =
     let starts = introduces_append duty.worker w.sent packets w.introduces in
@@ -171,7 +171,7 @@ cut_on duty bytes from to packets done more taken part lost tally book w each l 
     }
 
 -- a session that ends with whole packets
-pub ends_whole : (duty : Duty) (bytes : List ℕ) (registered : List (List ℕ)) (done later taken : List AssignedJob) (tally : Tally) (book : Book) (cause : EndCause) → Wrote duty bytes registered done → taken ≡ done ++ later → Chain tally book (length done) 0 → cause ≢ WriteFault → Ends duty bytes taken tally book cause
+pub ends_whole : (duty : Duty) (bytes : List ℕ) (registered : List (List ℕ)) (done later taken : List AssignedJob) (tally : Tally) (book : Ledger) (cause : EndCause) → Wrote duty bytes registered done → taken ≡ done ++ later → Chain tally book (length done) 0 → cause ≢ WriteFault → Ends duty bytes taken tally book cause
 ends_whole duty bytes registered done later taken tally book cause w order chain no-fault =
     let starts : Introduces duty.worker (w.sent ++ []) = introduces_append duty.worker w.sent [] w.introduces in
     record {
@@ -215,7 +215,7 @@ pub wrote_answer : (duty : Duty) (bytes : List ℕ) (registered : List (List ℕ
 wrote_answer duty bytes registered done a w each = wrote_on duty bytes registered registered (reply duty.told a) done (a ∷ []) w each (reply_leads duty.told registered a w.few)
 
 -- a session that ends within an answer
-pub ends_cut : (duty : Duty) (bytes : List ℕ) (registered : List (List ℕ)) (done : List AssignedJob) (a : AssignedJob) (part lost : List ℕ) (tally : Tally) (book : Book) → Wrote duty bytes registered done → AllByRecursion IsSent (reply duty.told a)
+pub ends_cut : (duty : Duty) (bytes : List ℕ) (registered : List (List ℕ)) (done : List AssignedJob) (a : AssignedJob) (part lost : List ℕ) (tally : Tally) (book : Ledger) → Wrote duty bytes registered done → AllByRecursion IsSent (reply duty.told a)
     → text_of (reply duty.told a) ≡ part ++ lost → 0 < length lost → Chain tally book (length done) 1 → Ends duty (bytes ++ part) (done ++ a ∷ []) tally book WriteFault
 ends_cut duty bytes registered done a part lost tally book w each text proper chain =
     cut_on duty bytes registered registered (reply duty.told a) done (a ∷ []) (done ++ a ∷ []) part lost tally book w each (reply_leads duty.told registered a w.few) text proper refl chain

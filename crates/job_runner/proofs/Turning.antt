@@ -17,7 +17,7 @@ use Rattle.job_runner.specs.declared.port.PortAnswer.{PortAnswer}
 use Rattle.job_runner.specs.declared.run.State.{State}
 use Rattle.job_runner.specs.declared.session.Tally.{Tally}
 use Rattle.job_runner.specs.Told.{Told}
-use Rattle.job_runner.specs.Book.{Book, no_calls}
+use Rattle.job_runner.specs.Book.{Ledger, no_calls}
 use Rattle.job_runner.specs.Course.{Duty, Even, Ends, GoesOnOrEnds, Sends, PortReason, known, IsServing}
 use Rattle.job_runner.specs.Listening.{SaysFirst, IsReadEnd}
 use Rattle.job_runner.specs.Run.{Holds, Acts, Link, Reason}
@@ -69,7 +69,7 @@ assignments_append xs ys = filter_map-append assignment_of xs ys
 -- ---- ends
 
 -- more assignments_in may come behind those that were taken
-pub ends_later : (duty : Duty) (bytes : List ℕ) (taken rest all : List AssignedJob) (t : Tally) (b : Book) (reason : EndCause) → Ends duty bytes taken t b reason → all ≡ taken ++ rest → Ends duty bytes all t b reason
+pub ends_later : (duty : Duty) (bytes : List ℕ) (taken rest all : List AssignedJob) (t : Tally) (b : Ledger) (reason : EndCause) → Ends duty bytes taken t b reason → all ≡ taken ++ rest → Ends duty bytes all t b reason
 ends_later duty bytes taken rest all t b reason e more = record {
   answered = e.answered;
   begun = e.begun;
@@ -86,7 +86,7 @@ pub says_more : (read : List ℕ) (given later : List Message) → (reading read
 says_more read given later h = ap assignments_in h ∙ assignments_append given later
 
 -- at rest the session may end
-pub halts_at_rest : (duty : Duty) (before : Option (List ℕ)) (bytes read : List ℕ) (written : Option (List ℕ)) (given : List Message) (s : State) (b : Book) (reason : EndCause) → written ≡ and_then before bytes → Holds duty bytes (assignments_in given) s b → SaysFirst read given → reason ≢ WriteFault → Halts duty before read written s.tally b reason
+pub halts_at_rest : (duty : Duty) (before : Option (List ℕ)) (bytes read : List ℕ) (written : Option (List ℕ)) (given : List Message) (s : State) (b : Ledger) (reason : EndCause) → written ≡ and_then before bytes → Holds duty bytes (assignments_in given) s b → SaysFirst read given → reason ≢ WriteFault → Halts duty before read written s.tally b reason
 halts_at_rest duty before bytes read written given s b reason at holds says no-fault = record {
   bytes = bytes;
   at = at;
@@ -114,7 +114,7 @@ still_serves count None h = absurd h
 still_serves count (Some f) h = h
 
 -- PRE_SLEEP was sent
-pub slept : (duty : Duty) (before : Option (List ℕ)) (bytes : List ℕ) (old new : Option (List ℕ)) (done : List AssignedJob) (registered : Option ℕ) (t : Tally) (b : Book) → Sends old new (pre_sleep ∷ []) (Ok tt) → old ≡ and_then before bytes
+pub slept : (duty : Duty) (before : Option (List ℕ)) (bytes : List ℕ) (old new : Option (List ℕ)) (done : List AssignedJob) (registered : Option ℕ) (t : Tally) (b : Ledger) → Sends old new (pre_sleep ∷ []) (Ok tt) → old ≡ and_then before bytes
     → Holds duty bytes done (record { registered = registered; phase = Waiting; tally = t }) b
     → (more : List ℕ) × (new ≡ and_then before more) × Holds duty more done (record { registered = registered; phase = Asleep; tally = t }) b
 slept duty before bytes old new done registered t b sends at holds =
@@ -123,7 +123,7 @@ slept duty before bytes old new done registered t b sends at holds =
     (s.0, s.1, record { wrote = s.2; even = holds.even; serving = still_serves (length duty.functions) registered holds.serving })
 
 -- or it was not
-pub not_slept : (duty : Duty) (before : Option (List ℕ)) (bytes : List ℕ) (old new : Option (List ℕ)) (done : List AssignedJob) (registered : Option ℕ) (t : Tally) (b : Book) (e : EndCause) → Sends old new (pre_sleep ∷ []) (Err e) → old ≡ and_then before bytes
+pub not_slept : (duty : Duty) (before : Option (List ℕ)) (bytes : List ℕ) (old new : Option (List ℕ)) (done : List AssignedJob) (registered : Option ℕ) (t : Tally) (b : Ledger) (e : EndCause) → Sends old new (pre_sleep ∷ []) (Err e) → old ≡ and_then before bytes
     → Holds duty bytes done (record { registered = registered; phase = Waiting; tally = t }) b
     → Left duty before new done t b e
 not_slept duty before bytes old new done registered t b e sends at holds =
@@ -145,11 +145,11 @@ send_fault old new ps cause.Stopped h = absurd h
 
 -- ---- the introduction
 
-pub even_start : (b : Book) → b ≡ no_calls → Even first_state.tally b 0
-even_start b h = subst (λ (x : Book). Even first_state.tally x 0) (sym h) (record { grabbed = refl; answered = refl; reported = refl; grabs = refl; begins = refl; reports = refl })
+pub even_start : (b : Ledger) → b ≡ no_calls → Even first_state.tally b 0
+even_start b h = subst (λ (x : Ledger). Even first_state.tally x 0) (sym h) (record { grabbed = refl; answered = refl; reported = refl; grabs = refl; begins = refl; reports = refl })
 
 -- the name was written
-pub introduced : (duty : Duty) (old new : Option (List ℕ)) (b : Book) → Sends old new (set_client_id duty.worker ∷ []) (Ok tt) → b ≡ no_calls
+pub introduced : (duty : Duty) (old new : Option (List ℕ)) (b : Ledger) → Sends old new (set_client_id duty.worker ∷ []) (Ok tt) → b ≡ no_calls
     → (new ≡ and_then old (text_of (set_client_id duty.worker ∷ []))) × Holds duty (text_of (set_client_id duty.worker ∷ [])) [] first_state b
 introduced duty old new b sends fresh =
     let p = set_client_id duty.worker in (
@@ -171,7 +171,7 @@ introduced duty old new b sends fresh =
     )
 
 -- or it was not
-pub not_introduced : (duty : Duty) (old new : Option (List ℕ)) (b : Book) (e : EndCause) → Sends old new (set_client_id duty.worker ∷ []) (Err e) → b ≡ no_calls → (more : List ℕ) × (new ≡ and_then old more) × Ends duty more [] first_state.tally b e
+pub not_introduced : (duty : Duty) (old new : Option (List ℕ)) (b : Ledger) (e : EndCause) → Sends old new (set_client_id duty.worker ∷ []) (Err e) → b ≡ no_calls → (more : List ℕ) × (new ≡ and_then old more) × Ends duty more [] first_state.tally b e
 not_introduced duty old new b WriteFault sends fresh =
     let p = set_client_id duty.worker in
     let text = text_of (p ∷ []) in
@@ -302,7 +302,7 @@ pub heard_next : (read : List ℕ) (given : List Message) (m : Message) (old new
 heard_next read given m old new h e = h ∙ ap (behind given) e ∙ sym (ap (λ (x : List Message). let r : Reading = record { messages = x; ending = new.ending } in r) (append_assoc given (m ∷ []) new.messages))
 
 -- a message was served
-pub stands_next : (duty : Duty) (before : Option (List ℕ)) (read : List ℕ) (old new : Option (List ℕ)) (m : Message) (r r' : Reading) (s s' : State) (b b' : Book) (st : Stands duty before read old r s b) → r ≡ behind (m ∷ []) r'
+pub stands_next : (duty : Duty) (before : Option (List ℕ)) (read : List ℕ) (old new : Option (List ℕ)) (m : Message) (r r' : Reading) (s s' : State) (b b' : Ledger) (st : Stands duty before read old r s b) → r ≡ behind (m ∷ []) r'
     → (more : List ℕ) × (new ≡ and_then before more) × Holds duty more (assignments_in st.given ++ assignments_in (m ∷ [])) s' b' → Stands duty before read new r' s' b'
 stands_next duty before read old new m r r' s s' b b' st e h = record {
   bytes = h.0;
@@ -321,7 +321,7 @@ all_behind : (read : List ℕ) (given : List Message) (m : Message) (r r' : Read
 all_behind read given m r r' h e = says_more read (given ++ m ∷ []) r'.messages (says_behind read given m r r' h e) ∙ ap (λ (x : List AssignedJob). x ++ assignments_in r'.messages) (assignments_append given (m ∷ []))
 
 -- a session ended at a message
-pub halts_next : (duty : Duty) (before : Option (List ℕ)) (read : List ℕ) (old new : Option (List ℕ)) (m : Message) (r r' : Reading) (s : State) (t' : Tally) (b b' : Book) (e : EndCause) (st : Stands duty before read old r s b) → r ≡ behind (m ∷ []) r'
+pub halts_next : (duty : Duty) (before : Option (List ℕ)) (read : List ℕ) (old new : Option (List ℕ)) (m : Message) (r r' : Reading) (s : State) (t' : Tally) (b b' : Ledger) (e : EndCause) (st : Stands duty before read old r s b) → r ≡ behind (m ∷ []) r'
     → (more : List ℕ) × (new ≡ and_then before more) × Ends duty more (assignments_in st.given ++ assignments_in (m ∷ [])) t' b' e → Halts duty before read new t' b' e
 halts_next duty before read old new m r r' s t' b b' e st same h = record {
   bytes = h.0;
@@ -329,7 +329,7 @@ halts_next duty before read old new m r r' s t' b b' e st same h = record {
   ends = ends_later duty h.0 (assignments_in st.given ++ assignments_in (m ∷ [])) (assignments_in r'.messages) (assignments read) t' b' e h.2 (all_behind read st.given m r r' st.rests.heard same);
 }
 
-pub reason_next : (generation : ℕ) (duty : Duty) (before : Option (List ℕ)) (read : List ℕ) (old : Option (List ℕ)) (m : Message) (r r' : Reading) (s : State) (t' : Tally) (b : Book) (last : Option PortAnswer) (e : EndCause) (st : Stands duty before read old r s b) → r ≡ behind (m ∷ []) r'
+pub reason_next : (generation : ℕ) (duty : Duty) (before : Option (List ℕ)) (read : List ℕ) (old : Option (List ℕ)) (m : Message) (r r' : Reading) (s : State) (t' : Tally) (b : Ledger) (last : Option PortAnswer) (e : EndCause) (st : Stands duty before read old r s b) → r ≡ behind (m ∷ []) r'
     → StepReason generation m s.tally t' last e → ReadReason generation read t'.grabbed last e
 reason_next generation duty before read old m r r' s t' b last WriteFault st same h = tt
 reason_next generation duty before read old m r r' s t' b last Memory st same h = tt
@@ -350,7 +350,7 @@ reason_next generation duty before read old m r r' s t' b last cause.Closed st s
 reason_next generation duty before read old m r r' s t' b last cause.Stopped st same h = h
 
 -- a session that stands has counted no more than it read
-pub counted : (duty : Duty) (before : Option (List ℕ)) (read : List ℕ) (old : Option (List ℕ)) (r : Reading) (s : State) (b : Book) (st : Stands duty before read old r s b) → length (assignments_in st.given) ≤ length read
+pub counted : (duty : Duty) (before : Option (List ℕ)) (read : List ℕ) (old : Option (List ℕ)) (r : Reading) (s : State) (b : Ledger) (st : Stands duty before read old r s b) → length (assignments_in st.given) ≤ length read
 counted duty before read old r s b st =
     let said : (reading read).messages ≡ st.given ++ r.messages = ap (λ (x : Reading). x.messages) st.rests.heard in
     let lengths : length (reading read).messages ≡ length st.given + length r.messages = ap length said ∙ length-append st.given r.messages in
@@ -364,34 +364,34 @@ broken_says read given r f h e none =
     let same : fault_of (reading read).ending ≡ Some f = ap (λ (x : Reading). fault_of x.ending) h ∙ sym e in
     absurd (let clash = sym none ∙ same in cc)
 
-pub as_waiting : (duty : Duty) (bytes : List ℕ) (done : List AssignedJob) (s : State) (b : Book) → s.phase ≡ Waiting → Holds duty bytes done s b → Holds duty bytes done (record { registered = s.registered; phase = Waiting; tally = s.tally }) b
+pub as_waiting : (duty : Duty) (bytes : List ℕ) (done : List AssignedJob) (s : State) (b : Ledger) → s.phase ≡ Waiting → Holds duty bytes done s b → Holds duty bytes done (record { registered = s.registered; phase = Waiting; tally = s.tally }) b
 as_waiting duty bytes done s b e h = record { wrote = h.wrote; even = h.even; serving = subst (λ (p : Phase). IsServing (length duty.functions) p s.registered) e h.serving }
 
 -- a session that stands may count one job more
-pub tally_room : (duty : Duty) (before : Option (List ℕ)) (read : List ℕ) (old : Option (List ℕ)) (r : Reading) (s : State) (b : Book) → Stands duty before read old r s b → length read < 2 ^ 60 → (s.tally.grabbed + 1 < 2 ^ 64) × (s.tally.answered + 1 < 2 ^ 64) × (s.tally.reported + 1 < 2 ^ 64)
+pub tally_room : (duty : Duty) (before : Option (List ℕ)) (read : List ℕ) (old : Option (List ℕ)) (r : Reading) (s : State) (b : Ledger) → Stands duty before read old r s b → length read < 2 ^ 60 → (s.tally.grabbed + 1 < 2 ^ 64) × (s.tally.answered + 1 < 2 ^ 64) × (s.tally.reported + 1 < 2 ^ 64)
 tally_room duty before read old r s b st short =
     let few = counted duty before read old r s b st in
     let even = st.rests.holds.even in
     (omega (arith, few, short, even.grabbed), omega (arith, few, short, even.answered), omega (arith, few, short, even.reported))
 
-pub port_room : (duty : Duty) (before : Option (List ℕ)) (read : List ℕ) (old : Option (List ℕ)) (r : Reading) (s : State) (b : Book) → Stands duty before read old r s b → length read < 2 ^ 60 → (b.grabs + 1 < 2 ^ 64) × (b.begins + 1 < 2 ^ 64) × (b.reports + 1 < 2 ^ 64)
+pub port_room : (duty : Duty) (before : Option (List ℕ)) (read : List ℕ) (old : Option (List ℕ)) (r : Reading) (s : State) (b : Ledger) → Stands duty before read old r s b → length read < 2 ^ 60 → (b.grabs + 1 < 2 ^ 64) × (b.begins + 1 < 2 ^ 64) × (b.reports + 1 < 2 ^ 64)
 port_room duty before read old r s b st short =
     let few = counted duty before read old r s b st in
     let even = st.rests.holds.even in
     (omega (arith, few, short, even.grabs), omega (arith, few, short, even.begins), omega (arith, few, short, even.reports))
 
 -- a session that stands says first what it was given
-pub stands_says : (duty : Duty) (before : Option (List ℕ)) (read : List ℕ) (old : Option (List ℕ)) (r : Reading) (s : State) (b : Book) (st : Stands duty before read old r s b) → SaysFirst read st.given
+pub stands_says : (duty : Duty) (before : Option (List ℕ)) (read : List ℕ) (old : Option (List ℕ)) (r : Reading) (s : State) (b : Ledger) (st : Stands duty before read old r s b) → SaysFirst read st.given
 stands_says duty before read old r s b st = (r.messages, ap (λ (x : Reading). x.messages) st.rests.heard)
 
 -- and may halt
-pub stands_halts : (duty : Duty) (before : Option (List ℕ)) (read : List ℕ) (old : Option (List ℕ)) (r : Reading) (s : State) (b : Book) (reason : EndCause) → Stands duty before read old r s b → reason ≢ WriteFault → Halts duty before read old s.tally b reason
+pub stands_halts : (duty : Duty) (before : Option (List ℕ)) (read : List ℕ) (old : Option (List ℕ)) (r : Reading) (s : State) (b : Ledger) (reason : EndCause) → Stands duty before read old r s b → reason ≢ WriteFault → Halts duty before read old s.tally b reason
 stands_halts duty before read old r s b reason st no-fault = halts_at_rest duty before st.bytes read old st.given s b reason st.at st.rests.holds (stands_says duty before read old r s b st) no-fault
 
 -- ---- turns
 
 -- an end of a step at the order
-pub glanced : (duty : Duty) (before : Option (List ℕ)) (read : List ℕ) (out : Option (List ℕ)) (given : List Message) (r : Reading) (s : State) (b : Book) (generation : ℕ) (old new : Link) (res : Result (Unit {0}) EndCause) → reading read ≡ behind given r
+pub glanced : (duty : Duty) (before : Option (List ℕ)) (read : List ℕ) (out : Option (List ℕ)) (given : List Message) (r : Reading) (s : State) (b : Ledger) (generation : ℕ) (old new : Link) (res : Result (Unit {0}) EndCause) → reading read ≡ behind given r
     → (more : List ℕ) × (out ≡ and_then before more) × Acts duty more (assignments_in given) s b res
     → IfErr res (λ (e : EndCause). PortReason generation e b.last_answer) → (res ≡ Err WriteFault → new.output.failures ≡ old.output.failures + 1)
     → GoesOnOrEnds (Stands duty before read out r s b) (λ (e : EndCause). Halts duty before read out s.tally b e × Reason generation read s.tally.grabbed old new b.last_answer e) res
@@ -407,7 +407,7 @@ glanced duty before read out given r s b generation old new (Err e) heard h reas
 )
 
 -- an end at a read
-pub read_ended : (duty : Duty) (before : Option (List ℕ)) (bytes read : List ℕ) (out : Option (List ℕ)) (given : List Message) (s : State) (b : Book) (generation : ℕ) (old new : Link) (e : EndCause) → out ≡ and_then before bytes → Holds duty bytes (assignments_in given) s b → SaysFirst read given → IsReadEnd e
+pub read_ended : (duty : Duty) (before : Option (List ℕ)) (bytes read : List ℕ) (out : Option (List ℕ)) (given : List Message) (s : State) (b : Ledger) (generation : ℕ) (old new : Link) (e : EndCause) → out ≡ and_then before bytes → Holds duty bytes (assignments_in given) s b → SaysFirst read given → IsReadEnd e
     → (e ≡ cause.Closed → new.input.has_ended ≡ true) → (e ≡ cause.ReadFault → new.input.failures ≡ old.input.failures + 1) → Halts duty before read out s.tally b e × Reason generation read s.tally.grabbed old new b.last_answer e
 read_ended duty before bytes read out given s b generation old new cause.Closed at holds says is closed failed = (halts_at_rest duty before bytes read out given s b cause.Closed at holds says (λ e. cc), closed refl)
 read_ended duty before bytes read out given s b generation old new cause.ReadFault at holds says is closed failed = (halts_at_rest duty before bytes read out given s b cause.ReadFault at holds says (λ e. cc), failed refl)
@@ -430,10 +430,10 @@ reads_nothing = refl
 assigns_nothing : assignments [] ≡ []
 assigns_nothing = ap (λ (r : Reading). assignments_in r.messages) reads_nothing
 
-pub begun_halts : (duty : Duty) (before out : Option (List ℕ)) (t : Tally) (b : Book) (e : EndCause) → (more : List ℕ) × (out ≡ and_then before more) × Ends duty more [] t b e → Halts duty before [] out t b e
+pub begun_halts : (duty : Duty) (before out : Option (List ℕ)) (t : Tally) (b : Ledger) (e : EndCause) → (more : List ℕ) × (out ≡ and_then before more) × Ends duty more [] t b e → Halts duty before [] out t b e
 begun_halts duty before out t b e h = record { bytes = h.0; at = h.1; ends = subst (λ (d : List AssignedJob). Ends duty h.0 d t b e) (sym assigns_nothing) h.2 }
 
-pub begun_stands : (duty : Duty) (before out : Option (List ℕ)) (r : Reading) (s : State) (b : Book) → r ≡ nothing_read → (more : List ℕ) × (out ≡ and_then before more) × Holds duty more [] s b → Stands duty before [] out r s b
+pub begun_stands : (duty : Duty) (before out : Option (List ℕ)) (r : Reading) (s : State) (b : Ledger) → r ≡ nothing_read → (more : List ℕ) × (out ≡ and_then before more) × Holds duty more [] s b → Stands duty before [] out r s b
 begun_stands duty before out r s b e h = record { bytes = h.0; given = []; at = h.1; rests = record { heard = reads_nothing ∙ sym e; holds = h.2 } }
 
 -- a reason stands from where the link began

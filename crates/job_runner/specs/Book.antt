@@ -10,7 +10,7 @@ use Rattle.job_runner.specs.declared.port.GrabRefusal.TheVariants as refused
 use Rattle.job_runner.specs.declared.port.PortAnswer.{PortAnswer}
 use Rattle.job_runner.specs.declared.port.PortAnswer.TheVariants as answer
 
-pub record Book : Type 0 where
+pub record Ledger : Type 0 where
   -- how many calls of each kind succeeded
   pub grabs : ℕ
   pub begins : ℕ
@@ -21,26 +21,26 @@ pub record Book : Type 0 where
   -- the last answer of a call other than `lose`
   pub last_answer : Option PortAnswer
 
-abbrev pub after_order : Book → OrderParts → Book
+abbrev pub after_order : Ledger → OrderParts → Ledger
 after_order b order = record b { last_answer = Some (answer.Ordered order) }
 
-abbrev pub after_grab : Book → Result ℕ GrabRefusal → Book
+abbrev pub after_grab : Ledger → Result ℕ GrabRefusal → Ledger
 after_grab b (Ok ticket) = record b { grabs = b.grabs + 1; last_answer = Some (answer.Grabbed ticket) }
 after_grab b (Err refused.Gone) = record b { last_answer = Some answer.Gone }
 after_grab b (Err refused.HistoryFull) = record b { last_answer = Some answer.HistoryFull }
 after_grab b (Err refused.Memory) = record b { last_answer = Some answer.Memory }
 
-abbrev pub after_begin : Book → Result (Unit {0}) gone.Gone → Book
+abbrev pub after_begin : Ledger → Result (Unit {0}) gone.Gone → Ledger
 after_begin b (Ok done) = record b { begins = b.begins + 1; last_answer = Some answer.Began }
 after_begin b (Err g) = record b { last_answer = Some answer.Gone }
 
-abbrev pub after_report : Book → Result StayOrRetire gone.Gone → Book
+abbrev pub after_report : Ledger → Result StayOrRetire gone.Gone → Ledger
 after_report b (Ok after.Stay) = record b { reports = b.reports + 1; last_answer = Some answer.Stay }
 after_report b (Ok after.Retire) = record b { reports = b.reports + 1; last_answer = Some answer.Retire }
 after_report b (Err g) = record b { last_answer = Some answer.Gone }
 
-abbrev pub after_loss : Book → Cause → Book
+abbrev pub after_loss : Ledger → Cause → Ledger
 after_loss b cause = record b { losses = b.losses + 1; last_loss = Some cause }
 
-abbrev pub no_calls : Book
+abbrev pub no_calls : Ledger
 no_calls = record { grabs = 0; begins = 0; reports = 0; losses = 0; last_loss = None; last_answer = None }

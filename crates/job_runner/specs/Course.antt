@@ -3,7 +3,7 @@ use Rattle.std.specs.Prelude.{◌≡◌, ◌≢◌, ℕ, ◌+◌, ◌<◌, ◌�
 use Rattle.std.specs.Option.{option_to_list, option_and_then}
 use Rattle.std.specs.List.{filter, filter_map, AllByRecursion}
 use Rattle.gear_packets.specs.Request.{Packet, can_do, cant_do, pre_sleep, grab_job, set_client_id, work_status, work_complete, work_fail, work_data, work_warning, IsSent}
-use Rattle.gear_packets.specs.Refusal.{request_refusal}
+use Rattle.gear_packets.specs.PacketRefusals.{request_refusal}
 use Rattle.gear_packets.specs.Response.{AssignedJob}
 use Rattle.gear_packets.specs.Text.{text_of, is_work, register, registered_by}
 use Rattle.job_runner.specs.declared.end.EndCause.{EndCause}
@@ -20,7 +20,7 @@ use Rattle.gear_status.specs.Sides.{and_then}
 use Rattle.worker_state.specs.Registration.{change_of}
 use Rattle.pool_settings.specs.Names.{is_name}
 use Rattle.job_runner.specs.Told.{Told, replies}
-use Rattle.job_runner.specs.Book.{Book}
+use Rattle.job_runner.specs.Book.{Ledger}
 
 -- what a session is for: the meaning of its jobs, its worker's name and generation, and the functions by number
 pub record Duty : Type 0 where
@@ -83,7 +83,7 @@ pub record Cut (duty : Duty) (bytes : List ℕ) (answered begun : List AssignedJ
   pub one : OneAtATime [] (sent ++ next)
 
 -- Between two assignments all counts agree.
-pub record Even (tally : Tally) (book : Book) (count : ℕ) : Type 0 where
+pub record Even (tally : Tally) (book : Ledger) (count : ℕ) : Type 0 where
   pub grabbed : tally.grabbed ≡ count
   pub answered : tally.answered ≡ count
   pub reported : tally.reported ≡ count
@@ -92,7 +92,7 @@ pub record Even (tally : Tally) (book : Book) (count : ℕ) : Type 0 where
   pub reports : book.reports ≡ count
 
 -- At the end of a session the counts are in this order.
-pub record Chain (tally : Tally) (book : Book) (answered begun : ℕ) : Type 0 where
+pub record Chain (tally : Tally) (book : Ledger) (answered begun : ℕ) : Type 0 where
   pub answered_is : tally.answered ≡ answered
   pub reported : tally.reported ≤ tally.answered
   pub begins : tally.answered + begun ≤ book.begins
@@ -102,7 +102,7 @@ pub record Chain (tally : Tally) (book : Book) (answered begun : ℕ) : Type 0 w
   pub reports : book.reports ≡ tally.reported
 
 -- a session that ends: `done` were answered before, `bytes` were written in all
-pub record Ends (duty : Duty) (bytes : List ℕ) (taken : List AssignedJob) (tally : Tally) (book : Book) (reason : EndCause) : Type 0 where
+pub record Ends (duty : Duty) (bytes : List ℕ) (taken : List AssignedJob) (tally : Tally) (book : Ledger) (reason : EndCause) : Type 0 where
   pub answered : List AssignedJob
   pub begun : List AssignedJob
   pub later : List AssignedJob
@@ -174,7 +174,7 @@ IsServing count phase (Some f) = f < count
 abbrev pub IsAccepted : Packet → Type 0
 IsAccepted p = request_refusal p ≡ None
 
--- What sending packets leaves, by what the link told before and after: all of them, a front of their text, or nothing
+-- What sending packets leaves, by what the link told before and after: all of them, a front of their text, or nothing.
 abbrev pub Sends : Option (List ℕ) → Option (List ℕ) → List Packet → Result (Unit {0}) EndCause → Type 0
 Sends old new packets (Ok r) = (new ≡ and_then old (text_of packets)) × AllByRecursion IsSent packets
 Sends old new packets (Err WriteFault) = (count : ℕ) × (count < length (text_of packets)) × (new ≡ and_then old (take count (text_of packets))) × AllByRecursion IsSent packets

@@ -5,7 +5,7 @@ use Rattle.gear_packets.specs.Text.{Reading, reading, assignments_in, assignment
 use Rattle.gear_packets.specs.Reading.{fault_of}
 use Rattle.gear_status.specs.Sides.{and_then}
 use Rattle.worker_state.specs.declared.slot.WorkerName.{WorkerName}
-use Rattle.pool_settings.specs.Profile.{Profile}
+use Rattle.pool_settings.specs.Settings.{Settings}
 use Rattle.pool_settings.specs.Slots.{worker_name}
 use Rattle.std.specs.Fmt.{decimal}
 use Rattle.job_runner.specs.declared.end.EndCause.{EndCause}
@@ -15,7 +15,7 @@ use Rattle.job_runner.specs.declared.port.PortAnswer.{PortAnswer}
 use Rattle.job_runner.specs.declared.run.State.{State}
 use Rattle.job_runner.specs.declared.session.Tally.{Tally}
 use Rattle.job_runner.specs.Told.{Told}
-use Rattle.job_runner.specs.Book.{Book}
+use Rattle.job_runner.specs.Book.{Ledger}
 use Rattle.job_runner.specs.Course.{Duty, Ends, PortReason}
 use Rattle.job_runner.specs.Run.{Rests, HasError}
 
@@ -23,11 +23,12 @@ abbrev pub first_state : State
 first_state = record { registered = None; phase = Idle; tally = record { grabbed = 0; answered = 0; reported = 0 } }
 
 -- the name of a worker: `machine/number#generation`
-abbrev pub worker_text : Profile → WorkerName → List ℕ
-worker_text rules worker = worker_name rules worker.slot ++ 35 ∷ decimal worker.generation
+abbrev pub worker_text : Settings → WorkerName → List ℕ
+worker_text settings worker = worker_name settings worker.slot ++ 35 ∷ decimal worker.generation
 
-abbrev pub duty_of : (List ℕ → List ℕ → Option Told) → Profile → WorkerName → Duty
-duty_of told rules worker = record { told = told; worker = worker_text rules worker; generation = worker.generation; functions = rules.functions }
+abbrev pub duty_of : (List ℕ → List ℕ → Option Told) → Settings → WorkerName → Duty
+duty_of told settings worker =
+    record { told = told; worker = worker_text settings worker; generation = worker.generation; functions = settings.functions }
 
 -- the ends that sending one packet may have
 abbrev pub IsSendFault : EndCause → Type 0
@@ -43,14 +44,14 @@ StepReason generation m old new last other = PortReason generation other last
 
 -- After `read` was read and `written` stood on the link, all messages that were given are served. `before` is what
 -- stood there when the session began.
-pub record Stands (duty : Duty) (before : Option (List ℕ)) (read : List ℕ) (written : Option (List ℕ)) (reader : Reading) (s : State) (book : Book) : Type 0 where
+pub record Stands (duty : Duty) (before : Option (List ℕ)) (read : List ℕ) (written : Option (List ℕ)) (reader : Reading) (s : State) (book : Ledger) : Type 0 where
   pub bytes : List ℕ
   pub given : List Message
   pub at : written ≡ and_then before bytes
   pub rests : Rests duty read bytes given reader s book
 
 -- the session is at its end
-pub record Halts (duty : Duty) (before : Option (List ℕ)) (read : List ℕ) (written : Option (List ℕ)) (tally : Tally) (book : Book) (reason : EndCause) : Type 0 where
+pub record Halts (duty : Duty) (before : Option (List ℕ)) (read : List ℕ) (written : Option (List ℕ)) (tally : Tally) (book : Ledger) (reason : EndCause) : Type 0 where
   pub bytes : List ℕ
   pub at : written ≡ and_then before bytes
   pub ends : Ends duty bytes (assignments read) tally book reason

@@ -14,21 +14,21 @@ use Rattle.job_runner.specs.declared.run.State.{State}
 use Rattle.job_runner.specs.declared.session.Tally.{Tally}
 use Rattle.job_runner.specs.Ends.{loss_of}
 use Rattle.job_runner.specs.Told.{replies}
-use Rattle.job_runner.specs.Book.{Book}
+use Rattle.job_runner.specs.Book.{Ledger}
 use Rattle.job_runner.specs.Course.{Duty, asks, Wrote, Even, Ends, GoesOnOrEnds, known, IsServing, PortReason}
 
 -- Between two messages, the reader aside: each assignment so far is answered, and the counts agree.
-pub record Holds (duty : Duty) (bytes : List ℕ) (done : List AssignedJob) (s : State) (book : Book) : Type 0 where
+pub record Holds (duty : Duty) (bytes : List ℕ) (done : List AssignedJob) (s : State) (book : Ledger) : Type 0 where
   pub wrote : Wrote duty bytes (known duty.functions s.registered) done
   pub even : Even s.tally book (length done)
   pub serving : IsServing (length duty.functions) s.phase s.registered
 
 -- what a step leaves
-abbrev pub Acts : Duty → List ℕ → List AssignedJob → State → Book → Result (Unit {0}) EndCause → Type 0
+abbrev pub Acts : Duty → List ℕ → List AssignedJob → State → Ledger → Result (Unit {0}) EndCause → Type 0
 Acts duty bytes done s book result = GoesOnOrEnds (Holds duty bytes done s book) (Ends duty bytes done s.tally book) result
 
 -- The bytes read say the messages that were given, and those that the reader still holds.
-pub record Rests (duty : Duty) (read bytes : List ℕ) (given : List Message) (reader : Reading) (s : State) (book : Book) : Type 0 where
+pub record Rests (duty : Duty) (read bytes : List ℕ) (given : List Message) (reader : Reading) (s : State) (book : Ledger) : Type 0 where
   pub heard : reading read ≡ behind given reader
   pub holds : Holds duty bytes (assignments_in given) s book
 
@@ -52,7 +52,7 @@ Reason generation read grabbed old new last cause.TurnsUsed = Unit {0}
 Reason generation read grabbed old new last other = PortReason generation other last
 
 -- no call of `lose`, or one with this cause
-abbrev pub Lost : Option Cause → Book → Type 0
+abbrev pub Lost : Option Cause → Ledger → Type 0
 Lost None book = book.losses ≡ 0
 Lost (Some c) book = (book.losses ≡ 1) × (book.last_loss ≡ Some c)
 
@@ -62,7 +62,7 @@ tally_of e = record { grabbed = e.grabbed; answered = e.answered; reported = e.r
 -- What a session promises, of all that it read and wrote. But for a failed write, what it wrote is whole packets, and those that
 -- answer jobs are the replies to the first `answered` jobs that were assigned to it. After each whole packet at most one function is
 -- registered, and exactly one after a packet that asks for a job or to be woken.
-pub record Served (duty : Duty) (read bytes : List ℕ) (old new : Link) (book : Book) (e : SessionEnd) : Type 0 where
+pub record Served (duty : Duty) (read bytes : List ℕ) (old new : Link) (book : Ledger) (e : SessionEnd) : Type 0 where
   pub ends : Ends duty bytes (assignments read) (tally_of e) book e.cause
   pub whole : e.cause ≢ cause.WriteFault → (sent bytes).packets ≡ ends.cut.sent
   pub work : e.cause ≢ cause.WriteFault → work_requests bytes ≡ replies duty.told (take e.answered (assignments read))

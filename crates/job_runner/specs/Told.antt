@@ -55,18 +55,18 @@ finish_packet handle fail = work_fail handle
 abbrev pub told_packets : List ℕ → Told → List Packet
 told_packets handle told = map (remark_packet handle) told.remarks ++ finish_packet handle told.finish ∷ []
 
-abbrev pub has_room : Packet → Bool
-has_room p = nat_le (length (body_of p)) body_limit
+abbrev pub can_send : Packet → Bool
+can_send p = nat_le (length (body_of p)) body_limit
 
 -- the packets that answer, for a name that is known or not
 unfoldable pub answer_to : List ℕ → Option Told → List Packet
 answer_to handle None = work_fail handle ∷ []
-answer_to handle (Some told) = if list_all has_room (told_packets handle told) then told_packets handle told else work_fail handle ∷ []
+answer_to handle (Some told) = if list_all can_send (told_packets handle told) then told_packets handle told else work_fail handle ∷ []
 
 -- how such an answer ends, as the pool books it
 unfoldable pub kind_of_answer : List ℕ → Option Told → EndKind
 kind_of_answer handle None = kind.Fail
-kind_of_answer handle (Some told) = if list_all has_room (told_packets handle told) then end_kind_of told.finish else kind.Fail
+kind_of_answer handle (Some told) = if list_all can_send (told_packets handle told) then end_kind_of told.finish else kind.Fail
 
 -- the answer to an assignment, as the jobs tell it
 abbrev pub reply : (List ℕ → List ℕ → Option Told) → AssignedJob → List Packet

@@ -1,3 +1,5 @@
+//! How a session ends, and why.
+
 ghost use Rattle.std.specs.Prelude.{◌≡◌, IfSome};
 ghost use Rattle.worker_state.specs.Causes.{cause_label};
 ghost use Rattle.job_runner.specs.Ends.{end_label, loss_of};

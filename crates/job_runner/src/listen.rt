@@ -1,3 +1,5 @@
+//! One read of a session.
+
 ghost use Rattle.std.specs.Prelude.{◌≡◌, ◌+◌, ◌-◌, ◌<◌, ◌≤◌, ◌^◌, ◌++◌, ℕ, List, length, IfOk, IfErr, OnOk, Option, true};
 ghost use Rattle.gear_packets.specs.Response.{Message};
 ghost use Rattle.gear_packets.specs.Text.{reading, behind};

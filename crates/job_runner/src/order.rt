@@ -1,3 +1,5 @@
+//! Orders, as a session obeys them.
+
 ghost use Rattle.std.specs.Prelude.{◌≡◌, ◌↔◌, ◌+◌, ◌-◌, ◌<◌, ◌≤◌, ◌^◌, ℕ, List, length, IsTrue, IfOk, IfErr, OnOk, IfSome, Option};
 ghost use Rattle.std.specs.List.{AllByRecursion};
 ghost use Rattle.gear_packets.specs.Request.{IsSent};

@@ -1,7 +1,9 @@
+//! What a session knows between two messages, and the order that it then obeys.
+
 ghost use Rattle.std.specs.Prelude.{◌≡◌, ◌≢◌, ◌+◌, ◌-◌, ◌<◌, ◌≤◌, ◌^◌, ◌++◌, [], ◌∷◌, ℕ, List, length, IfOk, IfErr, OnOk, Option, Some, None};
 ghost use Rattle.gear_packets.specs.Response.{AssignedJob};
 ghost use Rattle.gear_status.specs.Sides.{and_then};
-ghost use Rattle.job_runner.specs.Book.{Book};
+ghost use Rattle.job_runner.specs.Book.{Ledger};
 ghost use Rattle.job_runner.specs.Course.{Duty, PortReason};
 ghost use Rattle.job_runner.specs.Run.{Holds, Acts};
 

@@ -1,3 +1,5 @@
+//! Packets, written to the link.
+
 ghost use Rattle.std.specs.Prelude.{◌≡◌, ◌+◌, ◌-◌, ◌<◌, ◌≤◌, ◌^◌, ◌++◌, [], ◌∷◌, OnOk, IfErr};
 ghost use Rattle.gear_packets.specs.Request.{IsSent, spelling};
 ghost use Rattle.std.specs.List.{AllByRecursion};

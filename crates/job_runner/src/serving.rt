@@ -1,3 +1,5 @@
+//! A whole session: from its worker's name to its end.
+
 ghost use Rattle.std.specs.Prelude.{◌≡◌, ◌+◌, ◌-◌, ◌<◌, ◌≤◌, ◌^◌, ◌++◌, [], ◌∷◌, ℕ, List, length, IfErr, IfOk, OnOk, Option, decimal, string_bytes};
 ghost use Rattle.gear_packets.specs.Request.{set_client_id};
 ghost use Rattle.gear_status.specs.Sides.{and_then};

@@ -1,8 +1,10 @@
+//! An assignment, from the port to its answer.
+
 ghost use Rattle.std.specs.Prelude.{◌≡◌, ◌+◌, ◌-◌, ◌<◌, ◌≤◌, ◌^◌, ◌++◌, [], ◌∷◌, ℕ, List, length, IfErr, IfOk, OnOk, Option};
 ghost use Rattle.std.specs.Option.{option_map};
 ghost use Rattle.gear_packets.specs.Response.{AssignedJob};
 ghost use Rattle.gear_status.specs.Sides.{and_then};
-ghost use Rattle.job_runner.specs.Book.{Book};
+ghost use Rattle.job_runner.specs.Book.{Ledger};
 ghost use Rattle.job_runner.specs.Told.{told_of};
 ghost use Rattle.job_runner.specs.Course.{Duty, Wrote, Even, Ends, GoesOnOrEnds, PortReason};
 

@@ -1,9 +1,11 @@
+//! What a session does at a message.
+
 ghost use Rattle.std.specs.Prelude.{◌≡◌, ◌+◌, ◌-◌, ◌<◌, ◌^◌, ◌++◌, [], ◌∷◌, ℕ, List, IfErr, OnOk, Option};
 ghost use Rattle.gear_packets.specs.Response.{AssignedJob};
 ghost use Rattle.gear_packets.specs.Reading.{message_of};
 ghost use Rattle.gear_packets.specs.Text.{assignments_in};
 ghost use Rattle.gear_status.specs.Sides.{and_then};
-ghost use Rattle.job_runner.specs.Book.{Book};
+ghost use Rattle.job_runner.specs.Book.{Ledger};
 ghost use Rattle.job_runner.specs.Course.{Duty, PortReason};
 ghost use Rattle.job_runner.specs.Run.{Holds, Acts};
 ghost use Rattle.job_runner.specs.Loop.{StepReason, IsSendFault};
@@ -23,7 +25,7 @@ use std::alloc::Global;
 fn sleep<L: Sink>(alloc: Global, link: &mut L, state: &mut State) -> Result<(), EndCause>
     requires link { (L.output link.old).failures < 2 ^ 64 - 1 }
     requires waits { state.old.phase ≡ Phase.Waiting }
-    ensures acts { (duty : Duty) (before : Option (List ℕ)) (bytes : List ℕ) (done : List AssignedJob) (book : Book) →
+    ensures acts { (duty : Duty) (before : Option (List ℕ)) (bytes : List ℕ) (done : List AssignedJob) (book : Ledger) →
         (L.output link.old).got ≡ and_then before bytes → Holds duty bytes done state.old book →
         (more : List ℕ) × ((L.output link.new).got ≡ and_then before more) × Acts duty more done state.new book result }
     ensures input { L.input link.new ≡ L.input link.old }

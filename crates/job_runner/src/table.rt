@@ -1,3 +1,5 @@
+//! Jobs by name.
+
 ghost use Rattle.std.specs.Prelude.{◌≡◌, ℕ, List, Option, IfOk, is_err, map};
 ghost use Rattle.std.specs.Option.{option_map};
 ghost use Rattle.job_runner.specs.Told.{Told, told_of};

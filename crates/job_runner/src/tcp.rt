@@ -1,4 +1,5 @@
-// A TCP stream as a source and a sink.
+//! A TCP stream as a source and a sink.
+
 ghost use Rattle.std.specs.Prelude.{◌≡◌, ◌≤◌, IfOk};
 ghost use Rattle.gear_status.specs.Sides.{no_input, no_output};
 

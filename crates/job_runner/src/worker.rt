@@ -1,3 +1,5 @@
+//! A worker in its session.
+
 use pool_core::Pass;
 use pool_settings::Settings;
 use std::alloc::Global;

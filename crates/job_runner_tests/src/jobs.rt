@@ -1,3 +1,5 @@
+//! Jobs for the tests.
+
 ghost use Rattle.std.specs.Prelude.{◌≡◌, ◌+◌, ◌∷◌, [], IfOk, reverse, map};
 ghost use Rattle.job_runner.specs.Told.{progress, piece, warning, remark_of};
 

@@ -109,7 +109,7 @@ impl PoolTestPort {
 }
 
 impl PoolPort for PoolTestPort {
-    ghost use Rattle.job_runner.specs.Book.{Book};
+    ghost use Rattle.job_runner.specs.Book.{Ledger};
 
     ghost book = { λ p. record {
       grabs = p.grabs;

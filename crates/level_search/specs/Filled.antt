@@ -1,4 +1,4 @@
--- The filling of idle workers
+-- The filling of idle workers.
 use Rattle.std.specs.Prelude.{◌≡◌, ℕ, ◌+◌, ◌<◌, ◌≤◌, ◌⊎◌, List, length, slice_index}
 use Rattle.round_arena.specs.declared.tables.Tables.{Tables}
 use Rattle.round_arena.specs.declared.tables.Pairs.{Pairs}
@@ -14,16 +14,16 @@ pub record IsFilled (functions : ℕ) (pairs : Pairs) (most before after count :
   pub within : AreWithin functions most after
   pub room : (w : ℕ) → w < length before → functions ≤ slice_index before w → slice_index after w < functions → count_on before (slice_index after w) < slice_index most (slice_index after w)
 
--- The workers of machine m, up to place `end` of the list of workers, have a function, or f is at its greatest number
+-- The workers of machine m, up to place `end` of the list of workers, have a function, or f is at its greatest number.
 abbrev pub AreBusyUpTo : Pairs → List ℕ → List ℕ → ℕ → ℕ → ℕ → ℕ → Type 0
 AreBusyUpTo pairs most owner functions f m end =
     (k : ℕ) → slice_index pairs.workers.first.now m ≤ k → k < end → (slice_index owner (slice_index pairs.workers.items.now k) < functions) ⊎ (slice_index most f ≤ count_on owner f)
 
--- The workers of machine m have a function, or f is at its greatest number
+-- The workers of machine m have a function, or f is at its greatest number.
 abbrev pub AreBusy : Pairs → List ℕ → List ℕ → ℕ → ℕ → ℕ → Type 0
 AreBusy pairs most owner functions f m = AreBusyUpTo pairs most owner functions f m (slice_index pairs.workers.first.now (m + 1))
 
--- The workers of the machines of f, up to place `end` of the list of machines, have a function, or f is at its greatest number
+-- The workers of the machines of f, up to place `end` of the list of machines, have a function, or f is at its greatest number.
 abbrev pub IsBusyUpTo : Pairs → List ℕ → List ℕ → ℕ → ℕ → ℕ → Type 0
 IsBusyUpTo pairs most owner functions f end =
     (k : ℕ) → slice_index pairs.machines.first.now f ≤ k → k < end → AreBusy pairs most owner functions f (slice_index pairs.machines.items.now k)

@@ -1,4 +1,4 @@
--- What the bisection of levels gives
+-- What the bisection of levels gives.
 use Rattle.std.specs.Prelude.{ℕ, ◌-◌, ◌<◌, ◌≤◌, List}
 use Rattle.plan_model.specs.Planning.{Instance, IsShort, top_level}
 use Rattle.round_arena.specs.declared.tables.Tables.{Tables}
@@ -8,12 +8,12 @@ use Rattle.level_search.specs.declared.bisect.Found.{Found}
 use Rattle.level_search.specs.declared.bisect.Found.TheVariants.{Level, Nothing}
 use Rattle.level_search.specs.Levels.{AreMet}
 
--- What one probe of a level found
+-- What one probe of a level found.
 abbrev pub IsProbed : Instance → ℕ → Tables → Served → Type 0
 IsProbed i level t All = AreMet i t.owner.now level
 IsProbed i level t (Short set) = IsShort i level set.now
 
--- What was met at the level or above stays met
+-- What was met at the level or above stays met.
 abbrev pub KeepsMet : Instance → ℕ → Tables → Tables → Type 0
 KeepsMet i level old new = (higher : ℕ) → level ≤ higher → AreMet i old.owner.now higher → AreMet i new.owner.now higher
 

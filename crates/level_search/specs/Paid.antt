@@ -22,7 +22,7 @@ abbrev pub IsLevel : Found → ℕ → Type 0
 IsLevel (Level level set) backlog = backlog ≡ level
 IsLevel (Nothing set) backlog = ⊥
 
--- How many passes over all pairs may follow once the level is found: one to fill idle workers in, and below the top level one more
+-- How many passes over all pairs may follow once the level is found: one to fill idle workers in, and below the top level one more.
 abbrev pub passes_at : ℕ → ℕ
 passes_at level = if nat_lt level top_level then 2 else 1
 

@@ -1,4 +1,4 @@
--- The moving of spare workers to where more jobs wait for each worker
+-- The moving of spare workers to where more jobs wait for each worker.
 use Rattle.std.specs.Prelude.{◌≡◌, ℕ, ◌<◌, ◌⊎◌, List, [], length, take, sum_by, slice_index, slice_index_or}
 use Rattle.plan_model.specs.Planning.{Instance}
 use Rattle.round_arena.specs.declared.tables.Tables.{Tables}
@@ -13,11 +13,11 @@ pub record IsSettled (i : Instance) (level : ℕ) (t : Tables) : Type 0 where
   pub met : AreMet i t.owner.now level
   pub full : IsFull (length i.least) t
 
--- How many functions the workers of a machine may do
+-- How many functions the workers of a machine may do.
 abbrev pub row_length : Instance → ℕ → ℕ
 row_length i machine = length (slice_index_or i.may machine [])
 
--- How many permitted pairs the first w workers are in
+-- How many permitted pairs the first w workers are in.
 abbrev pub pairs_of : Instance → List ℕ → ℕ → ℕ
 pairs_of i machines w = sum_by (row_length i) (take w machines)
 

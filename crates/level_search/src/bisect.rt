@@ -1,3 +1,5 @@
+//! The bisection of levels.
+
 ghost use Rattle.std.specs.Prelude.{◌≡◌, ◌+◌, ◌*◌, ◌^◌, ◌<◌, ◌≤◌, length, IfOk, OnOk};
 ghost use Rattle.round_arena.specs.Plan.{pair_total};
 ghost use Rattle.round_arena.specs.Round.{IsConsistent, SamePairs};

@@ -1,3 +1,5 @@
+//! The plan of the round before, kept where it still serves.
+
 ghost use Rattle.std.specs.Prelude.{◌≡◌, ℕ, ◌≤◌, ◌<◌, ◌↔◌, IsTrue, length, slice_index, IfOk};
 ghost use Rattle.round_arena.specs.Plan.{IsCounted};
 ghost use Rattle.round_arena.specs.Round.{IsConsistent, SamePairs};

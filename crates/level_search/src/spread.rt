@@ -1,3 +1,5 @@
+//! Spare workers, moved to where they help most.
+
 ghost use Rattle.std.specs.Prelude.{◌≡◌, ◌+◌, ◌*◌, ◌^◌, ◌<◌, ◌≤◌, length, slice_index, IfSome, IsTrue};
 ghost use Rattle.plan_model.specs.Planning.{IsInstance, may_do, need};
 ghost use Rattle.round_arena.specs.Input.{pair_count};

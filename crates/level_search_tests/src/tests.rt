@@ -1,3 +1,5 @@
+//! Rounds whose answers are known, and the texts by which they are compared.
+
 ghost use Rattle.std.specs.Prelude.{◌≡◌, IfOk, IfSome};
 
 mod farm;

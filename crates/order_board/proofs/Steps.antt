@@ -15,11 +15,11 @@ use Rattle.order_board.specs.declared.view.Post.{Post}
 use Rattle.order_board.specs.declared.view.View.{View}
 use Rattle.order_board.specs.declared.view.View.TheVariants.{Publisher, Source, Reader, Spent}
 use Rattle.order_board.specs.Posts.{post, posts_of, latest, BeginsWith}
-use Rattle.order_board.specs.Rule.{Seat, word_at, Fits, IsKept, Stores, Reads, Looks, zeros}
+use Rattle.order_board.specs.Rule.{Seat, word_at, FitsPosts, IsKept, Stores, ReadsSeat, Looks, zeros}
 use Rattle.order_board.proofs.Posts.{posts_of-append, posts_of-here, posts_of-elsewhere, latest-append, begins_whole, begins_longer}
 
 -- what other seats know stays true at a new post
-others_fit : (publishes : ℕ) (posts : List Post) (p : Post) (seat : ℕ) (view : View) → seat ≢ publishes → Fits publishes posts seat view → Fits publishes (posts ++ p ∷ []) seat view
+others_fit : (publishes : ℕ) (posts : List Post) (p : Post) (seat : ℕ) (view : View) → seat ≢ publishes → FitsPosts publishes posts seat view → FitsPosts publishes (posts ++ p ∷ []) seat view
 others_fit publishes posts p seat (Publisher known) apart h = absurd (apart h.0)
 others_fit publishes posts p seat Source apart h = tt
 others_fit publishes posts p seat (Reader slot seen) apart h =
@@ -65,8 +65,8 @@ stores : (words slots slot id : ℕ) (posts : List Post) (order : OrderParts) �
 stores words slots slot id posts order within has alone state h homes at small =
     let mine : (id ≡ h.publishes) × (posts ≡ h.posts) = h.views id (Publisher posts) at in
     let after = posts ++ post slot order ∷ [] in
-    let known : ((k : ℕ) → HasWord (latest (posts_of k posts))) × ((k : ℕ) → k < words → slice_index state.words k ≡ word_at k posts) × ((seat : ℕ) (view : View) → get_elem? state.views seat ≡ some view → Fits h.publishes posts seat view) =
-    subst (λ (ps : List Post). ((k : ℕ) → HasWord (latest (posts_of k ps))) × ((k : ℕ) → k < words → slice_index state.words k ≡ word_at k ps) × ((seat : ℕ) (view : View) → get_elem? state.views seat ≡ some view → Fits h.publishes ps seat view)) (sym mine.1) (h.orders, h.last, h.views) in (
+    let known : ((k : ℕ) → HasWord (latest (posts_of k posts))) × ((k : ℕ) → k < words → slice_index state.words k ≡ word_at k posts) × ((seat : ℕ) (view : View) → get_elem? state.views seat ≡ some view → FitsPosts h.publishes posts seat view) =
+    subst (λ (ps : List Post). ((k : ℕ) → HasWord (latest (posts_of k ps))) × ((k : ℕ) → k < words → slice_index state.words k ≡ word_at k ps) × ((seat : ℕ) (view : View) → get_elem? state.views seat ≡ some view → FitsPosts h.publishes ps seat view)) (sym mine.1) (h.orders, h.last, h.views) in (
       Publisher after,
       keeps,
       tt,
@@ -76,14 +76,14 @@ stores words slots slot id posts order within has alone state h homes at small =
         count = length-set state.words slot (word_of order) ∙ h.count;
         orders = orders_posted slot posts order has known.0;
         last = words_posted words slot state.words posts order within h.count known.1;
-        views = fit_set (Fits h.publishes after) state.views id (Publisher after) (λ seat view apart e. others_fit h.publishes posts (post slot order) seat view (λ same. apart (same ∙ sym mine.0)) (known.2 seat view e)) (mine.0, refl);
+        views = fit_set (FitsPosts h.publishes after) state.views id (Publisher after) (λ seat view apart e. others_fit h.publishes posts (post slot order) seat view (λ same. apart (same ∙ sym mine.0)) (known.2 seat view e)) (mine.0, refl);
       },
       λ other others same. ap (λ (o : OrderParts). (Publisher (posts ++ post slot o ∷ []), [])) (sym (alone other others same)),
     )
 
 -- a load by a reader
 reads : (words slots slot id : ℕ) (seen : List OrderParts) → slot < words
-    → Allows (IsKept words) slots id (Reader slot seen, []) slot (λ n. n) (Reads (step slots slot 0 0 none) (Reader slot seen, []))
+    → Allows (IsKept words) slots id (Reader slot seen, []) slot (λ n. n) (ReadsSeat (step slots slot 0 0 none) (Reader slot seen, []))
 reads words slots slot id seen within state h homes at small =
     let same : slice_set state.words slot (slice_index state.words slot) ≡ state.words = set-get_or state.words slot 0 in (
       Reader slot (posts_of slot h.posts),
@@ -95,7 +95,7 @@ reads words slots slot id seen within state h homes at small =
         count = ap length same ∙ h.count;
         orders = h.orders;
         last = λ k below. ap (λ (l : List ℕ). slice_index l k) same ∙ h.last k below;
-        views = fit_set (Fits h.publishes h.posts) state.views id (Reader slot (posts_of slot h.posts)) (λ seat view apart e. h.views seat view e) (begins_whole (posts_of slot h.posts));
+        views = fit_set (FitsPosts h.publishes h.posts) state.views id (Reader slot (posts_of slot h.posts)) (λ seat view apart e. h.views seat view e) (begins_whole (posts_of slot h.posts));
       },
       record { seat = refl; later = h.views id (Reader slot seen) at; word = h.last slot within; order = h.orders slot },
     )
@@ -115,7 +115,7 @@ looks words slots slot id posts within state h homes at small =
         count = ap length same ∙ h.count;
         orders = h.orders;
         last = λ k below. ap (λ (l : List ℕ). slice_index l k) same ∙ h.last k below;
-        views = fit_set (Fits h.publishes h.posts) state.views id (Publisher posts) (λ seat view apart e. h.views seat view e) mine;
+        views = fit_set (FitsPosts h.publishes h.posts) state.views id (Publisher posts) (λ seat view apart e. h.views seat view e) mine;
       },
       record {
         seat = refl;
@@ -125,7 +125,7 @@ looks words slots slot id posts within state h homes at small =
     )
 
 -- a new seat, whose view fits wherever it stands
-splits : (words id : ℕ) (view new : View) → ((publishes : ℕ) (posts : List Post) (seat : ℕ) → Fits publishes posts seat new) → Splits (IsKept words) id view view new
+splits : (words id : ℕ) (view new : View) → ((publishes : ℕ) (posts : List Post) (seat : ℕ) → FitsPosts publishes posts seat new) → Splits (IsKept words) id view view new
 splits words id view new fits state h at =
     record {
       publishes = h.publishes;
@@ -134,7 +134,7 @@ splits words id view new fits state h at =
       orders = h.orders;
       last = h.last;
       views = λ seat w e. ⊎_elim (λ was. h.views seat w (subst (λ (l : List View). get_elem? l seat ≡ some w) (set_again state.views id view at) was))
-          (λ (same : new ≡ w). subst (Fits h.publishes h.posts seat) same (fits h.publishes h.posts seat)) (at_snoc (set state.views id view) new w seat e);
+          (λ (same : new ≡ w). subst (FitsPosts h.publishes h.posts seat) same (fits h.publishes h.posts seat)) (at_snoc (set state.views id view) new w seat e);
     }
 
 pub opens : (words id : ℕ) (view : View) → Splits (IsKept words) id view view Source
@@ -151,7 +151,7 @@ retires words id other view gone state h at apart there =
       count = h.count;
       orders = h.orders;
       last = h.last;
-      views = fit_set (Fits h.publishes h.posts) (set state.views id view) other Spent
+      views = fit_set (FitsPosts h.publishes h.posts) (set state.views id view) other Spent
           (λ seat w ne e. h.views seat w (subst (λ (l : List View). get_elem? l seat ≡ some w) (set_again state.views id view at) e)) tt;
     }
 
@@ -164,9 +164,9 @@ stores_at words slots slot id me posts order word is e within has alone =
     (λ j. (sym is j, sym e j)) (stores words slots slot id posts order within has (λ other h same. alone other h (same ∙ sym e)))
 
 pub reads_at : (words slots slot id : ℕ) (me : Seat) (seen : List OrderParts) → me ≡ (Reader slot seen, []) → slot < words
-    → Allows (IsKept words) slots id me slot (λ n. n) (Reads (step slots slot 0 0 none) me)
+    → Allows (IsKept words) slots id me slot (λ n. n) (ReadsSeat (step slots slot 0 0 none) me)
 reads_at words slots slot id me seen is within =
-    subst (λ (p : Seat). Allows (IsKept words) slots id p slot (λ n. n) (Reads (step slots slot 0 0 none) p)) (sym is) (reads words slots slot id seen within)
+    subst (λ (p : Seat). Allows (IsKept words) slots id p slot (λ n. n) (ReadsSeat (step slots slot 0 0 none) p)) (sym is) (reads words slots slot id seen within)
 
 pub looks_at : (words slots slot id : ℕ) (me : Seat) (posts : List Post) → me ≡ (Publisher posts, []) → slot < words
     → Allows (IsKept words) slots id me slot (λ n. n) (Looks (step slots slot 0 0 none) me)
@@ -197,6 +197,6 @@ begins count =
       views = one;
     }
   where
-    one : (seat : ℕ) (view : View) → get_elem? (Publisher [] ∷ []) seat ≡ some view → Fits 0 [] seat view
-    one zero view e = subst (Fits 0 [] 0) (some-injective _ _ e) (refl, refl)
+    one : (seat : ℕ) (view : View) → get_elem? (Publisher [] ∷ []) seat ≡ some view → FitsPosts 0 [] seat view
+    one zero view e = subst (FitsPosts 0 [] 0) (some-injective _ _ e) (refl, refl)
     one (suc seat) view e = absurd (some-ne-none view (sym e))

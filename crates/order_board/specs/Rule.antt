@@ -48,21 +48,21 @@ abbrev pub word_at : ℕ → List Post → ℕ
 word_at slot posts = word_of (latest (posts_of slot posts))
 
 -- a seat's view fits these posts: the one publisher knows them all in order, and a reader a beginning of its own slot's
-abbrev pub Fits : ℕ → List Post → ℕ → View → Type 0
-Fits publishes posts seat (Publisher known) = (seat ≡ publishes) × (known ≡ posts)
-Fits publishes posts seat Source = Unit {0}
-Fits publishes posts seat (Reader slot seen) = BeginsWith (posts_of slot posts) seen
-Fits publishes posts seat Spent = Unit {0}
+abbrev pub FitsPosts : ℕ → List Post → ℕ → View → Type 0
+FitsPosts publishes posts seat (Publisher known) = (seat ≡ publishes) × (known ≡ posts)
+FitsPosts publishes posts seat Source = Unit {0}
+FitsPosts publishes posts seat (Reader slot seen) = BeginsWith (posts_of slot posts) seen
+FitsPosts publishes posts seat Spent = Unit {0}
 
 -- The rule of so many words: there is a list of posts such that each slot's word is that of its last post, or 0, and each seat's
--- view fits
+-- view fits.
 pub record IsKept (words : ℕ) (state : Words) : Type 0 where
   pub publishes : ℕ
   pub posts : List Post
   pub count : length state.words ≡ words
   pub orders : (slot : ℕ) → HasWord (latest (posts_of slot posts))
   pub last : (slot : ℕ) → slot < words → slice_index state.words slot ≡ word_at slot posts
-  pub views : (seat : ℕ) (view : View) → get_elem? state.views seat ≡ some view → Fits publishes posts seat view
+  pub views : (seat : ℕ) (view : View) → get_elem? state.views seat ≡ some view → FitsPosts publishes posts seat view
 
 -- a store by the publisher: it has posted the order whose word is stored
 abbrev pub Stores : Step (Unit {0}) → Seat → ℕ → Seat → Type 0
@@ -71,7 +71,7 @@ Stores step old found new =
     → new ≡ (Publisher (posts_in old.0 ++ post step.word order ∷ []), [])
 
 -- a load by a reader: it has now seen all posts of its slot so far, and the word found is that of the last of them
-pub record Reads (step : Step (Unit {0})) (old : Seat) (found : ℕ) (new : Seat) : Type 0 where
+pub record ReadsSeat (step : Step (Unit {0})) (old : Seat) (found : ℕ) (new : Seat) : Type 0 where
   pub seat : new ≡ (Reader step.word (seen_in new.0), [])
   pub later : BeginsWith (seen_in new.0) (seen_in old.0)
   pub word : found ≡ word_of (latest (seen_in new.0))

@@ -31,9 +31,9 @@ impl Play<(), View> for Posting {
 pub struct Reading;
 
 impl Play<(), View> for Reading {
-    ghost use Rattle.order_board.specs.Rule.{Reads};
+    ghost use Rattle.order_board.specs.Rule.{ReadsSeat};
 
-    ghost then = { Reads };
+    ghost then = { ReadsSeat };
 }
 
 /// A load by the publisher.

@@ -1,7 +1,7 @@
 -- The marks of the workers that are live.
 use Rattle.std.proofs.Common.{◌≡◌, ℕ, ◌+◌, ◌<◌, eqb, Bool, true, false, not, List, [], ◌∷◌, ◌++◌, Some, None, is_some, length, map, get_or, set, length-set, replicate, take, refl, ap, sym, ◌∙◌, inl, inr, arith}
 use Rattle.std.specs.List.{cons_option, list_any, range_with_len}
-use Rattle.pool_settings.specs.Profile.{Profile}
+use Rattle.pool_settings.specs.Settings.{Settings}
 use Rattle.pool_settings.specs.Slots.{slot_named}
 use Rattle.plan_commands.specs.Problem.{are_workers, lost_slots}
 use Rattle.std.proofs.lemmas.Bool.{cases_eq, eq-eqb, ne_eqb}
@@ -57,7 +57,7 @@ none_lost n =
     get_or-replicate n k true false h ∙ sym (get_or-map-range_with_len (is_live_but []) 0 n k k false h (omega arith)))
 
 -- the names so far, and one more
-module _ (p : Profile) (names : List (List ℕ)) (i : ℕ) (within : i < length names) where
+module _ (p : Settings) (names : List (List ℕ)) (i : ℕ) (within : i < length names) where
   pub known_more : (s : ℕ) → slot_named p (get_or names i []) ≡ Some s → are_workers p (take i names) ≡ true → are_workers p (take (i + 1) names) ≡ true
   known_more s named so_far =
       ap (are_workers p) (take_more names i [] within)

@@ -3,7 +3,7 @@ use Rattle.std.proofs.Common.{◌≡◌, ◌≢◌, ℕ, Bool, List, [], Ok, Err
 use Rattle.devices.specs.Whole.{IsUntouched}
 use Rattle.gear_status.specs.Sides.{Input, Meets, Met}
 use Rattle.gear_status.proofs.Devices.{counted_nothing, told_nothing}
-use Rattle.pool_settings.specs.Profile.{Profile}
+use Rattle.pool_settings.specs.Settings.{Settings}
 use Rattle.pool_settings.specs.Reading.{reading}
 use Rattle.pool_settings.specs.declared.error.SettingsError.{SettingsError}
 use Rattle.pool_settings.specs.declared.error.SettingsError.TheVariants as settings
@@ -34,7 +34,7 @@ settings_refused text lost side settings.UnknownFunction due = (rw (due (λ p. c
 settings_refused text lost side settings.TooMany due = (rw (due (λ p. cc)) refl, (refl, refl, refl))
 
 -- a lost worker is unknown
-pub lost_refused : (text : List ℕ) (lost : List (List ℕ)) (side : Input) (p : Profile) (f : Fault) → reading text ≡ Ok p
+pub lost_refused : (text : List ℕ) (lost : List (List ℕ)) (side : Input) (p : Settings) (f : Fault) → reading text ≡ Ok p
     → (f ≢ fault.Memory → (f ≡ fault.UnknownWorker) × (are_workers p lost ≡ false))
     → Poses text lost (nothing_from side) (Err f)
 lost_refused text lost side p fault.Memory good due = inl (refl, refl, refl)

@@ -18,11 +18,11 @@ use Rattle.plan_commands.specs.declared.fault.Fault.{Fault}
 use Rattle.plan_commands.specs.declared.fault.Fault.TheVariants as fault
 use Rattle.plan_commands.specs.declared.problem.Problem.{Problem}
 
--- What a report is that tells this answer: it is shown and the text is its report, it is shown and the text is another, or it is not shown
+-- What a report is that tells this answer: it is shown and the text is its report, it is shown and the text is another, or it is not shown.
 abbrev pub Finds : Problem → List ℕ → Answer → Verdict → Type 0
-Finds p report answer verdict.Shown = Shown p.input answer × (report ≡ report_text p.settings p.input answer)
-Finds p report answer verdict.OtherText = Shown p.input answer × (report ≢ report_text p.settings p.input answer)
-Finds p report answer (verdict.NotShown reason) = IsFirstReason reason p.input answer
+Finds p given_text answer verdict.Shown = Shown p.input answer × (given_text ≡ report_text p.settings p.input answer)
+Finds p given_text answer verdict.OtherText = Shown p.input answer × (given_text ≢ report_text p.settings p.input answer)
+Finds p given_text answer (verdict.NotShown reason) = IsFirstReason reason p.input answer
 
 abbrev pub verdict_line : Verdict → List ℕ
 verdict_line verdict.Shown = codes "shown" ++ 10 ∷ []
@@ -37,10 +37,10 @@ verdict_status (verdict.NotShown reason) = 1
 
 -- what is found of a report, or why it is not read
 abbrev pub Judges : Problem → List ℕ → Result Verdict Fault → Type 0
-Judges p report (Ok found) = (answer : Answer) × (meaning p.settings report ≡ Ok answer) × Finds p report answer found
-Judges p report (Err (fault.Report e)) = meaning p.settings report ≡ Err e
-Judges p report (Err fault.Memory) = Unit {0}
-Judges p report (Err other) = ⊥
+Judges p given_text (Ok found) = (answer : Answer) × (meaning p.settings given_text ≡ Ok answer) × Finds p given_text answer found
+Judges p given_text (Err (fault.Report e)) = meaning p.settings given_text ≡ Err e
+Judges p given_text (Err fault.Memory) = Unit {0}
+Judges p given_text (Err other) = ⊥
 
 -- Where there is a problem: what is found of the report that was met, or the first fault of the source and of the report. Where there is
 -- none: the fault that it is not posed by, and nothing is read.

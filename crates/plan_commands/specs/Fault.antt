@@ -3,15 +3,15 @@ use Rattle.std.specs.Prelude.{ℕ, List, [], ◌++◌, codes, Option, None, Some
 use Rattle.std.specs.Fmt.{decimal}
 use Rattle.devices.specs.declared.error.InputError.{InputError}
 use Rattle.devices.specs.declared.error.InputError.TheVariants as input
-use Rattle.gear_status.specs.Refusal.{line_of as status_line, status_label}
+use Rattle.gear_status.specs.StatusRefusals.{status_line_of as status_line, status_label}
 use Rattle.gear_status.specs.declared.error.StatusError.{StatusError}
 use Rattle.gear_status.specs.declared.error.StatusError.TheVariants as status
-use Rattle.pool_report.specs.Refusal.{line_of as report_line, read_label}
+use Rattle.pool_report.specs.ReportRefusals.{report_line_of as report_line, read_label}
 use Rattle.pool_report.specs.declared.error.WriteError.{WriteError}
 use Rattle.pool_report.specs.declared.error.WriteError.TheVariants as write
 use Rattle.pool_report.specs.declared.error.ReadError.{ReadError}
 use Rattle.pool_report.specs.declared.error.ReadError.TheVariants as read
-use Rattle.pool_settings.specs.Refusal.{settings_label}
+use Rattle.pool_settings.specs.SettingsRefusals.{settings_label}
 use Rattle.pool_settings.specs.declared.error.SettingsError.{SettingsError}
 use Rattle.pool_settings.specs.declared.error.SettingsError.TheVariants as settings
 use Rattle.refusal.specs.Label.{label_words}
@@ -32,7 +32,7 @@ abbrev pub on_line : Option ℕ → List ℕ
 on_line (Some line) = codes " line " ++ decimal line
 on_line None = []
 
--- The fault as one line for a person and a script: a word for what is at fault, a number, a name, and the line
+-- The fault as one line for a person and a script: a word for what is at fault, a number, a name, and the line.
 abbrev pub fault_line : Fault → List ℕ
 fault_line (fault.Settings e) = codes "settings " ++ label_words (settings_label e)
 fault_line fault.UnknownWorker = codes "lost 1 UnknownWorker"

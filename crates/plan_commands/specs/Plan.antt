@@ -19,8 +19,8 @@ status_with (Planned plan backlog short) = 0
 status_with (NoPlan short) = 1
 
 -- The report of an answer is written that is shown for the problem, and so is best. Or memory is refused, and nothing is written.
-abbrev pub Reports : Problem → Output → Output → Exit → Type 0
-Reports p old new exit =
+abbrev pub WritesReport : Problem → Output → Output → Exit → Type 0
+WritesReport p old new exit =
     ((answer : Answer) × Shown p.input answer
     × Delivers (report_text p.settings p.input answer) (answered (status_with answer)) old new exit)
     ⊎ Stops Memory old new exit
@@ -28,6 +28,6 @@ Reports p old new exit =
 -- Settings, lost workers and status text pose a problem, and a best answer to it is reported. Or they pose none, by a fault, and nothing
 -- is written.
 abbrev pub Plans : List ℕ → List (List ℕ) → Met → Output → Output → Exit → Type 0
-Plans settings lost met old new exit =
-    ((posed : Problem) × Poses settings lost met (Ok posed) × Reports posed old new exit)
-    ⊎ ((fault : Fault) × Poses settings lost met (Err fault) × Stops fault old new exit)
+Plans settings_text lost met old new exit =
+    ((posed : Problem) × Poses settings_text lost met (Ok posed) × WritesReport posed old new exit)
+    ⊎ ((fault : Fault) × Poses settings_text lost met (Err fault) × Stops fault old new exit)

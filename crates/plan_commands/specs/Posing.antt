@@ -5,7 +5,7 @@ use Rattle.gear_status.specs.Sides.{GaveUp, Met, Undisturbed}
 use Rattle.gear_status.specs.Status.{Line, status}
 use Rattle.gear_status.specs.Stream.{EndsWithPiece}
 use Rattle.gear_status.specs.declared.error.StatusError.TheVariants.{Truncated}
-use Rattle.pool_settings.specs.Profile.{Profile}
+use Rattle.pool_settings.specs.Settings.{Settings}
 use Rattle.pool_settings.specs.Reading.{reading}
 use Rattle.plan_commands.specs.Problem.{are_workers, load_within, problem}
 use Rattle.plan_commands.specs.declared.fault.Fault.{Fault}
@@ -18,11 +18,11 @@ IsDue due result = (result ≡ due) ⊎ (result ≡ Err fault.Memory)
 
 -- The settings mean something.
 abbrev pub HaveMeaning : List ℕ → Type 0
-HaveMeaning settings = (p : Profile) × (reading settings ≡ Ok p)
+HaveMeaning settings_text = (settings : Settings) × (reading settings_text ≡ Ok settings)
 
 -- The settings mean something, and each lost worker is one of theirs.
 abbrev pub AreRight : List ℕ → List (List ℕ) → Type 0
-AreRight settings lost = (p : Profile) × (reading settings ≡ Ok p) × (are_workers p lost ≡ true)
+AreRight settings_text lost = (settings : Settings) × (reading settings_text ≡ Ok settings) × (are_workers settings lost ≡ true)
 
 -- The source failed, or lulled for the 65th time, before its bytes decided anything.
 abbrev pub IsReadFault : Met → Type 0
@@ -33,7 +33,7 @@ abbrev pub IsDecided : Met → Type 0
 IsDecided met = EndsWithPiece met × (length met.bytes ≤ limit) × Undisturbed met
 
 -- How far a source was read before a fault. For one of the status text: up to the end for a text that is cut off, one byte above the
--- limit for one that is too long, and else up to the piece that decides. For one of settings or lost workers: not at all
+-- limit for one that is too long, and else up to the piece that decides. For one of settings or lost workers: not at all.
 abbrev pub ReadsTo : Fault → Met → Type 0
 ReadsTo (fault.Status Truncated) met = (met.has_ended ≡ true) × (length met.bytes ≤ limit) × Undisturbed met
 ReadsTo (fault.Status e) met = IsDecided met
@@ -41,18 +41,18 @@ ReadsTo fault.TooLong met = (length met.bytes ≡ limit + 1) × Undisturbed met
 ReadsTo f met = IsUntouched met
 
 -- the load of what was met, or why there is none; where memory is refused, nothing before the last piece decided
-abbrev pub Loads : Met → Result (List Line) Fault → Type 0
-Loads met (Ok load) = (load_within met.bytes ≡ Ok load) × IsDecided met
-Loads met (Err fault.Memory) = IsDecided met
-Loads met (Err fault.ReadFault) = IsReadFault met
-Loads met (Err fault.WriteFault) = ⊥
-Loads met (Err f) = (load_within met.bytes ≡ Err f) × ReadsTo f met
+abbrev pub GivesLoad : Met → Result (List Line) Fault → Type 0
+GivesLoad met (Ok load) = (load_within met.bytes ≡ Ok load) × IsDecided met
+GivesLoad met (Err fault.Memory) = IsDecided met
+GivesLoad met (Err fault.ReadFault) = IsReadFault met
+GivesLoad met (Err fault.WriteFault) = ⊥
+GivesLoad met (Err f) = (load_within met.bytes ≡ Err f) × ReadsTo f met
 
 -- the problem that settings, lost workers and what was met at the source of the status text pose, or why there is none; where memory is
 -- refused, nothing was read, or nothing before the last piece decided
 abbrev pub Poses : List ℕ → List (List ℕ) → Met → Result Problem Fault → Type 0
-Poses settings lost met (Ok posed) = (problem settings lost (load_within met.bytes) ≡ Ok posed) × IsDecided met
-Poses settings lost met (Err fault.Memory) = IsUntouched met ⊎ IsDecided met
-Poses settings lost met (Err fault.ReadFault) = AreRight settings lost × IsReadFault met
-Poses settings lost met (Err fault.WriteFault) = ⊥
-Poses settings lost met (Err f) = (problem settings lost (load_within met.bytes) ≡ Err f) × ReadsTo f met
+Poses settings_text lost met (Ok posed) = (problem settings_text lost (load_within met.bytes) ≡ Ok posed) × IsDecided met
+Poses settings_text lost met (Err fault.Memory) = IsUntouched met ⊎ IsDecided met
+Poses settings_text lost met (Err fault.ReadFault) = AreRight settings_text lost × IsReadFault met
+Poses settings_text lost met (Err fault.WriteFault) = ⊥
+Poses settings_text lost met (Err f) = (problem settings_text lost (load_within met.bytes) ≡ Err f) × ReadsTo f met

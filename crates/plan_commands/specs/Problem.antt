@@ -6,7 +6,7 @@ use Rattle.gear_status.specs.Status.{Line, status}
 use Rattle.gear_status.specs.declared.error.StatusError.{StatusError}
 use Rattle.gear_status.specs.declared.error.StatusError.TheVariants.{Truncated}
 use Rattle.pool_settings.specs.Planning.{instance_of, waiting_of}
-use Rattle.pool_settings.specs.Profile.{Profile}
+use Rattle.pool_settings.specs.Settings.{Settings}
 use Rattle.pool_settings.specs.Reading.{reading}
 use Rattle.pool_settings.specs.Slots.{slot_named, slots}
 use Rattle.plan_commands.specs.Fault.{settings_fault, status_fault}
@@ -15,40 +15,41 @@ use Rattle.plan_commands.specs.declared.fault.Fault.TheVariants as fault
 use Rattle.plan_commands.specs.declared.problem.Problem.{Problem}
 
 -- each lost worker is one of the settings
-abbrev pub are_workers : Profile → List (List ℕ) → Bool
-are_workers p lost = list_all (λ name. is_some (slot_named p name)) lost
+abbrev pub are_workers : Settings → List (List ℕ) → Bool
+are_workers settings lost = list_all (λ name. is_some (slot_named settings name)) lost
 
-abbrev pub lost_slots : Profile → List (List ℕ) → List ℕ
-lost_slots p lost = filter_map (slot_named p) lost
+abbrev pub lost_slots : Settings → List (List ℕ) → List ℕ
+lost_slots settings lost = filter_map (slot_named settings) lost
 
 -- by slot, whether its worker is live: all are but the lost ones
-abbrev pub live_marks : Profile → List (List ℕ) → List Bool
-live_marks p lost = map (λ slot. not (list_any (λ l. l == slot) (lost_slots p lost))) (range_with_len 0 (slots p))
+abbrev pub live_marks : Settings → List (List ℕ) → List Bool
+live_marks settings lost = map (λ slot. not (list_any (λ l. l == slot) (lost_slots settings lost))) (range_with_len 0 (slots settings))
 
-abbrev pub problem_of : Profile → List (List ℕ) → List Line → Problem
-problem_of p lost load = record { settings = p; input = instance_of p (live_marks p lost) (waiting_of p load) }
+abbrev pub problem_of : Settings → List (List ℕ) → List Line → Problem
+problem_of settings lost load =
+    record { settings = settings; input = instance_of settings (live_marks settings lost) (waiting_of settings load) }
 
 -- a value, or the fault that stands for its error
-abbrev pub told : {A E : Type 0} → (E → Fault) → Result A E → Result A Fault
-told fault_of (Ok value) = Ok value
-told fault_of (Err error) = Err (fault_of error)
+abbrev pub or_fault : {A E : Type 0} → (E → Fault) → Result A E → Result A Fault
+or_fault fault_of (Ok value) = Ok value
+or_fault fault_of (Err error) = Err (fault_of error)
 
 abbrev pub then_on : {A B : Type 0} → Result A Fault → (A → Result B Fault) → Result B Fault
 then_on (Ok value) next = next value
 then_on (Err f) next = Err f
 
-abbrev pub problem_with : List (List ℕ) → Result (List Line) Fault → Profile → Result Problem Fault
-problem_with lost load p =
-    if are_workers p lost then then_on load (λ lines. Ok (problem_of p lost lines)) else Err fault.UnknownWorker
+abbrev pub problem_with : List (List ℕ) → Result (List Line) Fault → Settings → Result Problem Fault
+problem_with lost load settings =
+    if are_workers settings lost then then_on load (λ lines. Ok (problem_of settings lost lines)) else Err fault.UnknownWorker
 
 -- The problem that settings, lost workers and a load pose, or the first fault: the settings are looked at first, then the lost workers
 -- and then the load.
 abbrev pub problem : List ℕ → List (List ℕ) → Result (List Line) Fault → Result Problem Fault
-problem settings lost load = then_on (told settings_fault (reading settings)) (problem_with lost load)
+problem settings_text lost load = then_on (or_fault settings_fault (reading settings_text)) (problem_with lost load)
 
 -- the load of a status text that is there whole
 abbrev pub load_of : List ℕ → Result (List Line) Fault
-load_of text = told status_fault (status text)
+load_of text = or_fault status_fault (status text)
 
 -- a text that is undecided at the limit is too long
 abbrev pub cut_fault : StatusError → Fault
@@ -58,4 +59,4 @@ cut_fault other = status_fault other
 -- the load of the bytes that a device gave, of which no more than the limit are looked at
 abbrev pub load_within : List ℕ → Result (List Line) Fault
 load_within bytes =
-    if nat_le (length bytes) limit then load_of bytes else told cut_fault (status (take limit bytes))
+    if nat_le (length bytes) limit then load_of bytes else or_fault cut_fault (status (take limit bytes))

@@ -46,27 +46,27 @@ fn is_report(
     alloc: Global,
     problem: &Problem,
     answer: &Answer,
-    report: &[u8],
+    given_text: &[u8],
 ) -> Result<bool, AllocError>
     requires of_these { problem.now.input.may ≡ problem.now.settings.may }
     requires shown { Shown problem.now.input answer.now }
     ensures { IfOk result (λ same.
-        IsTrue same ↔ (report.now ≡ answered.report_text problem.now.settings problem.now.input answer.now)) }
+        IsTrue same ↔ (given_text.now ≡ answered.report_text problem.now.settings problem.now.input answer.now)) }
 {
     let text = report_text(alloc, &problem.settings, &problem.input, answer)?;
-    Ok(report == text.as_bytes())
+    Ok(given_text == text.as_bytes())
 }
 
 /// What the report is found to be, for this problem.
-fn judge(alloc: Global, problem: &Problem, report: &[u8]) -> Result<Verdict, Fault>
+fn judge(alloc: Global, problem: &Problem, given_text: &[u8]) -> Result<Verdict, Fault>
     requires { problem.now.input.may ≡ problem.now.settings.may }
-    ensures { spec.Judges problem.now report.now result }
+    ensures { spec.Judges problem.now given_text.now result }
 {
-    let answer = read(alloc, &problem.settings, report)?;
+    let answer = read(alloc, &problem.settings, given_text)?;
     if let Err(reason) = check(&problem.input, &answer) {
         return Ok(Verdict::NotShown(reason));
     }
-    if is_report(alloc, problem, &answer, report)? {
+    if is_report(alloc, problem, &answer, given_text)? {
         Ok(Verdict::Shown)
     } else {
         Ok(Verdict::OtherText)
@@ -104,16 +104,16 @@ fn pronounce<S: Sink>(alloc: Global, verdict: Verdict, sink: &mut S) -> Exit
 /// lost workers, the status text, the source and the report.
 fn examine<R: Source>(
     alloc: Global,
-    settings: &[u8],
-    status: &[u8],
+    settings_text: &[u8],
+    status_text: &[u8],
     lost: &[&str],
     source: &mut R,
 ) -> Result<Verdict, Fault>
     requires { (R.input source.old).failures < 2 ^ 64 - 1 }
     ensures { (met : Met) × Meets (R.input source.old) met (R.input source.new)
-        × spec.Examines (problem settings.now (map (λ w. w.now) lost.now) (load_of status.now)) met result }
+        × spec.Examines (problem settings_text.now (map (λ w. w.now) lost.now) (load_of status_text.now)) met result }
 {
-    let problem = pose_text(alloc, settings, lost, status)?;
+    let problem = pose_text(alloc, settings_text, lost, status_text)?;
     let report = read_whole(alloc, source)?;
     judge(alloc, &problem, &report)
 }
@@ -131,8 +131,8 @@ fn examine<R: Source>(
 /// written and not all of it, and after any other fault nothing.
 pub fn check_text<R: Source, S: Sink>(
     alloc: Global,
-    settings: &[u8],
-    status: &[u8],
+    settings_text: &[u8],
+    status_text: &[u8],
     lost: &[&str],
     source: &mut R,
     sink: &mut S,
@@ -140,10 +140,10 @@ pub fn check_text<R: Source, S: Sink>(
     requires source { (R.input source.old).failures < 2 ^ 64 - 1 }
     requires sink { (S.output sink.old).failures < 2 ^ 64 - 1 }
     ensures checks { (met : Met) × Meets (R.input source.old) met (R.input source.new)
-        × spec.Checks (problem settings.now (map (λ w. w.now) lost.now) (load_of status.now)) met
+        × spec.Checks (problem settings_text.now (map (λ w. w.now) lost.now) (load_of status_text.now)) met
         (S.output sink.old) (S.output sink.new) result }
 {
-    match examine(alloc, settings, status, lost, source) {
+    match examine(alloc, settings_text, status_text, lost, source) {
         Ok(verdict) => pronounce(alloc, verdict, sink),
         Err(fault) => Exit::refused(fault),
     }

@@ -3,7 +3,7 @@
 ghost use Rattle.std.specs.Prelude.{◌≡◌, ◌-◌, ◌^◌, ◌<◌, IfOk, map};
 ghost use Rattle.gear_status.specs.Sides.{Meets, Met};
 ghost use Rattle.plan_model.specs.Shown.{Shown};
-ghost use Rattle.plan_commands.specs.Plan.{Plans, Reports, status_with};
+ghost use Rattle.plan_commands.specs.Plan.{Plans, WritesReport, status_with};
 
 use crate::ending::Exit;
 use crate::fault::Fault;
@@ -38,7 +38,7 @@ fn status_with(answer: &Answer) -> u8
 fn report<S: Sink>(alloc: Global, problem: &Problem, sink: &mut S) -> Exit
     requires of_these { problem.now.input.may ≡ problem.now.settings.may }
     requires count { (S.output sink.old).failures < 2 ^ 64 - 1 }
-    ensures reports { Reports problem.now (S.output sink.old) (S.output sink.new) result }
+    ensures reports { WritesReport problem.now (S.output sink.old) (S.output sink.new) result }
 {
     let answer = match answer_of(alloc, problem) {
         Ok(answer) => answer,
@@ -63,7 +63,7 @@ fn report<S: Sink>(alloc: Global, problem: &Problem, sink: &mut S) -> Exit
 /// where the sink failed, a front of it was written and not all of it, and after any other fault nothing.
 pub fn plan_text<R: Source, S: Sink>(
     alloc: Global,
-    settings: &[u8],
+    settings_text: &[u8],
     lost: &[&str],
     source: &mut R,
     sink: &mut S,
@@ -71,9 +71,9 @@ pub fn plan_text<R: Source, S: Sink>(
     requires source { (R.input source.old).failures < 2 ^ 64 - 1 }
     requires sink { (S.output sink.old).failures < 2 ^ 64 - 1 }
     ensures plans { (met : Met) × Meets (R.input source.old) met (R.input source.new)
-        × Plans settings.now (map (λ w. w.now) lost.now) met (S.output sink.old) (S.output sink.new) result }
+        × Plans settings_text.now (map (λ w. w.now) lost.now) met (S.output sink.old) (S.output sink.new) result }
 {
-    match pose(alloc, settings, lost, source) {
+    match pose(alloc, settings_text, lost, source) {
         Ok(problem) => report(alloc, &problem, sink),
         Err(fault) => Exit::refused(fault),
     }

@@ -3,7 +3,7 @@
 ghost use Rattle.std.specs.Prelude.{◌≡◌, ◌≢◌, ◌-◌, ◌^◌, ◌<◌, IfErr, IfOk, false, map, true};
 ghost use Rattle.gear_status.specs.Sides.{Meets, Met};
 ghost use Rattle.pool_settings.specs.Planning.{instance_of, waiting_of};
-ghost use Rattle.plan_commands.specs.Posing.{IsDue, Loads, Poses};
+ghost use Rattle.plan_commands.specs.Posing.{IsDue, GivesLoad, Poses};
 ghost use Rattle.plan_commands.specs.Problem as spec;
 
 use crate::fault::Fault;
@@ -52,7 +52,7 @@ fn waiting_of(alloc: Global, settings: &Settings, load: &Load) -> Result<Vec<u32
 /// Reads a status text of no more than `LIMIT` bytes, up to the piece that decides.
 fn read_load<S: Source>(alloc: Global, source: &mut S) -> Result<Load, Fault>
     requires { (S.input source.old).failures < 2 ^ 64 - 1 }
-    ensures { (met : Met) × Meets (S.input source.old) met (S.input source.new) × Loads met result }
+    ensures { (met : Met) × Meets (S.input source.old) met (S.input source.new) × GivesLoad met result }
 {
     match read_status_within(alloc, source, LIMIT) {
         Ok(Some(load)) => Ok(load),
@@ -77,16 +77,16 @@ fn input_of(
 /// looked for in this order, and the source is read only where the first two are right.
 pub fn pose<S: Source>(
     alloc: Global,
-    settings: &[u8],
+    settings_text: &[u8],
     lost: &[&str],
     source: &mut S,
 ) -> Result<Problem, Fault>
     requires count { (S.input source.old).failures < 2 ^ 64 - 1 }
     ensures posed { (met : Met) × Meets (S.input source.old) met (S.input source.new)
-        × Poses settings.now (map (λ w. w.now) lost.now) met result }
+        × Poses settings_text.now (map (λ w. w.now) lost.now) met result }
     ensures of_these { IfOk result (λ p. p.input.may ≡ p.settings.may) }
 {
-    let settings = Settings::read(alloc, settings)?;
+    let settings = Settings::read(alloc, settings_text)?;
     let live = live_marks(alloc, &settings, lost)?;
     let load = read_load(alloc, source)?;
     let input = input_of(alloc, &settings, &live, &load)?;
@@ -97,16 +97,16 @@ pub fn pose<S: Source>(
 /// are looked for in this order.
 pub fn pose_text(
     alloc: Global,
-    settings: &[u8],
+    settings_text: &[u8],
     lost: &[&str],
-    status: &[u8],
+    status_text: &[u8],
 ) -> Result<Problem, Fault>
-    ensures posed { IsDue (spec.problem settings.now (map (λ w. w.now) lost.now) (spec.load_of status.now)) result }
+    ensures posed { IsDue (spec.problem settings_text.now (map (λ w. w.now) lost.now) (spec.load_of status_text.now)) result }
     ensures of_these { IfOk result (λ p. p.input.may ≡ p.settings.may) }
 {
-    let settings = Settings::read(alloc, settings)?;
+    let settings = Settings::read(alloc, settings_text)?;
     let live = live_marks(alloc, &settings, lost)?;
-    let load = load_of(alloc, status)?;
+    let load = load_of(alloc, status_text)?;
     let input = input_of(alloc, &settings, &live, &load)?;
     Ok(Problem { settings, input })
 }

@@ -1,3 +1,5 @@
+//! The limits of planning problems.
+
 /// An input has no more live workers than this, and each slot is below it: a plan gives a slot to each worker.
 pub const MAX_WORKERS: usize = 4096;
 

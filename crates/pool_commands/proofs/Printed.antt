@@ -7,7 +7,7 @@ use Rattle.std.proofs.lemmas.Bool.{and_parts}
 use Rattle.std.proofs.lemmas.Bool.Decides.{nat_tests}
 use Rattle.std.proofs.lemmas.List.Elements.{All-get_or}
 use Rattle.pool_settings.specs.Names.{is_machine_name, is_machine_name_byte, name_at}
-use Rattle.pool_settings.specs.Profile.{IsProfile, Profile}
+use Rattle.pool_settings.specs.Settings.{AreSettings, Settings}
 use Rattle.pool_settings.specs.Slots.{machine_of, slots, worker_name, worker_number}
 use Rattle.pool_settings.proofs.SlotSums.{machine_found, sum-room}
 use Rattle.pool_settings.proofs.WorkerNames.{named}
@@ -24,7 +24,7 @@ generation_read n from to =
     rw (number_decimal (2 ^ 32) n (omega arith) (omega arith), at_least, at_most) refl
 
 -- the name of a slot's worker has no hash sign
-hashless_worker : (p : Profile) → IsProfile p → (slot : ℕ) → slot < slots p → has_byte 35 (worker_name p slot) ≡ false
+hashless_worker : (p : Settings) → AreSettings p → (slot : ℕ) → slot < slots p → has_byte 35 (worker_name p slot) ≡ false
 hashless_worker p valid slot below =
     let m = machine_of p slot in
     let at = machine_found p slot m valid below refl in

@@ -1,7 +1,7 @@
 -- What is printed of a worker and of a cause is read as that worker and that cause.
 use Rattle.std.specs.Prelude.{◌≡◌, ℕ, ◌<◌, ◌≤◌, List, ◌∷◌, ◌++◌, Some}
 use Rattle.std.specs.Fmt.{decimal}
-use Rattle.pool_settings.specs.Profile.{IsProfile, Profile}
+use Rattle.pool_settings.specs.Settings.{AreSettings, Settings}
 use Rattle.pool_settings.specs.Slots.{slots, worker_name}
 use Rattle.worker_state.specs.Causes.{cause_label, cause_named}
 use Rattle.worker_state.specs.Limits.{max_generation}
@@ -9,12 +9,13 @@ use Rattle.worker_state.specs.declared.cause.Cause.{Cause}
 use Rattle.pool_commands.specs.Words.{worker_in}
 
 -- the name of the slot, a hash sign and the generation in decimal
-abbrev pub worker_text : Profile → ℕ → ℕ → List ℕ
-worker_text p slot generation = worker_name p slot ++ 35 ∷ decimal generation
+abbrev pub worker_text : Settings → ℕ → ℕ → List ℕ
+worker_text settings slot generation = worker_name settings slot ++ 35 ∷ decimal generation
 
 abbrev pub AreWorkersReadBack : Type 0
-AreWorkersReadBack = (p : Profile) → IsProfile p → (slot generation : ℕ) → slot < slots p → 1 ≤ generation → generation ≤ max_generation
-    → worker_in p (worker_text p slot generation) ≡ Some (record { slot = slot; generation = generation })
+AreWorkersReadBack = (settings : Settings) → AreSettings settings → (slot generation : ℕ) → slot < slots settings → 1 ≤ generation
+    → generation ≤ max_generation
+    → worker_in settings (worker_text settings slot generation) ≡ Some (record { slot = slot; generation = generation })
 
 abbrev pub AreCausesReadBack : Type 0
 AreCausesReadBack = (cause : Cause) → cause_named (cause_label cause).name ≡ Some cause

@@ -5,8 +5,8 @@ use Rattle.std.specs.Option.{option_and_then, option_map_or}
 use Rattle.std.specs.Str.{bytes_eq}
 use Rattle.text_pieces.specs.Cuts.{cut_first}
 use Rattle.text_pieces.specs.Numbers.{number_below}
-use Rattle.gear_packets.specs.Refusal.{handle_refusal}
-use Rattle.pool_settings.specs.Profile.{Profile}
+use Rattle.gear_packets.specs.PacketRefusals.{handle_refusal}
+use Rattle.pool_settings.specs.Settings.{Settings}
 use Rattle.pool_settings.specs.Slots.{slot_named}
 use Rattle.worker_state.specs.Limits.{max_generation}
 use Rattle.worker_state.specs.declared.job.EndKind.{EndKind}
@@ -45,13 +45,13 @@ generation_in digits = option_and_then generation_of (number_below (2 ^ 32) digi
 
 -- ---- workers: the slot's name, a hash sign and the generation
 
-abbrev pub worker_of : Profile → List ℕ × List ℕ → Option WorkerName
-worker_of p parts =
+abbrev pub worker_of : Settings → List ℕ × List ℕ → Option WorkerName
+worker_of settings parts =
     option_and_then (λ slot. option_map (λ number. record { slot = slot; generation = number }) (generation_in parts.1))
-    (slot_named p parts.0)
+    (slot_named settings parts.0)
 
-abbrev pub worker_in : Profile → List ℕ → Option WorkerName
-worker_in p text = option_and_then (worker_of p) (cut_first 35 text)
+abbrev pub worker_in : Settings → List ℕ → Option WorkerName
+worker_in settings text = option_and_then (worker_of settings) (cut_first 35 text)
 
 -- ---- handles and ends
 

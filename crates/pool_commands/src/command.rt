@@ -1,3 +1,5 @@
+//! Commands, and the words that they hold.
+
 ghost use Rattle.std.specs.Prelude.{◌≡◌, IfOk};
 
 use gear_packets::Handle;

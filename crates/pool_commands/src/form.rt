@@ -1,8 +1,8 @@
-// The forms that have a fixed number of words, by the words behind the first.
+//! The forms that have a fixed number of words, by the words behind the first.
 
 ghost use Rattle.std.specs.Prelude.{◌≡◌, IfOk, IfSome, map};
 ghost use Rattle.pool_commands.specs.Grammar as grammar;
-ghost use Rattle.pool_commands.specs.Grammar.{IsWithin};
+ghost use Rattle.pool_commands.specs.Grammar.{IsCommandWithin};
 ghost use Rattle.pool_settings.specs.Slots.{slots};
 
 use crate::command::{Command, Word};
@@ -20,7 +20,7 @@ fn alone(command: Command, args: &[&[u8]]) -> Option<Command>
 
 fn join_in(settings: &Settings, args: &[&[u8]]) -> Option<Command>
     ensures all { result ≡ grammar.join_in settings.now (map (λ w. w.now) args.now) }
-    ensures within { IfSome result (IsWithin (slots settings.now)) }
+    ensures within { IfSome result (IsCommandWithin (slots settings.now)) }
 {
     match args {
         [slot] => {
@@ -33,7 +33,7 @@ fn join_in(settings: &Settings, args: &[&[u8]]) -> Option<Command>
 
 fn order_in(settings: &Settings, args: &[&[u8]]) -> Option<Command>
     ensures all { result ≡ grammar.order_in settings.now (map (λ w. w.now) args.now) }
-    ensures within { IfSome result (IsWithin (slots settings.now)) }
+    ensures within { IfSome result (IsCommandWithin (slots settings.now)) }
 {
     match args {
         [slot] => {
@@ -63,7 +63,7 @@ fn grab_in(
     args: &[&[u8]],
 ) -> Result<Option<Command>, AllocError>
     ensures all { IfOk result (λ c. c ≡ grammar.grab_in settings.now (map (λ w. w.now) args.now)) }
-    ensures within { IfOk result (λ c. IfSome c (IsWithin (slots settings.now))) }
+    ensures within { IfOk result (λ c. IfSome c (IsCommandWithin (slots settings.now))) }
 {
     match args {
         [worker, handle, function, now] => {
@@ -91,7 +91,7 @@ fn grab_in(
 #[tactic(auto, using(crate::proofs::Forms::no_begin))]
 fn begin_in(settings: &Settings, args: &[&[u8]]) -> Option<Command>
     ensures all { result ≡ grammar.begin_in settings.now (map (λ w. w.now) args.now) }
-    ensures within { IfSome result (IsWithin (slots settings.now)) }
+    ensures within { IfSome result (IsCommandWithin (slots settings.now)) }
 {
     match args {
         [worker, ticket] => {
@@ -106,7 +106,7 @@ fn begin_in(settings: &Settings, args: &[&[u8]]) -> Option<Command>
 #[tactic(auto, using(crate::proofs::Forms::no_report))]
 fn report_in(settings: &Settings, args: &[&[u8]]) -> Option<Command>
     ensures all { result ≡ grammar.report_in settings.now (map (λ w. w.now) args.now) }
-    ensures within { IfSome result (IsWithin (slots settings.now)) }
+    ensures within { IfSome result (IsCommandWithin (slots settings.now)) }
 {
     match args {
         [worker, ticket, end] => {
@@ -125,7 +125,7 @@ fn report_in(settings: &Settings, args: &[&[u8]]) -> Option<Command>
 
 fn lose_in(settings: &Settings, args: &[&[u8]]) -> Option<Command>
     ensures all { result ≡ grammar.lose_in settings.now (map (λ w. w.now) args.now) }
-    ensures within { IfSome result (IsWithin (slots settings.now)) }
+    ensures within { IfSome result (IsCommandWithin (slots settings.now)) }
 {
     match args {
         [worker, cause] => {
@@ -140,7 +140,7 @@ fn lose_in(settings: &Settings, args: &[&[u8]]) -> Option<Command>
 #[tactic(auto, using(crate::proofs::Forms::no_expire))]
 fn expire_in(settings: &Settings, args: &[&[u8]]) -> Option<Command>
     ensures all { result ≡ grammar.expire_in settings.now (map (λ w. w.now) args.now) }
-    ensures within { IfSome result (IsWithin (slots settings.now)) }
+    ensures within { IfSome result (IsCommandWithin (slots settings.now)) }
 {
     match args {
         [worker, now] => {
@@ -160,7 +160,7 @@ pub fn fixed_form(
     args: &[&[u8]],
 ) -> Result<Option<Command>, AllocError>
     ensures all { IfOk result (λ c. c ≡ grammar.fixed_form settings.now verb.now (map (λ w. w.now) args.now)) }
-    ensures within { IfOk result (λ c. IfSome c (IsWithin (slots settings.now))) }
+    ensures within { IfOk result (λ c. IfSome c (IsCommandWithin (slots settings.now))) }
 {
     if verb == b"join".as_slice() {
         Ok(join_in(settings, args))

@@ -1,4 +1,4 @@
-// Laws of the command lines, as functions that do nothing when they run.
+//! Laws of the command lines, as functions that do nothing when they run.
 
 ghost use Rattle.pool_commands.specs.Law.{AreCausesReadBack, AreWorkersReadBack};
 

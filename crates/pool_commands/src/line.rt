@@ -1,9 +1,9 @@
-// The command of a line.
+//! The command of a line.
 
 ghost use Rattle.std.specs.Prelude.{◌≡◌, ◌∷◌, ◌<◌, [], List, IfOk, IfSome, MatchOption, None, length, map, option_map, take};
 ghost use Rattle.gear_status.specs.Status.{Line, put};
 ghost use Rattle.pool_commands.specs.Grammar as grammar;
-ghost use Rattle.pool_commands.specs.Grammar.{IsWithin};
+ghost use Rattle.pool_commands.specs.Grammar.{IsCommandWithin};
 ghost use Rattle.pool_commands.specs.Words as spec;
 ghost use Rattle.pool_settings.specs.Slots.{slots};
 
@@ -108,7 +108,7 @@ pub fn command_in(
     line: &[u8],
 ) -> Result<Option<Command>, AllocError>
     ensures all { IfOk result (λ c. c ≡ grammar.command_in settings.now line.now) }
-    ensures within { IfOk result (λ c. IfSome c (IsWithin (slots settings.now))) }
+    ensures within { IfOk result (λ c. IfSome c (IsCommandWithin (slots settings.now))) }
 {
     let (verb, rest) = cut_word(line);
     if verb == b"load".as_slice() {

@@ -1,4 +1,4 @@
-// What a single word of a command line says.
+//! What a single word of a command line says.
 
 ghost use Rattle.std.specs.Prelude.{◌≡◌, ◌<◌, IfSome};
 ghost use Rattle.pool_commands.specs.Words as spec;

@@ -6,7 +6,7 @@ use Rattle.std.proofs.lemmas.List.Sums.{sum_by-cons}
 use Rattle.std.proofs.lemmas.Grind.{get_or-set_at}
 use Rattle.std.proofs.lemmas.Bool.{eqb-true, eq-eqb, false≢true}
 use Rattle.std.proofs.lemmas.Bool.Decides.{nat_tests}
-use Rattle.pool_settings.specs.Profile.{Profile, IsProfile}
+use Rattle.pool_settings.specs.Settings.{Settings, AreSettings}
 use Rattle.plan_model.specs.declared.answer.Answer.TheVariants as answers
 use Rattle.worker_state.specs.declared.slot.WorkerName.{WorkerName}
 use Rattle.worker_state.specs.declared.cause.Cause.{Cause}
@@ -17,7 +17,7 @@ use Rattle.pool_core.specs.declared.event.Job.{Job}
 use Rattle.pool_core.specs.declared.event.Event.{Event}
 use Rattle.pool_core.specs.declared.event.Event.TheVariants as event
 use Rattle.pool_core.specs.Machine.{State, first, standing_in, replay, IsHistory, IsPossible, after, with_lost, open_ticket}
-use Rattle.pool_core.specs.Kept.{IsSound, IsOpen}
+use Rattle.pool_core.specs.Kept.{IsSoundState, IsOpenTicket}
 use Rattle.pool_core.specs.Laws.{job_of, grabbed_jobs, is_report_of, times_reported, JobsAreBookedOnce}
 use Rattle.pool_core.proofs.Tables.{standing_given}
 use Rattle.pool_core.proofs.Sound.{sound_after}
@@ -88,7 +88,7 @@ times_once standings j x y k here not_x is_y = by (j == k) refl
         let same = ap times_reported (standing_other standings j y k t.0 (λ f. false≢true (sym e ∙ eq-eqb j k (sym f)))) in
         omega (arith, same)
 
-lost_same : (standings : List Standing) (o : Option ℕ) (w : WorkerName) (cause : Cause) → ((k : ℕ) → o ≡ Some k → IsOpen standings k) → (k : ℕ)
+lost_same : (standings : List Standing) (o : Option ℕ) (w : WorkerName) (cause : Cause) → ((k : ℕ) → o ≡ Some k → IsOpenTicket standings k) → (k : ℕ)
     → times_reported (standing_in (with_lost standings o w cause) k) ≡ times_reported (standing_in standings k)
 lost_same standings None w cause h k = refl
 lost_same standings (Some j) w cause h k =
@@ -96,39 +96,39 @@ lost_same standings (Some j) w cause h k =
     let x = get_or standings (j - 1) standing.Running in
     times_same standings j x (standing.Lost w cause) k (standing_from standings j x standing.Running t.from_one t.given refl) (open_neither x t.goes_on).0 refl
 
-reports_after : (rules : Profile) (e : Event) (state : State) → IsSound rules state → IsPossible rules e state → (k : ℕ)
-    → times_reported (standing_in (after rules e state).standings k) ≡ times_reported (standing_in state.standings k) + one_if (is_report_of k) e
-reports_after rules (event.Join slot) state h p k = omega arith
-reports_after rules (event.Load load) state h p k = omega arith
-reports_after rules (event.Round (answers.Planned plan backlog short)) state h p k = omega arith
-reports_after rules (event.Round (answers.NoPlan short)) state h p k = omega arith
-reports_after rules (event.Grab worker handle function now) state h p k = omega (arith, times_pushed state.standings k)
-reports_after rules (event.Begin worker ticket) state h p k = omega (arith, times_same state.standings ticket standing.Running standing.Reporting k p.2 refl refl)
-reports_after rules (event.Reported worker ticket end) state h p k = times_once state.standings ticket standing.Reporting (standing.Reported end) k p.2 refl refl
-reports_after rules (event.Lost worker cause) state h p k = omega (arith, lost_same state.standings (open_ticket state worker) worker cause (λ j e. h.tickets worker.slot j e) k)
+reports_after : (settings : Settings) (e : Event) (state : State) → IsSoundState settings state → IsPossible settings e state → (k : ℕ)
+    → times_reported (standing_in (after settings e state).standings k) ≡ times_reported (standing_in state.standings k) + one_if (is_report_of k) e
+reports_after settings (event.Join slot) state h p k = omega arith
+reports_after settings (event.Load load) state h p k = omega arith
+reports_after settings (event.Round (answers.Planned plan backlog short)) state h p k = omega arith
+reports_after settings (event.Round (answers.NoPlan short)) state h p k = omega arith
+reports_after settings (event.Grab worker handle function now) state h p k = omega (arith, times_pushed state.standings k)
+reports_after settings (event.Begin worker ticket) state h p k = omega (arith, times_same state.standings ticket standing.Running standing.Reporting k p.2 refl refl)
+reports_after settings (event.Reported worker ticket end) state h p k = times_once state.standings ticket standing.Reporting (standing.Reported end) k p.2 refl refl
+reports_after settings (event.Lost worker cause) state h p k = omega (arith, lost_same state.standings (open_ticket state worker) worker cause (λ j e. h.tickets worker.slot j e) k)
 
-reports_replayed : (rules : Profile) → IsProfile rules → (events : List Event) (state : State) → IsSound rules state → IsHistory rules state events → (k : ℕ)
-    → times_reported (standing_in (replay rules state events).standings k) ≡ times_reported (standing_in state.standings k) + count_by (is_report_of k) events
-reports_replayed rules r [] state h p k = omega arith
-reports_replayed rules r (e ∷ events) state h p k =
-    let later = reports_replayed rules r events (after rules e state) (sound_after rules e state r h p.0) p.1 k in
-    omega (arith, later, reports_after rules e state h p.0 k, sum_by-cons (one_if (is_report_of k)) e events)
+reports_replayed : (settings : Settings) → AreSettings settings → (events : List Event) (state : State) → IsSoundState settings state → IsHistory settings state events → (k : ℕ)
+    → times_reported (standing_in (replay settings state events).standings k) ≡ times_reported (standing_in state.standings k) + count_by (is_report_of k) events
+reports_replayed settings r [] state h p k = omega arith
+reports_replayed settings r (e ∷ events) state h p k =
+    let later = reports_replayed settings r events (after settings e state) (sound_after settings e state r h p.0) p.1 k in
+    omega (arith, later, reports_after settings e state h p.0 k, sum_by-cons (one_if (is_report_of k)) e events)
 
-jobs_after : (rules : Profile) (e : Event) (state : State) → (after rules e state).jobs ≡ state.jobs ++ grabbed_jobs (e ∷ [])
-jobs_after rules (event.Join slot) state = sym (append-nil state.jobs)
-jobs_after rules (event.Load load) state = sym (append-nil state.jobs)
-jobs_after rules (event.Round (answers.Planned plan backlog short)) state = sym (append-nil state.jobs)
-jobs_after rules (event.Round (answers.NoPlan short)) state = sym (append-nil state.jobs)
-jobs_after rules (event.Grab worker handle function now) state = refl
-jobs_after rules (event.Begin worker ticket) state = sym (append-nil state.jobs)
-jobs_after rules (event.Reported worker ticket end) state = sym (append-nil state.jobs)
-jobs_after rules (event.Lost worker cause) state = sym (append-nil state.jobs)
+jobs_after : (settings : Settings) (e : Event) (state : State) → (after settings e state).jobs ≡ state.jobs ++ grabbed_jobs (e ∷ [])
+jobs_after settings (event.Join slot) state = sym (append-nil state.jobs)
+jobs_after settings (event.Load load) state = sym (append-nil state.jobs)
+jobs_after settings (event.Round (answers.Planned plan backlog short)) state = sym (append-nil state.jobs)
+jobs_after settings (event.Round (answers.NoPlan short)) state = sym (append-nil state.jobs)
+jobs_after settings (event.Grab worker handle function now) state = refl
+jobs_after settings (event.Begin worker ticket) state = sym (append-nil state.jobs)
+jobs_after settings (event.Reported worker ticket end) state = sym (append-nil state.jobs)
+jobs_after settings (event.Lost worker cause) state = sym (append-nil state.jobs)
 
-jobs_replayed : (rules : Profile) (events : List Event) (state : State) → (replay rules state events).jobs ≡ state.jobs ++ grabbed_jobs events
-jobs_replayed rules [] state = sym (append-nil state.jobs)
-jobs_replayed rules (e ∷ events) state =
-    jobs_replayed rules events (after rules e state)
-    ∙ ap (λ (xs : List Job). xs ++ grabbed_jobs events) (jobs_after rules e state)
+jobs_replayed : (settings : Settings) (events : List Event) (state : State) → (replay settings state events).jobs ≡ state.jobs ++ grabbed_jobs events
+jobs_replayed settings [] state = sym (append-nil state.jobs)
+jobs_replayed settings (e ∷ events) state =
+    jobs_replayed settings events (after settings e state)
+    ∙ ap (λ (xs : List Job). xs ++ grabbed_jobs events) (jobs_after settings e state)
     ∙ append_assoc state.jobs (grabbed_jobs (e ∷ [])) (grabbed_jobs events)
     ∙ ap (λ (xs : List Job). state.jobs ++ xs) (sym (filter_map-append job_of (e ∷ []) events))
 
@@ -140,8 +140,8 @@ none_given k = by (k == 0)
     by false = refl
 
 pub jobs_are_booked_once_lem : JobsAreBookedOnce
-jobs_are_booked_once_lem rules r events h =
+jobs_are_booked_once_lem settings r events h =
     record {
-      jobs = jobs_replayed rules events (first rules);
-      reports = λ k. omega (arith, reports_replayed rules r events (first rules) (sound_first rules r) h k, none_given k);
+      jobs = jobs_replayed settings events (first settings);
+      reports = λ k. omega (arith, reports_replayed settings r events (first settings) (sound_first settings r) h k, none_given k);
     }

@@ -16,7 +16,7 @@ use Rattle.worker_state.specs.declared.job.EndKind.{EndKind}
 use Rattle.worker_state.specs.declared.job.EndKind.TheVariants.{Complete}
 use Rattle.worker_state.specs.Slots.{is_live, is_reported, is_lost, last_generation, run_count}
 use Rattle.pool_core.specs.declared.event.Job.{Job}
-use Rattle.pool_settings.specs.Profile.{Profile, IsProfile}
+use Rattle.pool_settings.specs.Settings.{Settings, AreSettings}
 use Rattle.worker_state.specs.declared.slot.WorkerName.{WorkerName}
 use Rattle.worker_state.specs.declared.job.Standing.{Standing}
 use Rattle.worker_state.specs.declared.job.Standing.TheVariants as standing
@@ -24,7 +24,7 @@ use Rattle.pool_core.specs.declared.event.Event.{Event}
 use Rattle.pool_core.specs.declared.event.Event.TheVariants as event
 use Rattle.pool_core.specs.Machine.{State, IsPossible, first, owed, with_standing, with_lost, slot_in, is_live_in, open_ticket, slot_after_run, next_ticket, orders_from, after_round}
 use Rattle.pool_core.specs.Book.{begin_refusal, join_refusal, grab_refusal, report_refusal}
-use Rattle.pool_core.specs.Kept.{IsKept, IsSound, closing_of, lost_of}
+use Rattle.pool_core.specs.Kept.{IsKeptBook, IsSoundState, closing_of, lost_of}
 use Rattle.pool_core.proofs.Refusals.{begin_possible, join_possible, grab_possible, report_possible}
 use Rattle.pool_core.proofs.Sums.{owed_begin, reported_begin, owed_join, owed_grab, owed_reported, reported_reported, counts_lost, count_by-push, one_if}
 use Rattle.std.proofs.lemmas.List.Folds.{sum_by-replicate}
@@ -32,52 +32,52 @@ use Rattle.worker_state.specs.Orders.{no_order}
 use Rattle.pool_core.proofs.Lasting.{sound_first}
 use Rattle.pool_core.proofs.Steps.{kept_more, next_chapter_is}
 
-pub kept_begin : (rules : Profile) (chapters : ℕ) (events : List Event) (state : State) (owes reported lost capacity : ℕ) → IsKept (record { rules = rules; events = events; state = state; chapters = chapters }) owes reported lost capacity
-    → (w : WorkerName) (k : ℕ) → begin_refusal (record { rules = rules; events = events; state = state; chapters = 0 }) w k ≡ None
+pub kept_begin : (settings : Settings) (chapters : ℕ) (events : List Event) (state : State) (owes reported lost capacity : ℕ) → IsKeptBook (record { settings = settings; events = events; state = state; chapters = chapters }) owes reported lost capacity
+    → (w : WorkerName) (k : ℕ) → begin_refusal (record { settings = settings; events = events; state = state; chapters = 0 }) w k ≡ None
     → (events' : List Event) → events' ≡ events ++ event.Begin w k ∷ []
     → (standings' : List Standing) → standings' ≡ with_standing state.standings k standing.Reporting
     → (capacity' : ℕ) → capacity' ≡ capacity
-    → IsKept (record { rules = rules; events = events'; state = (record state { standings = standings' }); chapters = chapters }) (owes - 1) reported lost capacity'
-kept_begin rules chapters events state owes reported lost capacity h w k none events' is_events standings' is_standings capacity' is_capacity =
-    let p = begin_possible (record { rules = rules; events = events; state = state; chapters = 0 }) w k none in
-    let o = owed_begin rules state w k p in
-    let t = reported_begin rules state w k p in
-    rw (is_events, is_standings) (kept_more rules chapters events state owes reported lost capacity h (event.Begin w k) p (owes - 1) reported lost capacity'
+    → IsKeptBook (record { settings = settings; events = events'; state = (record state { standings = standings' }); chapters = chapters }) (owes - 1) reported lost capacity'
+kept_begin settings chapters events state owes reported lost capacity h w k none events' is_events standings' is_standings capacity' is_capacity =
+    let p = begin_possible (record { settings = settings; events = events; state = state; chapters = 0 }) w k none in
+    let o = owed_begin settings state w k p in
+    let t = reported_begin settings state w k p in
+    rw (is_events, is_standings) (kept_more settings chapters events state owes reported lost capacity h (event.Begin w k) p (owes - 1) reported lost capacity'
     (omega (arith, o, h.owes_is))
     (h.reported_is ∙ sym t.0) (h.lost_is ∙ sym t.1)
     (omega (arith, o, h.owes_is, h.within))
     (omega (arith, o, h.owes_is, h.reserved, is_capacity)))
 
-pub kept_join : (rules : Profile) (chapters : ℕ) (events : List Event) (state : State) (owes reported lost capacity : ℕ) → IsKept (record { rules = rules; events = events; state = state; chapters = chapters }) owes reported lost capacity
-    → (slot : ℕ) → slot < length state.slots → join_refusal (record { rules = rules; events = events; state = state; chapters = 0 }) slot ≡ None
+pub kept_join : (settings : Settings) (chapters : ℕ) (events : List Event) (state : State) (owes reported lost capacity : ℕ) → IsKeptBook (record { settings = settings; events = events; state = state; chapters = chapters }) owes reported lost capacity
+    → (slot : ℕ) → slot < length state.slots → join_refusal (record { settings = settings; events = events; state = state; chapters = 0 }) slot ≡ None
     → (events' : List Event) → events' ≡ events ++ event.Join slot ∷ []
     → (slots' : List Slot) → slots' ≡ slice_set state.slots slot (Live (last_generation (slot_in state.slots slot) + 1) 0 None)
     → (orders' : List Order) → orders' ≡ slice_set state.orders slot (record { generation = last_generation (slot_in state.slots slot) + 1; round = 0; what = Idle })
     → (capacity' : ℕ) → length events + owes + 2 ≤ capacity'
-    → IsKept (record { rules = rules; events = events'; state = (record state { slots = slots'; orders = orders' }); chapters = chapters }) (owes + 1) reported lost capacity'
-kept_join rules chapters events state owes reported lost capacity h slot within none events' is_events slots' is_slots orders' is_orders capacity' room =
-    let t = join_possible (record { rules = rules; events = events; state = state; chapters = 0 }) slot none in
-    let p : IsPossible rules (event.Join slot) state = (within, t.0, t.1) in
-    let o = owed_join rules state slot p in
-    rw (is_events, is_slots, is_orders) (kept_more rules chapters events state owes reported lost capacity h (event.Join slot) p (owes + 1) reported lost capacity'
+    → IsKeptBook (record { settings = settings; events = events'; state = (record state { slots = slots'; orders = orders' }); chapters = chapters }) (owes + 1) reported lost capacity'
+kept_join settings chapters events state owes reported lost capacity h slot within none events' is_events slots' is_slots orders' is_orders capacity' room =
+    let t = join_possible (record { settings = settings; events = events; state = state; chapters = 0 }) slot none in
+    let p : IsPossible settings (event.Join slot) state = (within, t.0, t.1) in
+    let o = owed_join settings state slot p in
+    rw (is_events, is_slots, is_orders) (kept_more settings chapters events state owes reported lost capacity h (event.Join slot) p (owes + 1) reported lost capacity'
     (omega (arith, o, h.owes_is))
     h.reported_is h.lost_is
     (omega (arith, h.owes_is, t.2))
     (omega (arith, h.owes_is, room)))
 
-pub kept_grab : (rules : Profile) (chapters : ℕ) (events : List Event) (state : State) (owes reported lost capacity : ℕ) → IsKept (record { rules = rules; events = events; state = state; chapters = chapters }) owes reported lost capacity
-    → (w : WorkerName) (handle function : List ℕ) (now : ℕ) → grab_refusal (record { rules = rules; events = events; state = state; chapters = 0 }) w ≡ None
+pub kept_grab : (settings : Settings) (chapters : ℕ) (events : List Event) (state : State) (owes reported lost capacity : ℕ) → IsKeptBook (record { settings = settings; events = events; state = state; chapters = chapters }) owes reported lost capacity
+    → (w : WorkerName) (handle function : List ℕ) (now : ℕ) → grab_refusal (record { settings = settings; events = events; state = state; chapters = 0 }) w ≡ None
     → (events' : List Event) → events' ≡ events ++ event.Grab w handle function now ∷ []
     → (slots' : List Slot) → slots' ≡ slice_set state.slots w.slot (Live w.generation (run_count (slot_in state.slots w.slot)) (Some (next_ticket state)))
     → (times' : List ℕ) → times' ≡ slice_set state.grab_times w.slot now
     → (jobs' : List Job) → jobs' ≡ state.jobs ++ record { handle = handle; function = function } ∷ []
     → (standings' : List Standing) → standings' ≡ state.standings ++ standing.Running ∷ []
     → (capacity' : ℕ) → length events + owes + 3 ≤ capacity'
-    → IsKept (record { rules = rules; events = events'; state = (record state { slots = slots'; grab_times = times'; jobs = jobs'; standings = standings' }); chapters = chapters }) (owes + 2) reported lost capacity'
-kept_grab rules chapters events state owes reported lost capacity h w handle function now none events' is_events slots' is_slots times' is_times jobs' is_jobs standings' is_standings capacity' room =
-    let t = grab_possible (record { rules = rules; events = events; state = state; chapters = 0 }) w none in
-    let o = owed_grab rules state w handle function now t.0 in
-    rw (is_events, is_slots, is_times, is_jobs, is_standings) (kept_more rules chapters events state owes reported lost capacity h (event.Grab w handle function now) (t.0, t.1) (owes + 2) reported lost capacity'
+    → IsKeptBook (record { settings = settings; events = events'; state = (record state { slots = slots'; grab_times = times'; jobs = jobs'; standings = standings' }); chapters = chapters }) (owes + 2) reported lost capacity'
+kept_grab settings chapters events state owes reported lost capacity h w handle function now none events' is_events slots' is_slots times' is_times jobs' is_jobs standings' is_standings capacity' room =
+    let t = grab_possible (record { settings = settings; events = events; state = state; chapters = 0 }) w none in
+    let o = owed_grab settings state w handle function now t.0 in
+    rw (is_events, is_slots, is_times, is_jobs, is_standings) (kept_more settings chapters events state owes reported lost capacity h (event.Grab w handle function now) (t.0, t.1) (owes + 2) reported lost capacity'
     (omega (arith, o, h.owes_is))
     (omega (arith, h.reported_is, count_by-push is_reported state.standings standing.Running))
     (omega (arith, h.lost_is, count_by-push is_lost state.standings standing.Running))
@@ -85,63 +85,63 @@ kept_grab rules chapters events state owes reported lost capacity h w handle fun
     (omega (arith, h.owes_is, room)))
 
 -- whether the slot after a run is live
-after_run_live : (rules : Profile) (generation runs : ℕ) (stays : Bool) → stays ≡ nat_lt (runs + 1) rules.max_runs → is_live (slot_after_run rules generation runs) ≡ stays
-after_run_live rules generation runs stays e =
-    cond_both (nat_lt (runs + 1) rules.max_runs) (Live generation (runs + 1) None) (Empty generation) (λ x. is_live x ≡ stays) (λ t. sym t ∙ sym e) (λ t. sym t ∙ sym e)
+after_run_live : (settings : Settings) (generation runs : ℕ) (stays : Bool) → stays ≡ nat_lt (runs + 1) settings.max_runs → is_live (slot_after_run settings generation runs) ≡ stays
+after_run_live settings generation runs stays e =
+    cond_both (nat_lt (runs + 1) settings.max_runs) (Live generation (runs + 1) None) (Empty generation) (λ x. is_live x ≡ stays) (λ t. sym t ∙ sym e) (λ t. sym t ∙ sym e)
 
-pub kept_reported : (rules : Profile) (chapters : ℕ) (events : List Event) (state : State) (owes reported lost capacity : ℕ) → IsKept (record { rules = rules; events = events; state = state; chapters = chapters }) owes reported lost capacity
-    → (w : WorkerName) (k : ℕ) (end : EndKind) → report_refusal (record { rules = rules; events = events; state = state; chapters = 0 }) w k ≡ None
-    → (stays : Bool) → stays ≡ nat_lt (run_count (slot_in state.slots w.slot) + 1) rules.max_runs
+pub kept_reported : (settings : Settings) (chapters : ℕ) (events : List Event) (state : State) (owes reported lost capacity : ℕ) → IsKeptBook (record { settings = settings; events = events; state = state; chapters = chapters }) owes reported lost capacity
+    → (w : WorkerName) (k : ℕ) (end : EndKind) → report_refusal (record { settings = settings; events = events; state = state; chapters = 0 }) w k ≡ None
+    → (stays : Bool) → stays ≡ nat_lt (run_count (slot_in state.slots w.slot) + 1) settings.max_runs
     → (events' : List Event) → events' ≡ events ++ event.Reported w k end ∷ []
     → (slots' : List Slot) → slots' ≡ slice_set state.slots w.slot (if stays then Live w.generation (run_count (slot_in state.slots w.slot) + 1) None else Empty w.generation)
     → (standings' : List Standing) → standings' ≡ with_standing state.standings k (standing.Reported end)
     → (owes' : ℕ) → owes' + 2 ≡ owes + cond stays 1 0
     → (capacity' : ℕ) → capacity' ≡ capacity
-    → IsKept (record { rules = rules; events = events'; state = (record state { slots = slots'; standings = standings' }); chapters = chapters }) owes' (reported + 1) lost capacity'
-kept_reported rules chapters events state owes reported lost capacity h w k end none stays is_stays events' is_events slots' is_slots standings' is_standings owes' is_owes capacity' is_capacity =
-    let p = report_possible (record { rules = rules; events = events; state = state; chapters = 0 }) w k end none in
-    let o = owed_reported rules state w k end stays (after_run_live rules w.generation (run_count (slot_in state.slots w.slot)) stays is_stays) p in
-    let t = reported_reported rules state w k end p in
+    → IsKeptBook (record { settings = settings; events = events'; state = (record state { slots = slots'; standings = standings' }); chapters = chapters }) owes' (reported + 1) lost capacity'
+kept_reported settings chapters events state owes reported lost capacity h w k end none stays is_stays events' is_events slots' is_slots standings' is_standings owes' is_owes capacity' is_capacity =
+    let p = report_possible (record { settings = settings; events = events; state = state; chapters = 0 }) w k end none in
+    let o = owed_reported settings state w k end stays (after_run_live settings w.generation (run_count (slot_in state.slots w.slot)) stays is_stays) p in
+    let t = reported_reported settings state w k end p in
     let few : cond stays 1 0 ≤ 1 = cond_both stays 1 0 (λ n. n ≤ 1) (λ e. omega arith) (λ e. omega arith) in
-    rw (is_events, is_slots, is_stays, is_standings) (kept_more rules chapters events state owes reported lost capacity h (event.Reported w k end) p owes' (reported + 1) lost capacity'
+    rw (is_events, is_slots, is_stays, is_standings) (kept_more settings chapters events state owes reported lost capacity h (event.Reported w k end) p owes' (reported + 1) lost capacity'
     (omega (arith, o, h.owes_is, is_owes))
     (omega (arith, h.reported_is, t.0)) (h.lost_is ∙ sym t.1)
     (omega (arith, h.within, is_owes, few))
     (omega (arith, h.reserved, is_owes, few, is_capacity)))
 
-pub kept_lost : (rules : Profile) (chapters : ℕ) (events : List Event) (state : State) (owes reported lost capacity : ℕ) → IsKept (record { rules = rules; events = events; state = state; chapters = chapters }) owes reported lost capacity
+pub kept_lost : (settings : Settings) (chapters : ℕ) (events : List Event) (state : State) (owes reported lost capacity : ℕ) → IsKeptBook (record { settings = settings; events = events; state = state; chapters = chapters }) owes reported lost capacity
     → (w : WorkerName) (cause : Cause) → is_live_in state w ≡ true
     → (events' : List Event) → events' ≡ events ++ event.Lost w cause ∷ []
     → (slots' : List Slot) → slots' ≡ slice_set state.slots w.slot (Empty w.generation)
     → (standings' : List Standing) → standings' ≡ with_lost state.standings (open_ticket state w) w cause
     → (capacity' : ℕ) → capacity' ≡ capacity
-    → IsKept (record { rules = rules; events = events'; state = (record state { slots = slots'; standings = standings' }); chapters = chapters }) (owes - (1 + closing_of state.standings (open_ticket state w))) reported (lost + lost_of (open_ticket state w)) capacity'
-kept_lost rules chapters events state owes reported lost capacity h w cause live events' is_events slots' is_slots standings' is_standings capacity' is_capacity =
-    let t = counts_lost rules state w cause h.sound live in
-    rw (is_events, is_slots, is_standings) (kept_more rules chapters events state owes reported lost capacity h (event.Lost w cause) live (owes - (1 + closing_of state.standings (open_ticket state w))) reported (lost + lost_of (open_ticket state w)) capacity'
+    → IsKeptBook (record { settings = settings; events = events'; state = (record state { slots = slots'; standings = standings' }); chapters = chapters }) (owes - (1 + closing_of state.standings (open_ticket state w))) reported (lost + lost_of (open_ticket state w)) capacity'
+kept_lost settings chapters events state owes reported lost capacity h w cause live events' is_events slots' is_slots standings' is_standings capacity' is_capacity =
+    let t = counts_lost settings state w cause h.sound live in
+    rw (is_events, is_slots, is_standings) (kept_more settings chapters events state owes reported lost capacity h (event.Lost w cause) live (owes - (1 + closing_of state.standings (open_ticket state w))) reported (lost + lost_of (open_ticket state w)) capacity'
     (omega (arith, t.0, h.owes_is))
     (h.reported_is ∙ sym t.1) (omega (arith, h.lost_is, t.2))
     (omega (arith, h.within, t.0, h.owes_is))
     (omega (arith, h.reserved, t.0, h.owes_is, is_capacity)))
 
 -- a report's beginning, a report and a loss are owed
-pub owes_begin : (rules : Profile) (chapters : ℕ) (events : List Event) (state : State) (owes reported lost capacity : ℕ) → IsKept (record { rules = rules; events = events; state = state; chapters = chapters }) owes reported lost capacity
-    → (w : WorkerName) (k : ℕ) → begin_refusal (record { rules = rules; events = events; state = state; chapters = 0 }) w k ≡ None → 1 ≤ owes
-owes_begin rules chapters events state owes reported lost capacity h w k none =
-    let p = begin_possible (record { rules = rules; events = events; state = state; chapters = 0 }) w k none in
-    omega (arith, owed_begin rules state w k p, h.owes_is)
+pub owes_begin : (settings : Settings) (chapters : ℕ) (events : List Event) (state : State) (owes reported lost capacity : ℕ) → IsKeptBook (record { settings = settings; events = events; state = state; chapters = chapters }) owes reported lost capacity
+    → (w : WorkerName) (k : ℕ) → begin_refusal (record { settings = settings; events = events; state = state; chapters = 0 }) w k ≡ None → 1 ≤ owes
+owes_begin settings chapters events state owes reported lost capacity h w k none =
+    let p = begin_possible (record { settings = settings; events = events; state = state; chapters = 0 }) w k none in
+    omega (arith, owed_begin settings state w k p, h.owes_is)
 
-pub owes_report : (rules : Profile) (chapters : ℕ) (events : List Event) (state : State) (owes reported lost capacity : ℕ) → IsKept (record { rules = rules; events = events; state = state; chapters = chapters }) owes reported lost capacity
-    → (w : WorkerName) (k : ℕ) → report_refusal (record { rules = rules; events = events; state = state; chapters = 0 }) w k ≡ None
-    → (stays : Bool) → stays ≡ nat_lt (run_count (slot_in state.slots w.slot) + 1) rules.max_runs → 2 ≤ owes + cond stays 1 0
-owes_report rules chapters events state owes reported lost capacity h w k none stays is_stays =
-    let p = report_possible (record { rules = rules; events = events; state = state; chapters = 0 }) w k Complete none in
-    omega (arith, owed_reported rules state w k Complete stays (after_run_live rules w.generation (run_count (slot_in state.slots w.slot)) stays is_stays) p, h.owes_is)
+pub owes_report : (settings : Settings) (chapters : ℕ) (events : List Event) (state : State) (owes reported lost capacity : ℕ) → IsKeptBook (record { settings = settings; events = events; state = state; chapters = chapters }) owes reported lost capacity
+    → (w : WorkerName) (k : ℕ) → report_refusal (record { settings = settings; events = events; state = state; chapters = 0 }) w k ≡ None
+    → (stays : Bool) → stays ≡ nat_lt (run_count (slot_in state.slots w.slot) + 1) settings.max_runs → 2 ≤ owes + cond stays 1 0
+owes_report settings chapters events state owes reported lost capacity h w k none stays is_stays =
+    let p = report_possible (record { settings = settings; events = events; state = state; chapters = 0 }) w k Complete none in
+    omega (arith, owed_reported settings state w k Complete stays (after_run_live settings w.generation (run_count (slot_in state.slots w.slot)) stays is_stays) p, h.owes_is)
 
-pub owes_loss : (rules : Profile) (chapters : ℕ) (events : List Event) (state : State) (owes reported lost capacity : ℕ) → IsKept (record { rules = rules; events = events; state = state; chapters = chapters }) owes reported lost capacity
+pub owes_loss : (settings : Settings) (chapters : ℕ) (events : List Event) (state : State) (owes reported lost capacity : ℕ) → IsKeptBook (record { settings = settings; events = events; state = state; chapters = chapters }) owes reported lost capacity
     → (w : WorkerName) → is_live_in state w ≡ true → 1 + closing_of state.standings (open_ticket state w) ≤ owes
-owes_loss rules chapters events state owes reported lost capacity h w live =
-    omega (arith, (counts_lost rules state w Late h.sound live).0, h.owes_is)
+owes_loss settings chapters events state owes reported lost capacity h w live =
+    omega (arith, (counts_lost settings state w Late h.sound live).0, h.owes_is)
 
 -- what is owed after a report
 pub owes_after_report : (owes one : ℕ) (stays : Bool) → one ≡ cond stays 1 0 → 2 ≤ owes + cond stays 1 0 → (owes - (2 - one)) + 2 ≡ owes + cond stays 1 0
@@ -153,17 +153,17 @@ pub report_within : (owes one : ℕ) (stays : Bool) → one ≡ cond stays 1 0 �
 report_within owes one stays e h = omega (arith, e, h)
 
 -- an open ticket was given
-pub open_given : (rules : Profile) (state : State) → IsSound rules state → (w : WorkerName) (o : Option ℕ) → o ≡ open_ticket state w → (n : ℕ) → n ≡ length state.standings → IfSome o (λ k. (0 < k) × (k ≤ n))
-open_given rules state h w None e n is = tt
-open_given rules state h w (Some k) e n is = let t = h.tickets w.slot k (sym e) in (t.from_one, omega (arith, t.given, is))
+pub open_given : (settings : Settings) (state : State) → IsSoundState settings state → (w : WorkerName) (o : Option ℕ) → o ≡ open_ticket state w → (n : ℕ) → n ≡ length state.standings → IfSome o (λ k. (0 < k) × (k ≤ n))
+open_given settings state h w None e n is = tt
+open_given settings state h w (Some k) e n is = let t = h.tickets w.slot k (sym e) in (t.from_one, omega (arith, t.given, is))
 
-pub kept_load : (rules : Profile) (chapters : ℕ) (events : List Event) (state : State) (owes reported lost capacity : ℕ) → IsKept (record { rules = rules; events = events; state = state; chapters = chapters }) owes reported lost capacity
-    → (load : List Line) → length events + owes + 1 ≤ rules.history
+pub kept_load : (settings : Settings) (chapters : ℕ) (events : List Event) (state : State) (owes reported lost capacity : ℕ) → IsKeptBook (record { settings = settings; events = events; state = state; chapters = chapters }) owes reported lost capacity
+    → (load : List Line) → length events + owes + 1 ≤ settings.history
     → (events' : List Event) → events' ≡ events ++ event.Load load ∷ []
     → (capacity' : ℕ) → length events + owes + 1 ≤ capacity'
-    → IsKept (record { rules = rules; events = events'; state = (record state { load = Some load }); chapters = chapters }) owes reported lost capacity'
-kept_load rules chapters events state owes reported lost capacity h load within events' is_events capacity' room =
-    rw is_events (kept_more rules chapters events state owes reported lost capacity h (event.Load load) tt owes reported lost capacity'
+    → IsKeptBook (record { settings = settings; events = events'; state = (record state { load = Some load }); chapters = chapters }) owes reported lost capacity'
+kept_load settings chapters events state owes reported lost capacity h load within events' is_events capacity' room =
+    rw is_events (kept_more settings chapters events state owes reported lost capacity h (event.Load load) tt owes reported lost capacity'
     h.owes_is h.reported_is h.lost_is
     (omega (arith, within))
     (omega (arith, room)))
@@ -173,47 +173,47 @@ round_same : (answer : Answer) (state : State) → (owed (after_round answer sta
 round_same (answers.Planned plan backlog short) state = (refl, refl)
 round_same (answers.NoPlan short) state = (refl, refl)
 
-pub kept_round : (rules : Profile) (chapters : ℕ) (events : List Event) (state : State) (owes reported lost capacity : ℕ) → IsKept (record { rules = rules; events = events; state = state; chapters = chapters }) owes reported lost capacity
-    → (answer : Answer) → IsPossible rules (event.Round answer) state → length events + owed state + 1 ≤ rules.history
+pub kept_round : (settings : Settings) (chapters : ℕ) (events : List Event) (state : State) (owes reported lost capacity : ℕ) → IsKeptBook (record { settings = settings; events = events; state = state; chapters = chapters }) owes reported lost capacity
+    → (answer : Answer) → IsPossible settings (event.Round answer) state → length events + owed state + 1 ≤ settings.history
     → (capacity' : ℕ) → length events + owes + 1 ≤ capacity'
-    → IsKept (record { rules = rules; events = (events ++ event.Round answer ∷ []); state = (after_round answer state); chapters = chapters }) owes reported lost capacity'
-kept_round rules chapters events state owes reported lost capacity h answer p within capacity' room =
+    → IsKeptBook (record { settings = settings; events = (events ++ event.Round answer ∷ []); state = (after_round answer state); chapters = chapters }) owes reported lost capacity'
+kept_round settings chapters events state owes reported lost capacity h answer p within capacity' room =
     let t = round_same answer state in
-    kept_more rules chapters events state owes reported lost capacity h (event.Round answer) p owes reported lost capacity'
+    kept_more settings chapters events state owes reported lost capacity h (event.Round answer) p owes reported lost capacity'
     (h.owes_is ∙ sym t.0) (h.reported_is ∙ ap (count_by is_reported) (sym t.1)) (h.lost_is ∙ ap (count_by is_lost) (sym t.1))
     (omega (arith, within, h.owes_is))
     (omega (arith, room))
 
-pub kept_no_plan : (rules : Profile) (chapters : ℕ) (events : List Event) (state : State) (owes reported lost capacity : ℕ) → IsKept (record { rules = rules; events = events; state = state; chapters = chapters }) owes reported lost capacity
-    → (short : List ℕ) → IsPossible rules (event.Round (answers.NoPlan short)) state → length events + owed state + 1 ≤ rules.history
+pub kept_no_plan : (settings : Settings) (chapters : ℕ) (events : List Event) (state : State) (owes reported lost capacity : ℕ) → IsKeptBook (record { settings = settings; events = events; state = state; chapters = chapters }) owes reported lost capacity
+    → (short : List ℕ) → IsPossible settings (event.Round (answers.NoPlan short)) state → length events + owed state + 1 ≤ settings.history
     → (events' : List Event) → events' ≡ events ++ event.Round (answers.NoPlan short) ∷ []
     → (capacity' : ℕ) → length events + owes + 1 ≤ capacity'
-    → IsKept (record { rules = rules; events = events'; state = (record state { rounds = state.rounds + 1 }); chapters = chapters }) owes reported lost capacity'
-kept_no_plan rules chapters events state owes reported lost capacity h short p within events' is_events capacity' room =
-    rw is_events (kept_round rules chapters events state owes reported lost capacity h (answers.NoPlan short) p within capacity' room)
+    → IsKeptBook (record { settings = settings; events = events'; state = (record state { rounds = state.rounds + 1 }); chapters = chapters }) owes reported lost capacity'
+kept_no_plan settings chapters events state owes reported lost capacity h short p within events' is_events capacity' room =
+    rw is_events (kept_round settings chapters events state owes reported lost capacity h (answers.NoPlan short) p within capacity' room)
 
-pub kept_plan : (rules : Profile) (chapters : ℕ) (events : List Event) (state : State) (owes reported lost capacity : ℕ) → IsKept (record { rules = rules; events = events; state = state; chapters = chapters }) owes reported lost capacity
-    → (plan : List (ℕ × Option ℕ)) (backlog : ℕ) (short : Option (List ℕ)) → IsPossible rules (event.Round (answers.Planned plan backlog short)) state → length events + owed state + 1 ≤ rules.history
+pub kept_plan : (settings : Settings) (chapters : ℕ) (events : List Event) (state : State) (owes reported lost capacity : ℕ) → IsKeptBook (record { settings = settings; events = events; state = state; chapters = chapters }) owes reported lost capacity
+    → (plan : List (ℕ × Option ℕ)) (backlog : ℕ) (short : Option (List ℕ)) → IsPossible settings (event.Round (answers.Planned plan backlog short)) state → length events + owed state + 1 ≤ settings.history
     → (events' : List Event) → events' ≡ events ++ event.Round (answers.Planned plan backlog short) ∷ []
     → (orders' : List Order) → orders' ≡ orders_from 0 plan (state.rounds + 1) state.slots state.orders
     → (noted : List (ℕ × Option ℕ)) → noted ≡ plan
     → (capacity' : ℕ) → length events + owes + 1 ≤ capacity'
-    → IsKept (record { rules = rules; events = events'; state = (record state { orders = orders'; previous = Some noted; rounds = state.rounds + 1 }); chapters = chapters }) owes reported lost capacity'
-kept_plan rules chapters events state owes reported lost capacity h plan backlog short p within events' is_events orders' is_orders noted is_noted capacity' room =
-    rw (is_events, is_orders, is_noted) (kept_round rules chapters events state owes reported lost capacity h (answers.Planned plan backlog short) p within capacity' room)
+    → IsKeptBook (record { settings = settings; events = events'; state = (record state { orders = orders'; previous = Some noted; rounds = state.rounds + 1 }); chapters = chapters }) owes reported lost capacity'
+kept_plan settings chapters events state owes reported lost capacity h plan backlog short p within events' is_events orders' is_orders noted is_noted capacity' room =
+    rw (is_events, is_orders, is_noted) (kept_round settings chapters events state owes reported lost capacity h (answers.Planned plan backlog short) p within capacity' room)
 
 pub orders_same : (plan listed : List (ℕ × Option ℕ)) (round : ℕ) (slots seen : List Slot) (orders read : List Order) → listed ≡ plan → seen ≡ slots → read ≡ orders → orders_from 0 listed round seen read ≡ orders_from 0 plan round slots orders
 orders_same plan listed round slots seen orders read e f g = cc
 
 -- a chapter that ends
-pub kept_chapter : (rules : Profile) (chapters : ℕ) (events : List Event) (state : State) (owes reported lost capacity : ℕ) → IsKept (record { rules = rules; events = events; state = state; chapters = chapters }) owes reported lost capacity
+pub kept_chapter : (settings : Settings) (chapters : ℕ) (events : List Event) (state : State) (owes reported lost capacity : ℕ) → IsKeptBook (record { settings = settings; events = events; state = state; chapters = chapters }) owes reported lost capacity
     → (events' : List Event) → events' ≡ [] → (capacity' : ℕ) → owes ≤ capacity'
-    → IsKept (record { rules = rules; events = events'; state = state; chapters = (chapters + 1) }) owes reported lost capacity'
-kept_chapter rules chapters events state owes reported lost capacity h events' none capacity' room =
+    → IsKeptBook (record { settings = settings; events = events'; state = state; chapters = (chapters + 1) }) owes reported lost capacity'
+kept_chapter settings chapters events state owes reported lost capacity h events' none capacity' room =
     rw none (
-    let kept : IsKept (record { rules = rules; events = []; state = state; chapters = (chapters + 1) }) owes reported lost capacity' = record {
+    let kept : IsKeptBook (record { settings = settings; events = []; state = state; chapters = (chapters + 1) }) owes reported lost capacity' = record {
       in_range = h.in_range;
-      history = next_chapter_is rules chapters events state h.history;
+      history = next_chapter_is settings chapters events state h.history;
       sound = h.sound;
       owes_is = h.owes_is;
       reported_is = h.reported_is;
@@ -223,25 +223,25 @@ kept_chapter rules chapters events state owes reported lost capacity h events' n
     } in kept)
 
 -- a new pool
-pub kept_first : (rules : Profile) → IsProfile rules → (capacity : ℕ)
-    → (slots' : List Slot) → slots' ≡ replicate (slot_count rules) (Empty 0)
-    → (times' : List ℕ) → times' ≡ replicate (slot_count rules) 0
-    → (orders' : List Order) → orders' ≡ replicate (slot_count rules) no_order
+pub kept_first : (settings : Settings) → AreSettings settings → (capacity : ℕ)
+    → (slots' : List Slot) → slots' ≡ replicate (slot_count settings) (Empty 0)
+    → (times' : List ℕ) → times' ≡ replicate (slot_count settings) 0
+    → (orders' : List Order) → orders' ≡ replicate (slot_count settings) no_order
     → (jobs' : List Job) → jobs' ≡ []
     → (standings' : List Standing) → standings' ≡ []
     → (events' : List Event) → events' ≡ []
-    → IsKept (record { rules = rules; events = events'; state = (record (first rules) { slots = slots'; grab_times = times'; orders = orders'; jobs = jobs'; standings = standings' }); chapters = 0 }) 0 0 0 capacity
-kept_first rules r capacity slots' is_slots times' is_times orders' is_orders jobs' is_jobs standings' is_standings events' is_events =
+    → IsKeptBook (record { settings = settings; events = events'; state = (record (first settings) { slots = slots'; grab_times = times'; orders = orders'; jobs = jobs'; standings = standings' }); chapters = 0 }) 0 0 0 capacity
+kept_first settings r capacity slots' is_slots times' is_times orders' is_orders jobs' is_jobs standings' is_standings events' is_events =
     rw (is_slots, is_times, is_orders, is_jobs, is_standings, is_events) (
-    let kept : IsKept (record { rules = rules; events = []; state = (first rules); chapters = 0 }) 0 0 0 capacity = record {
+    let kept : IsKeptBook (record { settings = settings; events = []; state = (first settings); chapters = 0 }) 0 0 0 capacity = record {
       in_range = r;
       history = record {
-        base = first rules;
+        base = first settings;
         begins = record { before = []; none_before = λ e. refl; replays = record { history = tt; replayed = refl } };
         replays = record { history = tt; replayed = refl };
       };
-      sound = sound_first rules r;
-      owes_is = omega (arith, sum_by-replicate (one_if is_live) (slot_count rules) (Empty 0));
+      sound = sound_first settings r;
+      owes_is = omega (arith, sum_by-replicate (one_if is_live) (slot_count settings) (Empty 0));
       reported_is = refl;
       lost_is = refl;
       within = omega arith;

@@ -5,7 +5,7 @@ use Rattle.std.proofs.lemmas.List.{get_or-set_other, get_or_append_left}
 use Rattle.std.proofs.lemmas.List.Elements.{filter_map-append}
 use Rattle.std.proofs.lemmas.Grind.{get_or-set_at}
 use Rattle.std.proofs.lemmas.Bool.{eqb-true, eq-eqb, false≢true}
-use Rattle.pool_settings.specs.Profile.{Profile}
+use Rattle.pool_settings.specs.Settings.{Settings}
 use Rattle.plan_model.specs.declared.answer.Answer.TheVariants as answers
 use Rattle.worker_state.specs.declared.slot.Slot.{Slot}
 use Rattle.worker_state.specs.declared.slot.Slot.TheVariants.{Empty, Live}
@@ -18,7 +18,7 @@ use Rattle.worker_state.specs.Slots.{has_generation, last_generation, held_ticke
 use Rattle.pool_core.specs.declared.event.Event.{Event}
 use Rattle.pool_core.specs.declared.event.Event.TheVariants as event
 use Rattle.pool_core.specs.Machine.{State, first, slot_in, standing_in, replay, IsHistory, IsPossible, after, with_lost, open_ticket, slot_after_run}
-use Rattle.pool_core.specs.Kept.{OpensAt, IsOpen, IsSound}
+use Rattle.pool_core.specs.Kept.{OpensAt, IsOpenTicket, IsSoundState}
 use Rattle.pool_core.specs.Laws.{grabber_of, grabbers, is_report_of, times_reported, IsHeldByGrabber, IsAccountedFor, JobsAreLostWithTheirWorkers, JobsAreAccountedFor}
 use Rattle.pool_core.proofs.Tables.{standing_given, opens_elsewhere, opens_here}
 use Rattle.pool_core.proofs.Sound.{generation_last, worker_within, run_none}
@@ -88,13 +88,13 @@ closed_pushed standings k x closed is = by (k - 1 == length standings) refl
         let given : k ≤ length standings = omega (arith, t.0, t.1, other, length-append standings (standing.Running ∷ [])) in
         standing_from standings k x standing.Running t.0 given (sym (get_or_append_left standings (standing.Running ∷ []) standing.Running (k - 1) (omega (arith, t.0, given))) ∙ t.2)
 
-grabbed_join : (rules : Profile) (by : List WorkerName) (state : State) (slot : ℕ) → AreGrabbed by state → IsPossible rules (event.Join slot) state → AreGrabbed by (after rules (event.Join slot) state)
-grabbed_join rules by state slot g p =
+grabbed_join : (settings : Settings) (by : List WorkerName) (state : State) (slot : ℕ) → AreGrabbed by state → IsPossible settings (event.Join slot) state → AreGrabbed by (after settings (event.Join slot) state)
+grabbed_join settings by state slot g p =
     record { many = g.many; own = own_beside by state.slots slot (Live (last_generation (slot_in state.slots slot) + 1) 0 None) p.0 refl g.own; lost = g.lost }
 
-grabbed_grab : (rules : Profile) (by : List WorkerName) (state : State) (w : WorkerName) (handle function : List ℕ) (now : ℕ) → AreGrabbed by state → IsPossible rules (event.Grab w handle function now) state
-    → AreGrabbed (by ++ w ∷ []) (after rules (event.Grab w handle function now) state)
-grabbed_grab rules by state w handle function now g p =
+grabbed_grab : (settings : Settings) (by : List WorkerName) (state : State) (w : WorkerName) (handle function : List ℕ) (now : ℕ) → AreGrabbed by state → IsPossible settings (event.Grab w handle function now) state
+    → AreGrabbed (by ++ w ∷ []) (after settings (event.Grab w handle function now) state)
+grabbed_grab settings by state w handle function now g p =
     let new = Live w.generation (run_count (slot_in state.slots w.slot)) (Some (length state.standings + 1)) in
     record {
       many = omega (arith, g.many, length-append by (w ∷ []), length-append state.standings (standing.Running ∷ []));
@@ -111,19 +111,19 @@ grabbed_grab rules by state w handle function now g p =
       lost = λ k v cause is. got_front by (w ∷ []) (k - 1) v (g.lost k v cause (closed_pushed state.standings k (standing.Lost v cause) refl is));
     }
 
-grabbed_begin : (rules : Profile) (by : List WorkerName) (state : State) (w : WorkerName) (j : ℕ) → AreGrabbed by state → AreGrabbed by (after rules (event.Begin w j) state)
-grabbed_begin rules by state w j g =
+grabbed_begin : (settings : Settings) (by : List WorkerName) (state : State) (w : WorkerName) (j : ℕ) → AreGrabbed by state → AreGrabbed by (after settings (event.Begin w j) state)
+grabbed_begin settings by state w j g =
     record {
       many = g.many ∙ sym (length-set state.standings (j - 1) standing.Reporting);
       own = g.own;
       lost = λ k v cause is. elim (stood state.standings (j - 1) standing.Reporting k (standing.Lost v cause) is) [ inl t ↦ absurd (let e = t.1 in cc) | inr t ↦ g.lost k v cause t ];
     }
 
-grabbed_reported : (rules : Profile) (by : List WorkerName) (state : State) (w : WorkerName) (j : ℕ) (end : EndKind) → AreGrabbed by state → IsPossible rules (event.Reported w j end) state → AreGrabbed by (after rules (event.Reported w j end) state)
-grabbed_reported rules by state w j end g p =
+grabbed_reported : (settings : Settings) (by : List WorkerName) (state : State) (w : WorkerName) (j : ℕ) (end : EndKind) → AreGrabbed by state → IsPossible settings (event.Reported w j end) state → AreGrabbed by (after settings (event.Reported w j end) state)
+grabbed_reported settings by state w j end g p =
     record {
       many = g.many ∙ sym (length-set state.standings (j - 1) (standing.Reported end));
-      own = own_beside by state.slots w.slot (slot_after_run rules w.generation (run_count (slot_in state.slots w.slot))) (worker_within state w p.0) (run_none rules w.generation (run_count (slot_in state.slots w.slot))) g.own;
+      own = own_beside by state.slots w.slot (slot_after_run settings w.generation (run_count (slot_in state.slots w.slot))) (worker_within state w p.0) (run_none settings w.generation (run_count (slot_in state.slots w.slot))) g.own;
       lost = λ k v cause is. elim (stood state.standings (j - 1) (standing.Reported end) k (standing.Lost v cause) is) [ inl t ↦ absurd (let e = t.1 in cc) | inr t ↦ g.lost k v cause t ];
     }
 
@@ -141,8 +141,8 @@ lost_named by standings (Some j) w cause lost own k v c is =
       | inr t ↦ lost k v c t
     ]
 
-grabbed_lost : (rules : Profile) (by : List WorkerName) (state : State) (w : WorkerName) (cause : Cause) → AreGrabbed by state → IsPossible rules (event.Lost w cause) state → AreGrabbed by (after rules (event.Lost w cause) state)
-grabbed_lost rules by state w cause g p =
+grabbed_lost : (settings : Settings) (by : List WorkerName) (state : State) (w : WorkerName) (cause : Cause) → AreGrabbed by state → IsPossible settings (event.Lost w cause) state → AreGrabbed by (after settings (event.Lost w cause) state)
+grabbed_lost settings by state w cause g p =
     record {
       many = g.many ∙ sym (length-with_lost state.standings (open_ticket state w) w cause);
       own = own_beside by state.slots w.slot (Empty w.generation) (worker_within state w p) refl g.own;
@@ -152,40 +152,40 @@ grabbed_lost rules by state w cause g p =
 same_by : (by : List WorkerName) (state : State) → AreGrabbed by state → AreGrabbed (by ++ []) state
 same_by by state g = subst (λ (ws : List WorkerName). AreGrabbed ws state) (sym (append-nil by)) g
 
-pub grabbed_after : (rules : Profile) (e : Event) (by : List WorkerName) (state : State) → AreGrabbed by state → IsPossible rules e state → AreGrabbed (by ++ grabbers (e ∷ [])) (after rules e state)
-grabbed_after rules (event.Join slot) by state g p = same_by by (after rules (event.Join slot) state) (grabbed_join rules by state slot g p)
-grabbed_after rules (event.Load load) by state g p = same_by by (after rules (event.Load load) state) (record { many = g.many; own = g.own; lost = g.lost })
-grabbed_after rules (event.Round (answers.Planned plan backlog short)) by state g p = same_by by (after rules (event.Round (answers.Planned plan backlog short)) state) (record { many = g.many; own = g.own; lost = g.lost })
-grabbed_after rules (event.Round (answers.NoPlan short)) by state g p = same_by by (after rules (event.Round (answers.NoPlan short)) state) (record { many = g.many; own = g.own; lost = g.lost })
-grabbed_after rules (event.Grab worker handle function now) by state g p = grabbed_grab rules by state worker handle function now g p
-grabbed_after rules (event.Begin worker ticket) by state g p = same_by by (after rules (event.Begin worker ticket) state) (grabbed_begin rules by state worker ticket g)
-grabbed_after rules (event.Reported worker ticket end) by state g p = same_by by (after rules (event.Reported worker ticket end) state) (grabbed_reported rules by state worker ticket end g p)
-grabbed_after rules (event.Lost worker cause) by state g p = same_by by (after rules (event.Lost worker cause) state) (grabbed_lost rules by state worker cause g p)
+pub grabbed_after : (settings : Settings) (e : Event) (by : List WorkerName) (state : State) → AreGrabbed by state → IsPossible settings e state → AreGrabbed (by ++ grabbers (e ∷ [])) (after settings e state)
+grabbed_after settings (event.Join slot) by state g p = same_by by (after settings (event.Join slot) state) (grabbed_join settings by state slot g p)
+grabbed_after settings (event.Load load) by state g p = same_by by (after settings (event.Load load) state) (record { many = g.many; own = g.own; lost = g.lost })
+grabbed_after settings (event.Round (answers.Planned plan backlog short)) by state g p = same_by by (after settings (event.Round (answers.Planned plan backlog short)) state) (record { many = g.many; own = g.own; lost = g.lost })
+grabbed_after settings (event.Round (answers.NoPlan short)) by state g p = same_by by (after settings (event.Round (answers.NoPlan short)) state) (record { many = g.many; own = g.own; lost = g.lost })
+grabbed_after settings (event.Grab worker handle function now) by state g p = grabbed_grab settings by state worker handle function now g p
+grabbed_after settings (event.Begin worker ticket) by state g p = same_by by (after settings (event.Begin worker ticket) state) (grabbed_begin settings by state worker ticket g)
+grabbed_after settings (event.Reported worker ticket end) by state g p = same_by by (after settings (event.Reported worker ticket end) state) (grabbed_reported settings by state worker ticket end g p)
+grabbed_after settings (event.Lost worker cause) by state g p = same_by by (after settings (event.Lost worker cause) state) (grabbed_lost settings by state worker cause g p)
 
-pub grabbed_all : (rules : Profile) (events : List Event) (by : List WorkerName) (state : State) → AreGrabbed by state → IsHistory rules state events → AreGrabbed (by ++ grabbers events) (replay rules state events)
-grabbed_all rules [] by state g h = same_by by state g
-grabbed_all rules (e ∷ events) by state g h =
-    subst (λ (ws : List WorkerName). AreGrabbed ws (replay rules (after rules e state) events))
+pub grabbed_all : (settings : Settings) (events : List Event) (by : List WorkerName) (state : State) → AreGrabbed by state → IsHistory settings state events → AreGrabbed (by ++ grabbers events) (replay settings state events)
+grabbed_all settings [] by state g h = same_by by state g
+grabbed_all settings (e ∷ events) by state g h =
+    subst (λ (ws : List WorkerName). AreGrabbed ws (replay settings (after settings e state) events))
     (append_assoc by (grabbers (e ∷ [])) (grabbers events) ∙ ap (λ (ws : List WorkerName). by ++ ws) (sym (filter_map-append grabber_of (e ∷ []) events)))
-    (grabbed_all rules events (by ++ grabbers (e ∷ [])) (after rules e state) (grabbed_after rules e by state g h.0) h.1)
+    (grabbed_all settings events (by ++ grabbers (e ∷ [])) (after settings e state) (grabbed_after settings e by state g h.0) h.1)
 
-pub grabbed_first : (rules : Profile) → AreGrabbed [] (first rules)
-grabbed_first rules =
+pub grabbed_first : (settings : Settings) → AreGrabbed [] (first settings)
+grabbed_first settings =
     record {
       many = refl;
-      own = λ s k o. absurd (none_open rules s k o);
+      own = λ s k o. absurd (none_open settings s k o);
       lost = λ k w cause is. absurd (let t = standing_given [] k (standing.Lost w cause) standing.Running is in omega (arith, t.0, t.1));
     }
 
 pub jobs_are_lost_with_their_workers_lem : JobsAreLostWithTheirWorkers
-jobs_are_lost_with_their_workers_lem rules r events h = (grabbed_all rules events [] (first rules) (grabbed_first rules) h).lost
+jobs_are_lost_with_their_workers_lem settings r events h = (grabbed_all settings events [] (first settings) (grabbed_first settings) h).lost
 
 -- a slot with an open ticket has a live worker, the one of its last generation
 live_holder : (x : Slot) (k : ℕ) → held_ticket x ≡ Some k → has_generation x (last_generation x) ≡ true
 live_holder (Empty last) k h = absurd (cc)
 live_holder (Live generation runs ticket) k h = eq-eqb generation generation refl
 
-pub held_by_grabber : (rules : Profile) (events : List Event) (state : State) (k : ℕ) → IsSound rules state → AreGrabbed (grabbers events) state → IsOpen state.standings k → IsHeldByGrabber events state k
-held_by_grabber rules events state k sound g o =
+pub held_by_grabber : (settings : Settings) (events : List Event) (state : State) (k : ℕ) → IsSoundState settings state → AreGrabbed (grabbers events) state → IsOpenTicket state.standings k → IsHeldByGrabber events state k
+held_by_grabber settings events state k sound g o =
     let t = sound.held k o in
     (named t.0 (slot_in state.slots t.0), g.own t.0 k t.1, live_holder (slot_in state.slots t.0) k t.1, t.1)

@@ -14,7 +14,7 @@ use Rattle.level_search.specs.Steady.{IsSteady}
 use Rattle.plan_model.specs.declared.answer.Answer.{Answer}
 use Rattle.worker_state.specs.declared.slot.Slot.TheVariants.{Empty}
 use Rattle.plan_model.specs.Planning.{Instance}
-use Rattle.pool_settings.specs.Profile.{Profile}
+use Rattle.pool_settings.specs.Settings.{Settings}
 use Rattle.pool_settings.specs.Slots.{owners, owners_from, live_workers, slots as slot_count}
 use Rattle.pool_settings.specs.Planning.{instance_of}
 use Rattle.worker_state.specs.declared.slot.Slot.{Slot}
@@ -122,13 +122,13 @@ pub rows_differ : (xs ys : List (List ℕ)) (n : ℕ) → xs ≡ ys → get_or x
 rows_differ xs ys n e = ap (λ (zs : List (List ℕ)). get_or zs n []) e
 
 -- the workers whose slots are live
-pub walked : (p : Profile) (slots : List Slot) → length slots ≡ slot_count p → live_workers p (map is_live slots) ≡ live_from 0 (owners p) slots
+pub walked : (p : Settings) (slots : List Slot) → length slots ≡ slot_count p → live_workers p (map is_live slots) ≡ live_from 0 (owners p) slots
 walked p slots e = walk_from [] (owners p) slots (e ∙ sym (length-owners_from 0 p.workers))
 
 abbrev parts : List (ℕ × ℕ) → List (List ℕ) → List ℕ → List ℕ → List ℕ → Instance
 parts live may least most waiting = record { live = live; may = may; least = least; most = most; waiting = waiting }
 
-pub is_instance : (i : Instance) (p : Profile) (slots : List Slot) (waiting : List ℕ) → length slots ≡ slot_count p
+pub is_instance : (i : Instance) (p : Settings) (slots : List Slot) (waiting : List ℕ) → length slots ≡ slot_count p
     → i.live ≡ live_from 0 (owners p) slots → i.may ≡ p.may → i.least ≡ p.least → i.most ≡ p.most → i.waiting ≡ waiting
     → i ≡ instance_of p (map is_live slots) waiting
 is_instance i p slots waiting e live may least most jobs =
@@ -143,7 +143,7 @@ is_instance i p slots waiting e live may least most jobs =
         ∙ ap (λ (x : List ℕ). parts b.live b.may b.least x a.waiting) o
         ∙ ap (λ (x : List ℕ). parts b.live b.may b.least b.most x) w
 
-pub live_of : (i : Instance) (p : Profile) (slots : List Slot) (waiting : List ℕ) → length slots ≡ slot_count p → i ≡ instance_of p (map is_live slots) waiting → i.live ≡ live_from 0 (owners p) slots
+pub live_of : (i : Instance) (p : Settings) (slots : List Slot) (waiting : List ℕ) → length slots ≡ slot_count p → i ≡ instance_of p (map is_live slots) waiting → i.live ≡ live_from 0 (owners p) slots
 live_of i p slots waiting e h = ap (λ (x : Instance). x.live) h ∙ walked p slots e
 
 -- what a search says of the plan that it was lent it says of the plan

@@ -7,7 +7,7 @@ use Rattle.std.proofs.lemmas.List.Sums.{sum_by-cons}
 use Rattle.std.proofs.lemmas.Option.{slice_get-get_or}
 use Rattle.std.proofs.lemmas.Grind.{get_or-set_at}
 use Rattle.std.proofs.lemmas.Bool.{both_ways, cond-false, ne_eqb}
-use Rattle.pool_settings.specs.Profile.{Profile, IsProfile}
+use Rattle.pool_settings.specs.Settings.{Settings, AreSettings}
 use Rattle.plan_model.specs.declared.answer.Answer.{Answer}
 use Rattle.plan_model.specs.declared.answer.Answer.TheVariants as answers
 use Rattle.worker_state.specs.declared.slot.WorkerName.{WorkerName}
@@ -23,9 +23,9 @@ use Rattle.pool_core.specs.declared.event.Event.{Event}
 use Rattle.pool_core.specs.declared.event.Event.TheVariants as event
 use Rattle.pool_core.specs.Machine.{State, first, slot_in, standing_in, replay, IsHistory, IsPossible, after, after_round, with_lost, is_live_in, open_ticket, input_of, slot_after_run}
 use Rattle.plan_model.proofs.Shown.{shown_best}
-use Rattle.pool_core.specs.Kept.{IsBase, IsChapter, IsSound, IsOpen, OpensAt}
+use Rattle.pool_core.specs.Kept.{IsBase, IsChapter, IsSoundState, IsOpenTicket, OpensAt}
 use Rattle.pool_core.specs.Book.{Book, IsStep}
-use Rattle.pool_core.specs.Laws.{Extends, is_grab, is_report, next_generation, HistoriesExtend, HistoriesAreSound, WorkersAreNew, HistoriesCount, ChaptersCount, RoundsAreShown, HistoriesJoin, HistoriesCut, BasesAreSound, EventsCount}
+use Rattle.pool_core.specs.Laws.{ExtendsState, is_grab, is_report, next_generation, HistoriesExtend, HistoriesAreSound, WorkersAreNew, HistoriesCount, ChaptersCount, RoundsAreShown, HistoriesJoin, HistoriesCut, BasesAreSound, EventsCount}
 use Rattle.pool_core.proofs.Tables.{standing_given}
 use Rattle.pool_core.proofs.Sound.{sound_after, generation_last, run_generation}
 use Rattle.pool_core.proofs.Steps.{replay-append, history-append}
@@ -48,7 +48,7 @@ pushed_keeps standings y k x is =
     let t = standing_given standings k x standing.Running is in
     standing_from (standings ++ y ∷ []) k x standing.Running t.0 (omega (arith, t.1, length-append standings (y ∷ []))) (get_or_append_left standings (y ∷ []) standing.Running (k - 1) (omega (arith, t.0, t.1)) ∙ t.2)
 
-lost_keeps : (standings : List Standing) (o : Option ℕ) (w : WorkerName) (cause : Cause) → ((k : ℕ) → o ≡ Some k → IsOpen standings k) → (k : ℕ) (x : Standing) → standing_in standings k ≡ Some x → is_open x ≡ false → standing_in (with_lost standings o w cause) k ≡ Some x
+lost_keeps : (standings : List Standing) (o : Option ℕ) (w : WorkerName) (cause : Cause) → ((k : ℕ) → o ≡ Some k → IsOpenTicket standings k) → (k : ℕ) (x : Standing) → standing_in standings k ≡ Some x → is_open x ≡ false → standing_in (with_lost standings o w cause) k ≡ Some x
 lost_keeps standings None w cause h k x is closed = is
 lost_keeps standings (Some j) w cause h k x is closed = written_keeps standings (j - 1) (standing.Lost w cause) (h j refl).goes_on k x is closed
 
@@ -68,37 +68,37 @@ same_slots : (state : State) (s : ℕ) → last_generation (slot_in state.slots 
 same_slots state s = omega arith
 
 same_jobs : (old new : State) → new.jobs ≡ old.jobs → ((k : ℕ) (x : Standing) → standing_in old.standings k ≡ Some x → is_open x ≡ false → standing_in new.standings k ≡ Some x)
-    → ((s : ℕ) → last_generation (slot_in old.slots s) ≤ last_generation (slot_in new.slots s)) → Extends old new
+    → ((s : ℕ) → last_generation (slot_in old.slots s) ≤ last_generation (slot_in new.slots s)) → ExtendsState old new
 same_jobs old new is h g = record { jobs = ([], is ∙ sym (append-nil old.jobs)); closed = h; generations = g }
 
-round_keeps : (answer : Answer) (state : State) → Extends state (after_round answer state)
+round_keeps : (answer : Answer) (state : State) → ExtendsState state (after_round answer state)
 round_keeps (answers.Planned plan backlog short) state = same_jobs state (after_round (answers.Planned plan backlog short) state) refl (λ k x is closed. is) (same_slots state)
 round_keeps (answers.NoPlan short) state = same_jobs state (after_round (answers.NoPlan short) state) refl (λ k x is closed. is) (same_slots state)
 
-pub extends_after : (rules : Profile) (e : Event) (state : State) → IsSound rules state → IsPossible rules e state → Extends state (after rules e state)
-extends_after rules (event.Join slot) state h p = same_jobs state (after rules (event.Join slot) state) refl (λ k x is closed. is) (no_fall state.slots slot (Live (last_generation (slot_in state.slots slot) + 1) 0 None) (omega arith))
-extends_after rules (event.Load load) state h p = same_jobs state (after rules (event.Load load) state) refl (λ k x is closed. is) (same_slots state)
-extends_after rules (event.Round answer) state h p = round_keeps answer state
-extends_after rules (event.Grab worker handle function now) state h p =
+pub extends_after : (settings : Settings) (e : Event) (state : State) → IsSoundState settings state → IsPossible settings e state → ExtendsState state (after settings e state)
+extends_after settings (event.Join slot) state h p = same_jobs state (after settings (event.Join slot) state) refl (λ k x is closed. is) (no_fall state.slots slot (Live (last_generation (slot_in state.slots slot) + 1) 0 None) (omega arith))
+extends_after settings (event.Load load) state h p = same_jobs state (after settings (event.Load load) state) refl (λ k x is closed. is) (same_slots state)
+extends_after settings (event.Round answer) state h p = round_keeps answer state
+extends_after settings (event.Grab worker handle function now) state h p =
     record {
       jobs = (record { handle = handle; function = function } ∷ [], refl);
       closed = λ k x is closed. pushed_keeps state.standings standing.Running k x is;
       generations = no_fall_of state worker (Live worker.generation (run_count (slot_in state.slots worker.slot)) (Some (length state.standings + 1))) p.0 refl;
     }
-extends_after rules (event.Begin worker ticket) state h p =
-    same_jobs state (after rules (event.Begin worker ticket) state) refl
+extends_after settings (event.Begin worker ticket) state h p =
+    same_jobs state (after settings (event.Begin worker ticket) state) refl
     (written_keeps state.standings (ticket - 1) standing.Reporting (ap is_open (standing_given state.standings ticket standing.Running standing.Running p.2).2))
     (same_slots state)
-extends_after rules (event.Reported worker ticket end) state h p =
-    same_jobs state (after rules (event.Reported worker ticket end) state) refl
+extends_after settings (event.Reported worker ticket end) state h p =
+    same_jobs state (after settings (event.Reported worker ticket end) state) refl
     (written_keeps state.standings (ticket - 1) (standing.Reported end) (ap is_open (standing_given state.standings ticket standing.Reporting standing.Running p.2).2))
-    (no_fall_of state worker (slot_after_run rules worker.generation (run_count (slot_in state.slots worker.slot))) p.0 (run_generation rules worker.generation (run_count (slot_in state.slots worker.slot))))
-extends_after rules (event.Lost worker cause) state h p =
-    same_jobs state (after rules (event.Lost worker cause) state) refl
+    (no_fall_of state worker (slot_after_run settings worker.generation (run_count (slot_in state.slots worker.slot))) p.0 (run_generation settings worker.generation (run_count (slot_in state.slots worker.slot))))
+extends_after settings (event.Lost worker cause) state h p =
+    same_jobs state (after settings (event.Lost worker cause) state) refl
     (lost_keeps state.standings (open_ticket state worker) worker cause (λ k e. h.tickets worker.slot k e))
     (no_fall_of state worker (Empty worker.generation) p refl)
 
-extends_trans : (a b c : State) → Extends a b → Extends b c → Extends a c
+extends_trans : (a b c : State) → ExtendsState a b → ExtendsState b c → ExtendsState a c
 extends_trans a b c h k =
     record {
       jobs = (h.jobs.0 ++ k.jobs.0, k.jobs.1 ∙ ap (λ (xs : List Job). xs ++ k.jobs.0) h.jobs.1 ∙ append_assoc a.jobs h.jobs.0 k.jobs.0);
@@ -106,21 +106,21 @@ extends_trans a b c h k =
       generations = λ s. omega (arith, h.generations s, k.generations s);
     }
 
-extends_all : (rules : Profile) → IsProfile rules → (events : List Event) (state : State) → IsSound rules state → IsHistory rules state events → Extends state (replay rules state events)
-extends_all rules r [] state h p = same_jobs state state refl (λ k x is closed. is) (same_slots state)
-extends_all rules r (e ∷ events) state h p =
-    extends_trans state (after rules e state) (replay rules (after rules e state) events) (extends_after rules e state h p.0)
-    (extends_all rules r events (after rules e state) (sound_after rules e state r h p.0) p.1)
+extends_all : (settings : Settings) → AreSettings settings → (events : List Event) (state : State) → IsSoundState settings state → IsHistory settings state events → ExtendsState state (replay settings state events)
+extends_all settings r [] state h p = same_jobs state state refl (λ k x is closed. is) (same_slots state)
+extends_all settings r (e ∷ events) state h p =
+    extends_trans state (after settings e state) (replay settings (after settings e state) events) (extends_after settings e state h p.0)
+    (extends_all settings r events (after settings e state) (sound_after settings e state r h p.0) p.1)
 
-sound_all : (rules : Profile) → IsProfile rules → (events : List Event) (state : State) → IsSound rules state → IsHistory rules state events → IsSound rules (replay rules state events)
-sound_all rules r [] state h p = h
-sound_all rules r (e ∷ events) state h p = sound_all rules r events (after rules e state) (sound_after rules e state r h p.0) p.1
+sound_all : (settings : Settings) → AreSettings settings → (events : List Event) (state : State) → IsSoundState settings state → IsHistory settings state events → IsSoundState settings (replay settings state events)
+sound_all settings r [] state h p = h
+sound_all settings r (e ∷ events) state h p = sound_all settings r events (after settings e state) (sound_after settings e state r h p.0) p.1
 
 -- a joined history, cut
-history_cut : (rules : Profile) (base : State) (xs ys : List Event) → IsHistory rules base (xs ++ ys) → IsHistory rules base xs × IsHistory rules (replay rules base xs) ys
-history_cut rules base [] ys h = (tt, h)
-history_cut rules base (x ∷ xs) ys h =
-    let t = history_cut rules (after rules x base) xs ys h.1 in ((h.0, t.0), t.1)
+history_cut : (settings : Settings) (base : State) (xs ys : List Event) → IsHistory settings base (xs ++ ys) → IsHistory settings base xs × IsHistory settings (replay settings base xs) ys
+history_cut settings base [] ys h = (tt, h)
+history_cut settings base (x ∷ xs) ys h =
+    let t = history_cut settings (after settings x base) xs ys h.1 in ((h.0, t.0), t.1)
 
 -- the first state is sound
 copy_at : {X : Type 0} (n s : ℕ) (x : X) → get_or (replicate n x) s x ≡ x
@@ -132,38 +132,38 @@ length-copies : {X : Type 0} (n : ℕ) (x : X) → length (replicate n x) ≡ n
 length-copies zero x = refl
 length-copies (suc n) x = ap suc (length-copies n x)
 
-pub none_open : (rules : Profile) (s : ℕ) (k : ℕ) → OpensAt (first rules).slots s k → ⊥
-none_open rules s k o = let e = sym (ap held_ticket (copy_at (slot_count rules) s (Empty 0))) ∙ o in cc
+pub none_open : (settings : Settings) (s : ℕ) (k : ℕ) → OpensAt (first settings).slots s k → ⊥
+none_open settings s k o = let e = sym (ap held_ticket (copy_at (slot_count settings) s (Empty 0))) ∙ o in cc
 
-pub sound_first : (rules : Profile) → IsProfile rules → IsSound rules (first rules)
-sound_first rules r =
+pub sound_first : (settings : Settings) → AreSettings settings → IsSoundState settings (first settings)
+sound_first settings r =
     record {
-      slots = length-copies (slot_count rules) _;
-      grab_times = length-copies (slot_count rules) _;
-      orders = length-copies (slot_count rules) _;
+      slots = length-copies (slot_count settings) _;
+      grab_times = length-copies (slot_count settings) _;
+      orders = length-copies (slot_count settings) _;
       jobs = refl;
-      generations = λ s. omega (arith, ap last_generation (copy_at (slot_count rules) s (Empty 0)));
-      ranges = λ s. subst IsOrder (sym (copy_at (slot_count rules) s no_order)) (record { generation = omega arith; function = tt });
-      runs = λ s. omega (arith, ap run_count (copy_at (slot_count rules) s (Empty 0)), r.max_runs_some);
-      tickets = λ s k o. absurd (none_open rules s k o);
-      alone = λ s t k o q. absurd (none_open rules s k o);
+      generations = λ s. omega (arith, ap last_generation (copy_at (slot_count settings) s (Empty 0)));
+      ranges = λ s. subst IsOrder (sym (copy_at (slot_count settings) s no_order)) (record { generation = omega arith; function = tt });
+      runs = λ s. omega (arith, ap run_count (copy_at (slot_count settings) s (Empty 0)), r.max_runs_some);
+      tickets = λ s k o. absurd (none_open settings s k o);
+      alone = λ s t k o q. absurd (none_open settings s k o);
       held = λ k o. absurd (let t = o.given in omega (arith, o.from_one, t));
     }
 
 pub histories_extend_lem : HistoriesExtend
-histories_extend_lem rules r earlier later h =
-    let t = history_cut rules (first rules) earlier later h in
-    subst (Extends (replay rules (first rules) earlier)) (sym (replay-append rules (first rules) earlier later))
-    (extends_all rules r later (replay rules (first rules) earlier) (sound_all rules r earlier (first rules) (sound_first rules r) t.0) t.1)
+histories_extend_lem settings r earlier later h =
+    let t = history_cut settings (first settings) earlier later h in
+    subst (ExtendsState (replay settings (first settings) earlier)) (sym (replay-append settings (first settings) earlier later))
+    (extends_all settings r later (replay settings (first settings) earlier) (sound_all settings r earlier (first settings) (sound_first settings r) t.0) t.1)
 
 pub rounds_are_shown_lem : RoundsAreShown
-rounds_are_shown_lem rules base earlier later answer h =
-    let p = (history_cut rules base earlier (event.Round answer ∷ later) h).1.0 in
-    (p.0, p.1, p.3, shown_best (input_of rules (replay rules base earlier) p.0) answer p.2 p.3)
+rounds_are_shown_lem settings base earlier later answer h =
+    let p = (history_cut settings base earlier (event.Round answer ∷ later) h).1.0 in
+    (p.0, p.1, p.3, shown_best (input_of settings (replay settings base earlier) p.0) answer p.2 p.3)
 
 pub histories_join_lem : HistoriesJoin
-histories_join_lem rules base earlier later h k =
-    (history-append rules base earlier later h k, replay-append rules base earlier later)
+histories_join_lem settings base earlier later h k =
+    (history-append settings base earlier later h k, replay-append settings base earlier later)
 
 pub length-with_lost : (standings : List Standing) (o : Option ℕ) (w : WorkerName) (cause : Cause) → length (with_lost standings o w cause) ≡ length standings
 length-with_lost standings None w cause = refl
@@ -182,82 +182,82 @@ round_adds : (answer : Answer) (state : State) → Adds (event.Round answer) sta
 round_adds (answers.Planned plan backlog short) state = same_counts (event.Round (answers.Planned plan backlog short)) state (after_round (answers.Planned plan backlog short) state) refl refl refl refl
 round_adds (answers.NoPlan short) state = same_counts (event.Round (answers.NoPlan short)) state (after_round (answers.NoPlan short) state) refl refl refl refl
 
-adds_after : (rules : Profile) (e : Event) (state : State) → IsSound rules state → IsPossible rules e state → Adds e state (after rules e state)
-adds_after rules (event.Join slot) state h p = same_counts (event.Join slot) state (after rules (event.Join slot) state) refl refl refl refl
-adds_after rules (event.Load load) state h p = same_counts (event.Load load) state (after rules (event.Load load) state) refl refl refl refl
-adds_after rules (event.Round answer) state h p = round_adds answer state
-adds_after rules (event.Grab worker handle function now) state h p =
+adds_after : (settings : Settings) (e : Event) (state : State) → IsSoundState settings state → IsPossible settings e state → Adds e state (after settings e state)
+adds_after settings (event.Join slot) state h p = same_counts (event.Join slot) state (after settings (event.Join slot) state) refl refl refl refl
+adds_after settings (event.Load load) state h p = same_counts (event.Load load) state (after settings (event.Load load) state) refl refl refl refl
+adds_after settings (event.Round answer) state h p = round_adds answer state
+adds_after settings (event.Grab worker handle function now) state h p =
     record {
       grabs = omega (arith, length-append state.standings (standing.Running ∷ []));
       reports = omega (arith, count_by-push is_reported state.standings standing.Running);
     }
-adds_after rules (event.Begin worker ticket) state h p =
-    same_counts (event.Begin worker ticket) state (after rules (event.Begin worker ticket) state) refl refl (length-set state.standings (ticket - 1) standing.Reporting) (reported_begin rules state worker ticket p).0
-adds_after rules (event.Reported worker ticket end) state h p =
+adds_after settings (event.Begin worker ticket) state h p =
+    same_counts (event.Begin worker ticket) state (after settings (event.Begin worker ticket) state) refl refl (length-set state.standings (ticket - 1) standing.Reporting) (reported_begin settings state worker ticket p).0
+adds_after settings (event.Reported worker ticket end) state h p =
     record {
       grabs = omega (arith, length-set state.standings (ticket - 1) (standing.Reported end));
-      reports = omega (arith, (reported_reported rules state worker ticket end p).0);
+      reports = omega (arith, (reported_reported settings state worker ticket end p).0);
     }
-adds_after rules (event.Lost worker cause) state h p =
-    same_counts (event.Lost worker cause) state (after rules (event.Lost worker cause) state) refl refl (length-with_lost state.standings (open_ticket state worker) worker cause) (counts_lost rules state worker cause h p).1
+adds_after settings (event.Lost worker cause) state h p =
+    same_counts (event.Lost worker cause) state (after settings (event.Lost worker cause) state) refl refl (length-with_lost state.standings (open_ticket state worker) worker cause) (counts_lost settings state worker cause h p).1
 
 -- what a history adds to the two counts
-pub counts_replayed : (rules : Profile) → IsProfile rules → (events : List Event) (state : State) → IsSound rules state → IsHistory rules state events
-    → (length (replay rules state events).standings ≡ length state.standings + count_by is_grab events)
-    × (count_by is_reported (replay rules state events).standings ≡ count_by is_reported state.standings + count_by is_report events)
-counts_replayed rules r [] state h p = (omega arith, omega arith)
-counts_replayed rules r (e ∷ events) state h p =
-    let a = adds_after rules e state h p.0 in
-    let t = counts_replayed rules r events (after rules e state) (sound_after rules e state r h p.0) p.1 in (
+pub counts_replayed : (settings : Settings) → AreSettings settings → (events : List Event) (state : State) → IsSoundState settings state → IsHistory settings state events
+    → (length (replay settings state events).standings ≡ length state.standings + count_by is_grab events)
+    × (count_by is_reported (replay settings state events).standings ≡ count_by is_reported state.standings + count_by is_report events)
+counts_replayed settings r [] state h p = (omega arith, omega arith)
+counts_replayed settings r (e ∷ events) state h p =
+    let a = adds_after settings e state h p.0 in
+    let t = counts_replayed settings r events (after settings e state) (sound_after settings e state r h p.0) p.1 in (
       omega (arith, t.0, a.grabs, sum_by-cons (one_if is_grab) e events),
       omega (arith, t.1, a.reports, sum_by-cons (one_if is_report) e events),
     )
 
 pub histories_are_sound_lem : HistoriesAreSound
-histories_are_sound_lem rules r events h = sound_all rules r events (first rules) (sound_first rules r) h
+histories_are_sound_lem settings r events h = sound_all settings r events (first settings) (sound_first settings r) h
 
 -- the generation of a slot after a worker joined it, and ever after
-joined_stays : (rules : Profile) → IsProfile rules → (state : State) (slot : ℕ) (events : List Event) → IsSound rules state → IsHistory rules state (event.Join slot ∷ events)
-    → next_generation state slot < next_generation (replay rules state (event.Join slot ∷ events)) slot
-joined_stays rules r state slot events h p =
+joined_stays : (settings : Settings) → AreSettings settings → (state : State) (slot : ℕ) (events : List Event) → IsSoundState settings state → IsHistory settings state (event.Join slot ∷ events)
+    → next_generation state slot < next_generation (replay settings state (event.Join slot ∷ events)) slot
+joined_stays settings r state slot events h p =
     let new = Live (last_generation (slot_in state.slots slot) + 1) 0 None in
     let here : last_generation (get_or (set state.slots slot new) slot (Empty 0)) ≡ last_generation (slot_in state.slots slot) + 1 = ap last_generation (get_or-set_at state.slots slot slot new (Empty 0) refl p.0.0) in
-    let later = extends_all rules r events (after rules (event.Join slot) state) (sound_after rules (event.Join slot) state r h p.0) p.1 in
+    let later = extends_all settings r events (after settings (event.Join slot) state) (sound_after settings (event.Join slot) state r h p.0) p.1 in
     omega (arith, here, later.generations slot)
 
 pub workers_are_new_lem : WorkersAreNew
-workers_are_new_lem rules r earlier between later slot h =
-    let t = history_cut rules (first rules) earlier (event.Join slot ∷ (between ++ event.Join slot ∷ later)) h in
-    let base = replay rules (first rules) earlier in
-    let u = history_cut rules (after rules (event.Join slot) base) between (event.Join slot ∷ later) t.1.1 in
-    subst (λ (s : State). next_generation base slot < next_generation s slot) (sym (replay-append rules (first rules) earlier (event.Join slot ∷ between)))
-    (joined_stays rules r base slot between (sound_all rules r earlier (first rules) (sound_first rules r) t.0) (t.1.0, u.0))
+workers_are_new_lem settings r earlier between later slot h =
+    let t = history_cut settings (first settings) earlier (event.Join slot ∷ (between ++ event.Join slot ∷ later)) h in
+    let base = replay settings (first settings) earlier in
+    let u = history_cut settings (after settings (event.Join slot) base) between (event.Join slot ∷ later) t.1.1 in
+    subst (λ (s : State). next_generation base slot < next_generation s slot) (sym (replay-append settings (first settings) earlier (event.Join slot ∷ between)))
+    (joined_stays settings r base slot between (sound_all settings r earlier (first settings) (sound_first settings r) t.0) (t.1.0, u.0))
 
 pub histories_count_lem : HistoriesCount
-histories_count_lem rules r events h =
-    let t = counts_replayed rules r events (first rules) (sound_first rules r) h in
+histories_count_lem settings r events h =
+    let t = counts_replayed settings r events (first settings) (sound_first settings r) h in
     record {
-      sum = sym (counts_all (replay rules (first rules) events).standings);
+      sum = sym (counts_all (replay settings (first settings) events).standings);
       grabs = omega (arith, t.0);
       reports = omega (arith, t.1);
     }
 
 pub chapters_count_lem : ChaptersCount
-chapters_count_lem rules r base h events p =
-    let t = counts_replayed rules r events base h p in
-    record { sum = sym (counts_all (replay rules base events).standings); grabs = t.0; reports = t.1 }
+chapters_count_lem settings r base h events p =
+    let t = counts_replayed settings r events base h p in
+    record { sum = sym (counts_all (replay settings base events).standings); grabs = t.0; reports = t.1 }
 
 pub histories_cut_lem : HistoriesCut
-histories_cut_lem rules base earlier later h =
-    let t = history_cut rules base earlier later h in (t.0, t.1, replay-append rules base earlier later)
+histories_cut_lem settings base earlier later h =
+    let t = history_cut settings base earlier later h in (t.0, t.1, replay-append settings base earlier later)
 
 pub bases_are_sound_lem : BasesAreSound
-bases_are_sound_lem rules r chapters base h =
-    subst (IsSound rules) (sym h.replays.replayed) (sound_all rules r h.before (first rules) (sound_first rules r) h.replays.history)
+bases_are_sound_lem settings r chapters base h =
+    subst (IsSoundState settings) (sym h.replays.replayed) (sound_all settings r h.before (first settings) (sound_first settings r) h.replays.history)
 
-pub events_count_lem : (book : Book) → IsProfile book.rules → IsChapter book.rules book.chapters book.events book.state → EventsCount book
+pub events_count_lem : (book : Book) → AreSettings book.settings → IsChapter book.settings book.chapters book.events book.state → EventsCount book
 events_count_lem book r k e new s =
-    let based = bases_are_sound_lem book.rules r book.chapters k.base k.begins in
-    let sound : IsSound book.rules book.state = subst (IsSound book.rules) (sym k.replays.replayed) (sound_all book.rules r book.events k.base based k.replays.history) in
-    let a = adds_after book.rules e book.state sound s.possible in
+    let based = bases_are_sound_lem book.settings r book.chapters k.base k.begins in
+    let sound : IsSoundState book.settings book.state = subst (IsSoundState book.settings) (sym k.replays.replayed) (sound_all book.settings r book.events k.base based k.replays.history) in
+    let a = adds_after book.settings e book.state sound s.possible in
     (ap (λ (t : State). length t.standings) s.state ∙ a.grabs, ap (λ (t : State). count_by is_reported t.standings) s.state ∙ a.reports)

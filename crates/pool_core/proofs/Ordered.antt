@@ -86,7 +86,7 @@ empty_ordered what round (Empty last) order h = refl
 empty_ordered what round (Live generation runs ticket) order h = absurd (false≢true (sym h))
 
 pub rounds_order_lem : RoundsOrder
-rounds_order_lem rules state h plan backlog short =
+rounds_order_lem settings state h plan backlog short =
     record {
       live = λ s is.
           let t = live_ordered (what_of (assigned plan s)) (state.rounds + 1) (get_or state.slots s (Empty 0)) (get_or state.orders s no_order) is in

@@ -4,13 +4,13 @@ use Rattle.std.specs.List.{list_all, list_any}
 use Rattle.std.specs.Prelude.{All, ◌==◌, ◌||◌, ◌&&◌, if◌then◌else◌}
 use Rattle.std.proofs.lemmas.Bool.{and_parts, cond_both, eqb-true, false≢true}
 use Rattle.plan_model.specs.Planning.{Instance, assigned, is_permitted, may_have}
-use Rattle.pool_settings.specs.Profile.{Profile, IsProfile}
+use Rattle.pool_settings.specs.Settings.{Settings, AreSettings}
 use Rattle.pool_settings.specs.Slots.{owners, live_workers, slots as slot_count}
 use Rattle.worker_state.specs.declared.order.Order.{Order}
 use Rattle.worker_state.specs.declared.order.What.{What}
 use Rattle.worker_state.specs.declared.slot.Slot.{Slot}
 use Rattle.worker_state.specs.declared.slot.Slot.TheVariants.{Empty, Live}
-use Rattle.worker_state.specs.Orders.{no_order, IsOrder, IsWithin}
+use Rattle.worker_state.specs.Orders.{no_order, IsOrder, IsTaskWithin}
 use Rattle.worker_state.specs.Limits.{max_generation}
 use Rattle.worker_state.specs.Slots.{is_live, last_generation}
 use Rattle.pool_core.specs.Machine.{ordered, orders_from, same_what, what_of}
@@ -32,11 +32,11 @@ rows_below [] machine f limit all h = absurd (false≢true h)
 rows_below (row ∷ rows) zero f limit all h = row_below row f limit (all 0 [] (omega arith)) h
 rows_below (row ∷ rows) (suc machine) f limit all h = rows_below rows machine f limit (λ k d within. all (suc k) d (omega (arith, within))) h
 
-what_within : (i : Instance) → All (λ row. All (λ g. g < 1024) row) i.may → (machine : ℕ) (o : Option ℕ) → may_have i machine o ≡ true → IsWithin (what_of o)
+what_within : (i : Instance) → All (λ row. All (λ g. g < 1024) row) i.may → (machine : ℕ) (o : Option ℕ) → may_have i machine o ≡ true → IsTaskWithin (what_of o)
 what_within i rows machine None h = tt
 what_within i rows machine (Some f) h = rows_below i.may machine f 1024 rows h
 
-order_within : (what : What) (round : ℕ) (slot : Slot) (order : Order) → IsOrder order → last_generation slot ≤ max_generation → (is_live slot ≡ true → IsWithin what) → IsOrder (ordered what round slot order)
+order_within : (what : What) (round : ℕ) (slot : Slot) (order : Order) → IsOrder order → last_generation slot ≤ max_generation → (is_live slot ≡ true → IsTaskWithin what) → IsOrder (ordered what round slot order)
 order_within what round (Empty last) order h few known = h
 order_within what round (Live generation runs ticket) order h few known =
     cond_both ((order.generation == generation) && same_what order.what what) order (record { generation = generation; round = round; what = what }) IsOrder (λ e. h) (λ e. record { generation = few; function = known refl })
@@ -61,11 +61,11 @@ orders_within i rows plan round number (slot ∷ slots) (machine ∷ machines) (
     orders_within i rows plan round (number + 1) slots machines orders (omega arith) t.1 (λ k. few (suc k)) (λ k. known (suc k)) s
 
 -- the orders after a round with a plan
-pub ranges_after : (rules : Profile) → IsProfile rules → (i : Instance) → i.may ≡ rules.may → (slots : List Slot) → length slots ≡ slot_count rules → i.live ≡ live_workers rules (map is_live slots)
+pub ranges_after : (settings : Settings) → AreSettings settings → (i : Instance) → i.may ≡ settings.may → (slots : List Slot) → length slots ≡ slot_count settings → i.live ≡ live_workers settings (map is_live slots)
     → (plan : List (ℕ × Option ℕ)) (round : ℕ) (orders : List Order) → is_permitted i (assigned plan) ≡ true
     → ((s : ℕ) → last_generation (get_or slots s (Empty 0)) ≤ max_generation) → ((s : ℕ) → IsOrder (get_or orders s no_order))
     → (s : ℕ) → IsOrder (get_or (orders_from 0 plan round slots orders) s no_order)
-ranges_after rules r i may slots long live plan round orders permitted few known =
-    let rows : All (λ row. All (λ g. g < 1024) row) rules.may = λ k d within j e inside. omega (arith, r.may_within k d within j e inside, r.functions_few) in
-    orders_within i (subst (λ (m : List (List ℕ)). All (λ row. All (λ g. g < 1024) row) m) (sym may) rows) plan round 0 slots (owners rules) orders (long ∙ sym (length-owners_from 0 rules.workers))
-    (subst (λ (xs : List (ℕ × ℕ)). list_all (λ worker. may_have i worker.1 (assigned plan worker.0)) xs ≡ true) (live ∙ walked rules slots long) permitted) few known
+ranges_after settings r i may slots long live plan round orders permitted few known =
+    let rows : All (λ row. All (λ g. g < 1024) row) settings.may = λ k d within j e inside. omega (arith, r.may_within k d within j e inside, r.functions_few) in
+    orders_within i (subst (λ (m : List (List ℕ)). All (λ row. All (λ g. g < 1024) row) m) (sym may) rows) plan round 0 slots (owners settings) orders (long ∙ sym (length-owners_from 0 settings.workers))
+    (subst (λ (xs : List (ℕ × ℕ)). list_all (λ worker. may_have i worker.1 (assigned plan worker.0)) xs ≡ true) (live ∙ walked settings slots long) permitted) few known

@@ -39,12 +39,12 @@ reporting_is (Some standing.Reporting) h = refl
 reporting_is (Some (standing.Reported end)) h = absurd (false≢true h)
 reporting_is (Some (standing.Lost worker cause)) h = absurd (false≢true h)
 
-pub begin_possible : (book : Book) (w : WorkerName) (k : ℕ) → begin_refusal book w k ≡ None → IsPossible book.rules (event.Begin w k) book.state
+pub begin_possible : (book : Book) (w : WorkerName) (k : ℕ) → begin_refusal book w k ≡ None → IsPossible book.settings (event.Begin w k) book.state
 begin_possible book w k h =
     let t = all_three (is_live_in book.state w) (has_open (open_ticket book.state w) k) (stands is_running (standing_in book.state.standings k)) begin.Gone begin.WrongTicket begin.AlreadyReporting h in
     (t.0, t.1, running_is (standing_in book.state.standings k) t.2)
 
-pub report_possible : (book : Book) (w : WorkerName) (k : ℕ) (end : EndKind) → report_refusal book w k ≡ None → IsPossible book.rules (event.Reported w k end) book.state
+pub report_possible : (book : Book) (w : WorkerName) (k : ℕ) (end : EndKind) → report_refusal book w k ≡ None → IsPossible book.settings (event.Reported w k end) book.state
 report_possible book w k end h =
     let t = all_three (is_live_in book.state w) (has_open (open_ticket book.state w) k) (stands is_reporting (standing_in book.state.standings k)) report.Gone report.WrongTicket report.NotReporting h in
     (t.0, t.1, reporting_is (standing_in book.state.standings k) t.2)
@@ -61,7 +61,7 @@ none_is (Some x) h = absurd (false≢true (sym h))
 
 -- a grab is possible, and there is room for it and the two that close it
 pub grab_possible : (book : Book) (w : WorkerName) → grab_refusal book w ≡ None
-    → (is_live_in book.state w ≡ true) × (open_ticket book.state w ≡ None) × (length book.events + owed book.state + 3 ≤ book.rules.history) × (length book.state.standings < max_tickets)
+    → (is_live_in book.state w ≡ true) × (open_ticket book.state w ≡ None) × (length book.events + owed book.state + 3 ≤ book.settings.history) × (length book.state.standings < max_tickets)
 grab_possible book w h =
     let t = full_or (is_live_in book.state w) (is_some (open_ticket book.state w)) (has_room book 3 && nat_lt (length book.state.standings) max_tickets) grab.Gone grab.Busy grab.HistoryFull h in
     let u = and_parts (has_room book 3) (nat_lt (length book.state.standings) max_tickets) t.2 in
@@ -74,7 +74,7 @@ used_or false false c x y z h = absurd (cc)
 used_or true b c x y z h = absurd (cc)
 
 pub join_possible : (book : Book) (slot : ℕ) → join_refusal book slot ≡ None
-    → (is_live (slot_in book.state.slots slot) ≡ false) × (last_generation (slot_in book.state.slots slot) < max_generation) × (length book.events + owed book.state + 2 ≤ book.rules.history)
+    → (is_live (slot_in book.state.slots slot) ≡ false) × (last_generation (slot_in book.state.slots slot) < max_generation) × (length book.events + owed book.state + 2 ≤ book.settings.history)
 join_possible book slot h =
     let t = used_or (is_live (slot_in book.state.slots slot)) (nat_lt (last_generation (slot_in book.state.slots slot)) max_generation) (has_room book 2) join.AlreadyLive join.GenerationsUsed join.HistoryFull h in
     (t.0, ltb-true _ _ t.1, leb-true _ _ t.2)

@@ -5,7 +5,7 @@ use Rattle.std.proofs.lemmas.List.{get_or-set_other, get_or_append_left, get_or-
 use Rattle.std.proofs.lemmas.Grind.{get_or-set_at}
 use Rattle.std.proofs.lemmas.Bool.{cond_both, ltb-true, false≢true, and_parts, eqb-true, eq-eqb}
 use Rattle.std.proofs.lemmas.Bool.Decides.{nat_tests}
-use Rattle.pool_settings.specs.Profile.{Profile, IsProfile}
+use Rattle.pool_settings.specs.Settings.{Settings, AreSettings}
 use Rattle.plan_model.specs.declared.answer.Answer.{Answer}
 use Rattle.plan_model.specs.declared.answer.Answer.TheVariants as answers
 use Rattle.worker_state.specs.declared.order.Order.{Order}
@@ -22,7 +22,7 @@ use Rattle.worker_state.specs.Limits.{max_generation}
 use Rattle.worker_state.specs.Slots.{has_generation, held_ticket, is_open, last_generation, run_count}
 use Rattle.pool_core.specs.declared.event.Event.TheVariants as event
 use Rattle.pool_core.specs.Machine.{State, slot_in, is_live_in, open_ticket, after, IsPossible, slot_after_run, with_lost, orders_from, after_round, input_of}
-use Rattle.pool_core.specs.Kept.{OpensAt, IsOpen, IsSound}
+use Rattle.pool_core.specs.Kept.{OpensAt, IsOpenTicket, IsSoundState}
 use Rattle.pool_core.proofs.Ranges.{ranges_after}
 use Rattle.pool_core.proofs.Tables.{at_set, live_within, live_has, opens_elsewhere, opens_here, open_is, opens_still, opens_written, empty_none, holds_none, holds_one, standing_given}
 
@@ -32,7 +32,7 @@ generation_last (Empty last) g h = absurd (false≢true h)
 generation_last (Live own runs ticket) g h = grind (arith, nat_tests)
 
 -- a job that goes on after one standing was written went on before, where that one did
-open_before : (standings : List Standing) (i : ℕ) (y : Standing) (k : ℕ) → is_open (get_or standings i standing.Running) ≡ true → IsOpen (set standings i y) k → IsOpen standings k
+open_before : (standings : List Standing) (i : ℕ) (y : Standing) (k : ℕ) → is_open (get_or standings i standing.Running) ≡ true → IsOpenTicket (set standings i y) k → IsOpenTicket standings k
 open_before standings i y k goes h = record { from_one = h.from_one; given = omega (arith, length-set standings i y, h.given); goes_on = by (k - 1 == i) refl }
   where
     by : (b : Bool) → (k - 1 == i) ≡ b → is_open (get_or standings (k - 1) standing.Running) ≡ true
@@ -40,11 +40,11 @@ open_before standings i y k goes h = record { from_one = h.from_one; given = ome
     by false e = ap is_open (sym (get_or-set_other standings i (k - 1) y standing.Running (λ f. false≢true (sym e ∙ eq-eqb (k - 1) i f)))) ∙ h.goes_on
 
 -- a job that goes on after one was closed is another one
-open_other : (standings : List Standing) (j : ℕ) (y : Standing) (k : ℕ) → is_open y ≡ false → 0 < j → j ≤ length standings → IsOpen (set standings (j - 1) y) k → k ≢ j
+open_other : (standings : List Standing) (j : ℕ) (y : Standing) (k : ℕ) → is_open y ≡ false → 0 < j → j ≤ length standings → IsOpenTicket (set standings (j - 1) y) k → k ≢ j
 open_other standings j y k closed from_one given h e =
     false≢true (sym closed ∙ ap is_open (sym (get_or-set_at standings (j - 1) (k - 1) y standing.Running (ap (λ (n : ℕ). n - 1) e) (omega (arith, from_one, given)))) ∙ h.goes_on)
 
-open_beside_before : (standings : List Standing) (j : ℕ) (y : Standing) (k : ℕ) → 0 < j → k ≢ j → IsOpen (set standings (j - 1) y) k → IsOpen standings k
+open_beside_before : (standings : List Standing) (j : ℕ) (y : Standing) (k : ℕ) → 0 < j → k ≢ j → IsOpenTicket (set standings (j - 1) y) k → IsOpenTicket standings k
 open_beside_before standings j y k from_one other h =
     record {
       from_one = h.from_one;
@@ -53,7 +53,7 @@ open_beside_before standings j y k from_one other h =
     }
 
 -- a job that goes on and is not the last one went on before that one
-open_pushed_before : (standings : List Standing) (y : Standing) (k : ℕ) → k ≢ length standings + 1 → IsOpen (standings ++ y ∷ []) k → IsOpen standings k
+open_pushed_before : (standings : List Standing) (y : Standing) (k : ℕ) → k ≢ length standings + 1 → IsOpenTicket (standings ++ y ∷ []) k → IsOpenTicket standings k
 open_pushed_before standings y k other h =
     let given : k ≤ length standings = omega (arith, length-append standings (y ∷ []), h.given, other) in
     record {
@@ -63,7 +63,7 @@ open_pushed_before standings y k other h =
     }
 
 -- one standing written, by one that goes on
-open_stays : (standings : List Standing) (i : ℕ) (y : Standing) (k : ℕ) → is_open y ≡ true → IsOpen standings k → IsOpen (set standings i y) k
+open_stays : (standings : List Standing) (i : ℕ) (y : Standing) (k : ℕ) → is_open y ≡ true → IsOpenTicket standings k → IsOpenTicket (set standings i y) k
 open_stays standings i y k goes h =
     record {
       from_one = h.from_one;
@@ -72,7 +72,7 @@ open_stays standings i y k goes h =
     }
 
 -- one standing written, of another ticket
-open_beside : (standings : List Standing) (j : ℕ) (y : Standing) (k : ℕ) → 0 < j → k ≢ j → IsOpen standings k → IsOpen (set standings (j - 1) y) k
+open_beside : (standings : List Standing) (j : ℕ) (y : Standing) (k : ℕ) → 0 < j → k ≢ j → IsOpenTicket standings k → IsOpenTicket (set standings (j - 1) y) k
 open_beside standings j y k from_one other h =
     record {
       from_one = h.from_one;
@@ -81,7 +81,7 @@ open_beside standings j y k from_one other h =
     }
 
 -- one more standing
-open_pushed : (standings : List Standing) (y : Standing) (k : ℕ) → IsOpen standings k → IsOpen (standings ++ y ∷ []) k
+open_pushed : (standings : List Standing) (y : Standing) (k : ℕ) → IsOpenTicket standings k → IsOpenTicket (standings ++ y ∷ []) k
 open_pushed standings y k h =
     record {
       from_one = h.from_one;
@@ -89,8 +89,8 @@ open_pushed standings y k h =
       goes_on = ap is_open (get_or_append_left standings (y ∷ []) standing.Running (k - 1) (omega (arith, h.from_one, h.given))) ∙ h.goes_on;
     }
 
-pub sound_join : (rules : Profile) (state : State) (slot : ℕ) → 0 < rules.max_runs → IsSound rules state → IsPossible rules (event.Join slot) state → IsSound rules (after rules (event.Join slot) state)
-sound_join rules state slot some h p =
+pub sound_join : (settings : Settings) (state : State) (slot : ℕ) → 0 < settings.max_runs → IsSoundState settings state → IsPossible settings (event.Join slot) state → IsSoundState settings (after settings (event.Join slot) state)
+sound_join settings state slot some h p =
     let last = last_generation (slot_in state.slots slot) in
     let new = Live (last + 1) 0 None in
     record {
@@ -100,7 +100,7 @@ sound_join rules state slot some h p =
       jobs = h.jobs;
       generations = λ s. at_set (λ x. last_generation x ≤ max_generation) state.slots slot new (Empty 0) s (h.generations s) (omega (arith, p.2));
       ranges = λ s. at_set IsOrder state.orders slot _ no_order s (h.ranges s) (record { generation = omega (arith, p.2); function = tt });
-      runs = λ s. at_set (λ x. run_count x < rules.max_runs) state.slots slot new (Empty 0) s (h.runs s) some;
+      runs = λ s. at_set (λ x. run_count x < settings.max_runs) state.slots slot new (Empty 0) s (h.runs s) some;
       tickets = λ s k o. h.tickets s k (opens_elsewhere state.slots slot new s k p.0 refl o).1;
       alone = λ s t k o q. h.alone s t k (opens_elsewhere state.slots slot new s k p.0 refl o).1 (opens_elsewhere state.slots slot new t k p.0 refl q).1;
       held = λ k o.
@@ -108,8 +108,8 @@ sound_join rules state slot some h p =
           (t.0, opens_still state.slots slot new t.0 k (holds_none state.slots slot t.0 k (empty_none (slot_in state.slots slot) p.1) t.1) t.1);
     }
 
-pub sound_begin : (rules : Profile) (state : State) (w : WorkerName) (k : ℕ) → IsSound rules state → IsPossible rules (event.Begin w k) state → IsSound rules (after rules (event.Begin w k) state)
-sound_begin rules state w k h p =
+pub sound_begin : (settings : Settings) (state : State) (w : WorkerName) (k : ℕ) → IsSoundState settings state → IsPossible settings (event.Begin w k) state → IsSoundState settings (after settings (event.Begin w k) state)
+sound_begin settings state w k h p =
     record {
       slots = h.slots;
       grab_times = h.grab_times;
@@ -124,11 +124,11 @@ sound_begin rules state w k h p =
     }
 
 -- runs of the worker that is there
-runs_there : (rules : Profile) (state : State) → IsSound rules state → (slot : ℕ) → run_count (slot_in state.slots slot) < rules.max_runs
-runs_there rules state h slot = h.runs slot
+runs_there : (settings : Settings) (state : State) → IsSoundState settings state → (slot : ℕ) → run_count (slot_in state.slots slot) < settings.max_runs
+runs_there settings state h slot = h.runs slot
 
-generation_there : (rules : Profile) (state : State) → IsSound rules state → (w : WorkerName) → is_live_in state w ≡ true → w.generation ≤ max_generation
-generation_there rules state h w live =
+generation_there : (settings : Settings) (state : State) → IsSoundState settings state → (w : WorkerName) → is_live_in state w ≡ true → w.generation ≤ max_generation
+generation_there settings state h w live =
     omega (arith, generation_last (slot_in state.slots w.slot) w.generation live, h.generations w.slot)
 
 -- the worker's slot is there
@@ -136,15 +136,15 @@ pub worker_within : (state : State) (w : WorkerName) → is_live_in state w ≡ 
 worker_within state w live = live_within state.slots w.slot (live_has (slot_in state.slots w.slot) w.generation live)
 
 -- a ticket that is open in one slot is another than one that is open in another
-other_ticket : (rules : Profile) (state : State) → IsSound rules state → (s t : ℕ) (k j : ℕ) → OpensAt state.slots s k → OpensAt state.slots t j → s ≢ t → k ≢ j
-other_ticket rules state h s t k j o q apart e =
+other_ticket : (settings : Settings) (state : State) → IsSoundState settings state → (s t : ℕ) (k j : ℕ) → OpensAt state.slots s k → OpensAt state.slots t j → s ≢ t → k ≢ j
+other_ticket settings state h s t k j o q apart e =
     apart (h.alone s t k o (q ∙ ap (λ (n : ℕ). let o : Option ℕ = Some n in o) (sym e)))
 
-pub sound_grab : (rules : Profile) (state : State) (w : WorkerName) (handle function : List ℕ) (now : ℕ) → IsSound rules state → is_live_in state w ≡ true → open_ticket state w ≡ None → IsSound rules (after rules (event.Grab w handle function now) state)
-sound_grab rules state w handle function now h live idle =
+pub sound_grab : (settings : Settings) (state : State) (w : WorkerName) (handle function : List ℕ) (now : ℕ) → IsSoundState settings state → is_live_in state w ≡ true → open_ticket state w ≡ None → IsSoundState settings (after settings (event.Grab w handle function now) state)
+sound_grab settings state w handle function now h live idle =
     let next : ℕ = (length state.standings + 1) in
     let new = Live w.generation (run_count (slot_in state.slots w.slot)) (Some next) in
-    let fresh : IsOpen (state.standings ++ standing.Running ∷ []) next = record {
+    let fresh : IsOpenTicket (state.standings ++ standing.Running ∷ []) next = record {
       from_one = omega arith;
       given = omega (arith, length-append state.standings (standing.Running ∷ []));
       goes_on = ap is_open (get_or-append_right state.standings (standing.Running ∷ []) (length state.standings) (length state.standings + 1 - 1) standing.Running refl (omega arith)) ∙ ap (λ n. is_open (get_or (standing.Running ∷ []) n standing.Running)) (let e : length state.standings + 1 - 1 - length state.standings ≡ 0 = omega arith in e);
@@ -155,11 +155,11 @@ sound_grab rules state w handle function now h live idle =
       grab_times = length-set state.grab_times w.slot now ∙ h.grab_times;
       orders = h.orders;
       jobs = omega (arith, h.jobs, length-append state.jobs (record { handle = handle; function = function } ∷ []), length-append state.standings (standing.Running ∷ []));
-      generations = λ s. at_set (λ x. last_generation x ≤ max_generation) state.slots w.slot new (Empty 0) s (h.generations s) (generation_there rules state h w live);
+      generations = λ s. at_set (λ x. last_generation x ≤ max_generation) state.slots w.slot new (Empty 0) s (h.generations s) (generation_there settings state h w live);
       ranges = h.ranges;
-      runs = λ s. at_set (λ x. run_count x < rules.max_runs) state.slots w.slot new (Empty 0) s (h.runs s) (runs_there rules state h w.slot);
+      runs = λ s. at_set (λ x. run_count x < settings.max_runs) state.slots w.slot new (Empty 0) s (h.runs s) (runs_there settings state h w.slot);
       tickets = λ s k o. elim (opens_here state.slots w.slot new s k o) [
-        | inl t ↦ subst (IsOpen (state.standings ++ standing.Running ∷ [])) (let e : next ≡ k = cc in e) fresh
+        | inl t ↦ subst (IsOpenTicket (state.standings ++ standing.Running ∷ [])) (let e : next ≡ k = cc in e) fresh
         | inr t ↦ open_pushed state.standings standing.Running k (h.tickets s k t.1)
       ];
       alone = λ s t k o q. elim (opens_here state.slots w.slot new s k o) [
@@ -175,7 +175,7 @@ sound_grab rules state w handle function now h live idle =
       held = λ k o. held k o (k == next) refl;
     }
   where
-    held : (k : ℕ) → IsOpen (state.standings ++ standing.Running ∷ []) k → (b : Bool) → (k == length state.standings + 1) ≡ b
+    held : (k : ℕ) → IsOpenTicket (state.standings ++ standing.Running ∷ []) k → (b : Bool) → (k == length state.standings + 1) ≡ b
         → (s : ℕ) × OpensAt (set state.slots w.slot (Live w.generation (run_count (slot_in state.slots w.slot)) (Some (length state.standings + 1)))) s k
     held k o true e =
         let here : OpensAt (set state.slots w.slot (Live w.generation (run_count (slot_in state.slots w.slot)) (Some (length state.standings + 1)))) w.slot (length state.standings + 1) =
@@ -186,9 +186,9 @@ sound_grab rules state w handle function now h live idle =
         (t.0, opens_still state.slots w.slot _ t.0 k (holds_none state.slots w.slot t.0 k idle t.1) t.1)
 
 -- a slot that is given up, with its ticket's standing
-cleared : (rules : Profile) (state : State) (slot : ℕ) (new : Slot) (k : ℕ) (y : Standing) → IsSound rules state → slot < length state.slots → held_ticket new ≡ None → last_generation new ≤ max_generation → run_count new < rules.max_runs → is_open y ≡ false → OpensAt state.slots slot k
-    → IsSound rules (record state { slots = set state.slots slot new; standings = set state.standings (k - 1) y })
-cleared rules state slot new k y h within none generation runs closed own =
+cleared : (settings : Settings) (state : State) (slot : ℕ) (new : Slot) (k : ℕ) (y : Standing) → IsSoundState settings state → slot < length state.slots → held_ticket new ≡ None → last_generation new ≤ max_generation → run_count new < settings.max_runs → is_open y ≡ false → OpensAt state.slots slot k
+    → IsSoundState settings (record state { slots = set state.slots slot new; standings = set state.standings (k - 1) y })
+cleared settings state slot new k y h within none generation runs closed own =
     record {
       slots = length-set state.slots slot new ∙ h.slots;
       grab_times = h.grab_times;
@@ -196,10 +196,10 @@ cleared rules state slot new k y h within none generation runs closed own =
       jobs = h.jobs ∙ sym (length-set state.standings (k - 1) y);
       generations = λ s. at_set (λ x. last_generation x ≤ max_generation) state.slots slot new (Empty 0) s (h.generations s) generation;
       ranges = h.ranges;
-      runs = λ s. at_set (λ x. run_count x < rules.max_runs) state.slots slot new (Empty 0) s (h.runs s) runs;
+      runs = λ s. at_set (λ x. run_count x < settings.max_runs) state.slots slot new (Empty 0) s (h.runs s) runs;
       tickets = λ s j o.
           let e = opens_elsewhere state.slots slot new s j within none o in
-          open_beside state.standings k y j (h.tickets slot k own).from_one (other_ticket rules state h s slot j k e.1 own e.0) (h.tickets s j e.1);
+          open_beside state.standings k y j (h.tickets slot k own).from_one (other_ticket settings state h s slot j k e.1 own e.0) (h.tickets s j e.1);
       alone = λ s t j o q. h.alone s t j (opens_elsewhere state.slots slot new s j within none o).1 (opens_elsewhere state.slots slot new t j within none q).1;
       held = λ j o.
           let t = h.tickets slot k own in
@@ -209,9 +209,9 @@ cleared rules state slot new k y h within none generation runs closed own =
     }
 
 -- a slot that is given up without a ticket
-cleared_idle : (rules : Profile) (state : State) (slot : ℕ) (new : Slot) → IsSound rules state → slot < length state.slots → held_ticket new ≡ None → last_generation new ≤ max_generation → run_count new < rules.max_runs → held_ticket (slot_in state.slots slot) ≡ None
-    → IsSound rules (record state { slots = set state.slots slot new })
-cleared_idle rules state slot new h within none generation runs idle =
+cleared_idle : (settings : Settings) (state : State) (slot : ℕ) (new : Slot) → IsSoundState settings state → slot < length state.slots → held_ticket new ≡ None → last_generation new ≤ max_generation → run_count new < settings.max_runs → held_ticket (slot_in state.slots slot) ≡ None
+    → IsSoundState settings (record state { slots = set state.slots slot new })
+cleared_idle settings state slot new h within none generation runs idle =
     record {
       slots = length-set state.slots slot new ∙ h.slots;
       grab_times = h.grab_times;
@@ -219,7 +219,7 @@ cleared_idle rules state slot new h within none generation runs idle =
       jobs = h.jobs;
       generations = λ s. at_set (λ x. last_generation x ≤ max_generation) state.slots slot new (Empty 0) s (h.generations s) generation;
       ranges = h.ranges;
-      runs = λ s. at_set (λ x. run_count x < rules.max_runs) state.slots slot new (Empty 0) s (h.runs s) runs;
+      runs = λ s. at_set (λ x. run_count x < settings.max_runs) state.slots slot new (Empty 0) s (h.runs s) runs;
       tickets = λ s j o. h.tickets s j (opens_elsewhere state.slots slot new s j within none o).1;
       alone = λ s t j o q. h.alone s t j (opens_elsewhere state.slots slot new s j within none o).1 (opens_elsewhere state.slots slot new t j within none q).1;
       held = λ j o.
@@ -228,61 +228,61 @@ cleared_idle rules state slot new h within none generation runs idle =
     }
 
 -- the slot after one more run: its ticket, generation and runs
-pub run_none : (rules : Profile) (g r : ℕ) → held_ticket (slot_after_run rules g r) ≡ None
-run_none rules g r = cond_both (nat_lt (r + 1) rules.max_runs) (Live g (r + 1) None) (Empty g) (λ x. held_ticket x ≡ None) (λ e. refl) (λ e. refl)
+pub run_none : (settings : Settings) (g r : ℕ) → held_ticket (slot_after_run settings g r) ≡ None
+run_none settings g r = cond_both (nat_lt (r + 1) settings.max_runs) (Live g (r + 1) None) (Empty g) (λ x. held_ticket x ≡ None) (λ e. refl) (λ e. refl)
 
-pub run_generation : (rules : Profile) (g r : ℕ) → last_generation (slot_after_run rules g r) ≡ g
-run_generation rules g r = cond_both (nat_lt (r + 1) rules.max_runs) (Live g (r + 1) None) (Empty g) (λ x. last_generation x ≡ g) (λ e. refl) (λ e. refl)
+pub run_generation : (settings : Settings) (g r : ℕ) → last_generation (slot_after_run settings g r) ≡ g
+run_generation settings g r = cond_both (nat_lt (r + 1) settings.max_runs) (Live g (r + 1) None) (Empty g) (λ x. last_generation x ≡ g) (λ e. refl) (λ e. refl)
 
-run_runs : (rules : Profile) (g r : ℕ) → 0 < rules.max_runs → run_count (slot_after_run rules g r) < rules.max_runs
-run_runs rules g r some = cond_both (nat_lt (r + 1) rules.max_runs) (Live g (r + 1) None) (Empty g) (λ x. run_count x < rules.max_runs) (λ e. ltb-true (r + 1) rules.max_runs e) (λ e. some)
+run_runs : (settings : Settings) (g r : ℕ) → 0 < settings.max_runs → run_count (slot_after_run settings g r) < settings.max_runs
+run_runs settings g r some = cond_both (nat_lt (r + 1) settings.max_runs) (Live g (r + 1) None) (Empty g) (λ x. run_count x < settings.max_runs) (λ e. ltb-true (r + 1) settings.max_runs e) (λ e. some)
 
-pub sound_reported : (rules : Profile) (state : State) (w : WorkerName) (k : ℕ) (end : EndKind) → 0 < rules.max_runs → IsSound rules state → IsPossible rules (event.Reported w k end) state → IsSound rules (after rules (event.Reported w k end) state)
-sound_reported rules state w k end some h p =
+pub sound_reported : (settings : Settings) (state : State) (w : WorkerName) (k : ℕ) (end : EndKind) → 0 < settings.max_runs → IsSoundState settings state → IsPossible settings (event.Reported w k end) state → IsSoundState settings (after settings (event.Reported w k end) state)
+sound_reported settings state w k end some h p =
     let r = run_count (slot_in state.slots w.slot) in
-    cleared rules state w.slot (slot_after_run rules w.generation r) k (standing.Reported end) h (worker_within state w p.0)
-    (run_none rules w.generation r) (omega (arith, run_generation rules w.generation r, generation_there rules state h w p.0)) (run_runs rules w.generation r some) refl
+    cleared settings state w.slot (slot_after_run settings w.generation r) k (standing.Reported end) h (worker_within state w p.0)
+    (run_none settings w.generation r) (omega (arith, run_generation settings w.generation r, generation_there settings state h w p.0)) (run_runs settings w.generation r some) refl
     (open_is (open_ticket state w) k p.1)
 
-lost_with : (rules : Profile) (state : State) (w : WorkerName) (cause : Cause) (o : Option ℕ) → o ≡ open_ticket state w → 0 < rules.max_runs → IsSound rules state → is_live_in state w ≡ true
-    → IsSound rules (record state { slots = set state.slots w.slot (Empty w.generation); standings = with_lost state.standings o w cause })
-lost_with rules state w cause None e some h live =
-    cleared_idle rules state w.slot (Empty w.generation) h (worker_within state w live) refl (generation_there rules state h w live) some (sym e)
-lost_with rules state w cause (Some k) e some h live =
-    cleared rules state w.slot (Empty w.generation) k (standing.Lost w cause) h (worker_within state w live) refl (generation_there rules state h w live) some refl (sym e)
+lost_with : (settings : Settings) (state : State) (w : WorkerName) (cause : Cause) (o : Option ℕ) → o ≡ open_ticket state w → 0 < settings.max_runs → IsSoundState settings state → is_live_in state w ≡ true
+    → IsSoundState settings (record state { slots = set state.slots w.slot (Empty w.generation); standings = with_lost state.standings o w cause })
+lost_with settings state w cause None e some h live =
+    cleared_idle settings state w.slot (Empty w.generation) h (worker_within state w live) refl (generation_there settings state h w live) some (sym e)
+lost_with settings state w cause (Some k) e some h live =
+    cleared settings state w.slot (Empty w.generation) k (standing.Lost w cause) h (worker_within state w live) refl (generation_there settings state h w live) some refl (sym e)
 
-pub sound_lost : (rules : Profile) (state : State) (w : WorkerName) (cause : Cause) → 0 < rules.max_runs → IsSound rules state → is_live_in state w ≡ true → IsSound rules (after rules (event.Lost w cause) state)
-sound_lost rules state w cause some h live = lost_with rules state w cause (open_ticket state w) refl some h live
+pub sound_lost : (settings : Settings) (state : State) (w : WorkerName) (cause : Cause) → 0 < settings.max_runs → IsSoundState settings state → is_live_in state w ≡ true → IsSoundState settings (after settings (event.Lost w cause) state)
+sound_lost settings state w cause some h live = lost_with settings state w cause (open_ticket state w) refl some h live
 
 pub length-orders_from : (plan : List (ℕ × Option ℕ)) (round number : ℕ) (slots : List Slot) (orders : List Order) → length slots ≡ length orders → length (orders_from number plan round slots orders) ≡ length orders
 length-orders_from plan round number [] orders e = refl
 length-orders_from plan round number (slot ∷ slots) [] e = refl
 length-orders_from plan round number (slot ∷ slots) (order ∷ orders) e = ap suc (length-orders_from plan round (number + 1) slots orders (omega arith))
 
-pub sound_round : (rules : Profile) (answer : Answer) (state : State) → IsProfile rules → IsSound rules state → IsPossible rules (event.Round answer) state → IsSound rules (after_round answer state)
-sound_round rules (answers.Planned plan backlog short) state r h p =
+pub sound_round : (settings : Settings) (answer : Answer) (state : State) → AreSettings settings → IsSoundState settings state → IsPossible settings (event.Round answer) state → IsSoundState settings (after_round answer state)
+sound_round settings (answers.Planned plan backlog short) state r h p =
     record {
       slots = h.slots;
       grab_times = h.grab_times;
       orders = length-orders_from plan (state.rounds + 1) 0 state.slots state.orders (h.slots ∙ sym h.orders) ∙ h.orders;
       jobs = h.jobs;
       generations = h.generations;
-      ranges = ranges_after rules r (input_of rules state p.0) refl state.slots h.slots refl plan (state.rounds + 1) state.orders (and_parts _ _ p.3.permitted).1 h.generations h.ranges;
+      ranges = ranges_after settings r (input_of settings state p.0) refl state.slots h.slots refl plan (state.rounds + 1) state.orders (and_parts _ _ p.3.permitted).1 h.generations h.ranges;
       runs = h.runs;
       tickets = h.tickets;
       alone = h.alone;
       held = h.held;
     }
-sound_round rules (answers.NoPlan short) state r h p =
+sound_round settings (answers.NoPlan short) state r h p =
     record { slots = h.slots; grab_times = h.grab_times; orders = h.orders; jobs = h.jobs; generations = h.generations; ranges = h.ranges; runs = h.runs; tickets = h.tickets; alone = h.alone; held = h.held }
 
 -- every event keeps a state sound
-pub sound_after : (rules : Profile) (e : Event) (state : State) → IsProfile rules → IsSound rules state → IsPossible rules e state → IsSound rules (after rules e state)
-sound_after rules (event.Join slot) state r h p = sound_join rules state slot r.max_runs_some h p
-sound_after rules (event.Load load) state r h p =
+pub sound_after : (settings : Settings) (e : Event) (state : State) → AreSettings settings → IsSoundState settings state → IsPossible settings e state → IsSoundState settings (after settings e state)
+sound_after settings (event.Join slot) state r h p = sound_join settings state slot r.max_runs_some h p
+sound_after settings (event.Load load) state r h p =
     record { slots = h.slots; grab_times = h.grab_times; orders = h.orders; jobs = h.jobs; generations = h.generations; ranges = h.ranges; runs = h.runs; tickets = h.tickets; alone = h.alone; held = h.held }
-sound_after rules (event.Round answer) state r h p = sound_round rules answer state r h p
-sound_after rules (event.Grab worker handle function now) state r h p = sound_grab rules state worker handle function now h p.0 p.1
-sound_after rules (event.Begin worker ticket) state r h p = sound_begin rules state worker ticket h p
-sound_after rules (event.Reported worker ticket end) state r h p = sound_reported rules state worker ticket end r.max_runs_some h p
-sound_after rules (event.Lost worker cause) state r h p = sound_lost rules state worker cause r.max_runs_some h p
+sound_after settings (event.Round answer) state r h p = sound_round settings answer state r h p
+sound_after settings (event.Grab worker handle function now) state r h p = sound_grab settings state worker handle function now h p.0 p.1
+sound_after settings (event.Begin worker ticket) state r h p = sound_begin settings state worker ticket h p
+sound_after settings (event.Reported worker ticket end) state r h p = sound_reported settings state worker ticket end r.max_runs_some h p
+sound_after settings (event.Lost worker cause) state r h p = sound_lost settings state worker cause r.max_runs_some h p

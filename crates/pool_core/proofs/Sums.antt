@@ -3,7 +3,7 @@ use Rattle.std.proofs.Common.{◌≡◌, ℕ, ◌+◌, ◌-◌, ◌<◌, ◌≤�
 use Rattle.std.specs.Prelude.{count_by, sum_by}
 use Rattle.std.proofs.lemmas.List.Sums.{sum_by-set, sum_by_push, sum_by-cons}
 use Rattle.std.proofs.lemmas.Bool.{false≢true}
-use Rattle.pool_settings.specs.Profile.{Profile}
+use Rattle.pool_settings.specs.Settings.{Settings}
 use Rattle.worker_state.specs.declared.slot.Slot.TheVariants.{Empty, Live}
 use Rattle.worker_state.specs.declared.slot.WorkerName.{WorkerName}
 use Rattle.worker_state.specs.declared.cause.Cause.{Cause}
@@ -13,7 +13,7 @@ use Rattle.worker_state.specs.declared.job.Standing.TheVariants as standing
 use Rattle.worker_state.specs.Slots.{is_live, is_open, is_reported, is_lost, closing_events, run_count, last_generation}
 use Rattle.pool_core.specs.declared.event.Event.TheVariants as event
 use Rattle.pool_core.specs.Machine.{State, slot_in, is_live_in, open_ticket, after, IsPossible, owed, with_lost, slot_after_run}
-use Rattle.pool_core.specs.Kept.{IsOpen, IsSound, closing_of, lost_of}
+use Rattle.pool_core.specs.Kept.{IsOpenTicket, IsSoundState, closing_of, lost_of}
 use Rattle.pool_core.proofs.Tables.{live_has, standing_given}
 use Rattle.pool_core.proofs.Sound.{worker_within}
 
@@ -31,15 +31,15 @@ count_by-set p xs i y d a b within is_a is_b =
 pub count_by-push : {X : Type 0} (p : X → Bool) (xs : List X) (y : X) → count_by p (xs ++ y ∷ []) ≡ count_by p xs + cond (p y) 1 0
 count_by-push p xs y = sum_by_push (one_if p) xs y
 
-pub owed_join : (rules : Profile) (state : State) (slot : ℕ) → IsPossible rules (event.Join slot) state → owed (after rules (event.Join slot) state) ≡ owed state + 1
-owed_join rules state slot p =
+pub owed_join : (settings : Settings) (state : State) (slot : ℕ) → IsPossible settings (event.Join slot) state → owed (after settings (event.Join slot) state) ≡ owed state + 1
+owed_join settings state slot p =
     omega (arith, count_by-set is_live state.slots slot (Live (last_generation (slot_in state.slots slot) + 1) 0 None) (Empty 0) false true p.0 p.1 refl)
 
 live_before : (state : State) (w : WorkerName) → is_live_in state w ≡ true → is_live (slot_in state.slots w.slot) ≡ true
 live_before state w live = live_has (slot_in state.slots w.slot) w.generation live
 
-pub owed_grab : (rules : Profile) (state : State) (w : WorkerName) (handle function : List ℕ) (now : ℕ) → is_live_in state w ≡ true → owed (after rules (event.Grab w handle function now) state) ≡ owed state + 2
-owed_grab rules state w handle function now live =
+pub owed_grab : (settings : Settings) (state : State) (w : WorkerName) (handle function : List ℕ) (now : ℕ) → is_live_in state w ≡ true → owed (after settings (event.Grab w handle function now) state) ≡ owed state + 2
+owed_grab settings state w handle function now live =
     omega (
       arith,
       count_by-set is_live state.slots w.slot (Live w.generation (run_count (slot_in state.slots w.slot)) (Some ((length state.standings + 1)))) (Empty 0) true true (worker_within state w live) (live_before state w live) refl,
@@ -51,30 +51,30 @@ sum_written : (f : Standing → ℕ) (standings : List Standing) (k : ℕ) (x y 
 sum_written f standings k x y t =
     omega (arith, sum_by-set f standings (k - 1) y standing.Running (omega (arith, t.0, t.1)), ap f t.2)
 
-pub owed_begin : (rules : Profile) (state : State) (w : WorkerName) (k : ℕ) → IsPossible rules (event.Begin w k) state → owed (after rules (event.Begin w k) state) + 1 ≡ owed state
-owed_begin rules state w k p =
+pub owed_begin : (settings : Settings) (state : State) (w : WorkerName) (k : ℕ) → IsPossible settings (event.Begin w k) state → owed (after settings (event.Begin w k) state) + 1 ≡ owed state
+owed_begin settings state w k p =
     omega (arith, sum_written closing_events state.standings k standing.Running standing.Reporting (standing_given state.standings k standing.Running standing.Running p.2))
 
-pub owed_reported : (rules : Profile) (state : State) (w : WorkerName) (k : ℕ) (end : EndKind) (stays : Bool) → is_live (slot_after_run rules w.generation (run_count (slot_in state.slots w.slot))) ≡ stays → IsPossible rules (event.Reported w k end) state
-    → owed (after rules (event.Reported w k end) state) + 2 ≡ owed state + cond stays 1 0
-owed_reported rules state w k end stays is p =
+pub owed_reported : (settings : Settings) (state : State) (w : WorkerName) (k : ℕ) (end : EndKind) (stays : Bool) → is_live (slot_after_run settings w.generation (run_count (slot_in state.slots w.slot))) ≡ stays → IsPossible settings (event.Reported w k end) state
+    → owed (after settings (event.Reported w k end) state) + 2 ≡ owed state + cond stays 1 0
+owed_reported settings state w k end stays is p =
     omega (
       arith,
       sum_written closing_events state.standings k standing.Reporting (standing.Reported end) (standing_given state.standings k standing.Reporting standing.Running p.2),
-      count_by-set is_live state.slots w.slot (slot_after_run rules w.generation (run_count (slot_in state.slots w.slot))) (Empty 0) true stays (worker_within state w p.0) (live_before state w p.0) is,
+      count_by-set is_live state.slots w.slot (slot_after_run settings w.generation (run_count (slot_in state.slots w.slot))) (Empty 0) true stays (worker_within state w p.0) (live_before state w p.0) is,
     )
 
-pub reported_reported : (rules : Profile) (state : State) (w : WorkerName) (k : ℕ) (end : EndKind) → IsPossible rules (event.Reported w k end) state
+pub reported_reported : (settings : Settings) (state : State) (w : WorkerName) (k : ℕ) (end : EndKind) → IsPossible settings (event.Reported w k end) state
     → (count_by is_reported (set state.standings (k - 1) (standing.Reported end)) ≡ count_by is_reported state.standings + 1) × (count_by is_lost (set state.standings (k - 1) (standing.Reported end)) ≡ count_by is_lost state.standings)
-reported_reported rules state w k end p =
+reported_reported settings state w k end p =
     let t = standing_given state.standings k standing.Reporting standing.Running p.2 in (
       omega (arith, sum_written (one_if is_reported) state.standings k standing.Reporting (standing.Reported end) t),
       omega (arith, sum_written (one_if is_lost) state.standings k standing.Reporting (standing.Reported end) t),
     )
 
-pub reported_begin : (rules : Profile) (state : State) (w : WorkerName) (k : ℕ) → IsPossible rules (event.Begin w k) state
+pub reported_begin : (settings : Settings) (state : State) (w : WorkerName) (k : ℕ) → IsPossible settings (event.Begin w k) state
     → (count_by is_reported (set state.standings (k - 1) standing.Reporting) ≡ count_by is_reported state.standings) × (count_by is_lost (set state.standings (k - 1) standing.Reporting) ≡ count_by is_lost state.standings)
-reported_begin rules state w k p =
+reported_begin settings state w k p =
     let t = standing_given state.standings k standing.Running standing.Running p.2 in (
       omega (arith, sum_written (one_if is_reported) state.standings k standing.Running standing.Reporting t),
       omega (arith, sum_written (one_if is_lost) state.standings k standing.Running standing.Reporting t),
@@ -88,7 +88,7 @@ open_neither (standing.Reported end) h = absurd (false≢true h)
 open_neither (standing.Lost worker cause) h = absurd (false≢true h)
 
 -- what the loss of an open ticket does to the counts
-lost_counts : (standings : List Standing) (o : Option ℕ) (w : WorkerName) (cause : Cause) → ((k : ℕ) → o ≡ Some k → IsOpen standings k)
+lost_counts : (standings : List Standing) (o : Option ℕ) (w : WorkerName) (cause : Cause) → ((k : ℕ) → o ≡ Some k → IsOpenTicket standings k)
     → (sum_by closing_events (with_lost standings o w cause) + closing_of standings o ≡ sum_by closing_events standings)
     × (count_by is_reported (with_lost standings o w cause) ≡ count_by is_reported standings)
     × (count_by is_lost (with_lost standings o w cause) ≡ count_by is_lost standings + lost_of o)
@@ -103,11 +103,11 @@ lost_counts standings (Some k) w cause h =
       omega (arith, sum_written (one_if is_lost) standings k x (standing.Lost w cause) here, ap as_number neither.1),
     )
 
-pub counts_lost : (rules : Profile) (state : State) (w : WorkerName) (cause : Cause) → IsSound rules state → is_live_in state w ≡ true
-    → (owed (after rules (event.Lost w cause) state) + 1 + closing_of state.standings (open_ticket state w) ≡ owed state)
+pub counts_lost : (settings : Settings) (state : State) (w : WorkerName) (cause : Cause) → IsSoundState settings state → is_live_in state w ≡ true
+    → (owed (after settings (event.Lost w cause) state) + 1 + closing_of state.standings (open_ticket state w) ≡ owed state)
     × (count_by is_reported (with_lost state.standings (open_ticket state w) w cause) ≡ count_by is_reported state.standings)
     × (count_by is_lost (with_lost state.standings (open_ticket state w) w cause) ≡ count_by is_lost state.standings + lost_of (open_ticket state w))
-counts_lost rules state w cause h live =
+counts_lost settings state w cause h live =
     let t = lost_counts state.standings (open_ticket state w) w cause (λ k e. h.tickets w.slot k e) in (
       omega (arith, t.0, count_by-set is_live state.slots w.slot (Empty w.generation) (Empty 0) true false (worker_within state w live) (live_before state w live) refl),
       t.1,

@@ -3,7 +3,7 @@ use Rattle.std.proofs.Common.{◌≡◌, ℕ, ◌+◌, ◌-◌, ◌<◌, ◌≤�
 use Rattle.std.specs.Prelude.{count_by, slice_get}
 use Rattle.std.proofs.lemmas.List.Elements.{filter_map-append}
 use Rattle.std.proofs.lemmas.Bool.{false≢true}
-use Rattle.pool_settings.specs.Profile.{Profile}
+use Rattle.pool_settings.specs.Settings.{Settings}
 use Rattle.plan_model.specs.declared.answer.Answer.TheVariants as answers
 use Rattle.worker_state.specs.declared.slot.WorkerName.{WorkerName}
 use Rattle.worker_state.specs.declared.cause.Cause.{Cause}
@@ -14,7 +14,7 @@ use Rattle.worker_state.specs.Slots.{is_open}
 use Rattle.pool_core.specs.declared.event.Event.{Event}
 use Rattle.pool_core.specs.declared.event.Event.TheVariants as event
 use Rattle.pool_core.specs.Machine.{State, first, slot_in, standing_in, is_live_in, replay, IsHistory, IsPossible, after, with_lost, open_ticket}
-use Rattle.pool_core.specs.Kept.{IsSound}
+use Rattle.pool_core.specs.Kept.{IsSoundState}
 use Rattle.pool_core.specs.Laws.{grabber_of, grabbers, is_report_of, times_reported, Happened, IsReportedByGrabber, IsAccountedFor, JobsAreAccountedFor}
 use Rattle.pool_core.proofs.Tables.{standing_given, open_is}
 use Rattle.pool_core.proofs.Sound.{generation_last}
@@ -53,16 +53,16 @@ own_grabber : (by : List WorkerName) (state : State) (w : WorkerName) (j : ℕ) 
 own_grabber by state w j g live o =
     g.own w.slot j o ∙ ap (λ (n : ℕ). let u : Option WorkerName = Some (record { slot = w.slot; generation = n }) in u) (generation_last (slot_in state.slots w.slot) w.generation live)
 
-told_reported : (rules : Profile) (past : List Event) (state : State) (w : WorkerName) (j : ℕ) (end : EndKind) → AreTold past state → AreGrabbed (grabbers past) state → IsPossible rules (event.Reported w j end) state
-    → AreTold (past ++ event.Reported w j end ∷ []) (after rules (event.Reported w j end) state)
-told_reported rules past state w j end h g p =
+told_reported : (settings : Settings) (past : List Event) (state : State) (w : WorkerName) (j : ℕ) (end : EndKind) → AreTold past state → AreGrabbed (grabbers past) state → IsPossible settings (event.Reported w j end) state
+    → AreTold (past ++ event.Reported w j end ∷ []) (after settings (event.Reported w j end) state)
+told_reported settings past state w j end h g p =
     let all = past ++ event.Reported w j end ∷ [] in
     let here : IsReportedByGrabber all j end =
     (w, got_more past (event.Reported w j end) (j - 1) w (own_grabber (grabbers past) state w j g p.0 (open_is (open_ticket state w) j p.1)), (past, [], refl)) in
     record {
       reported = λ k last is. elim (stood state.standings (j - 1) (standing.Reported end) k (standing.Reported last) is) [
         | inl t ↦
-            let from_one = (standing_given (after rules (event.Reported w j end) state).standings k (standing.Reported last) standing.Running is).0 in
+            let from_one = (standing_given (after settings (event.Reported w j end) state).standings k (standing.Reported last) standing.Running is).0 in
             let given = (standing_given state.standings j standing.Reporting standing.Running p.2).0 in
             let same : k ≡ j = omega (arith, t.0, from_one, given) in
             let ends : last ≡ end = let e = t.1 in cc in
@@ -95,56 +95,56 @@ reported_stays standings None w cause k end is = is
 reported_stays standings (Some j) w cause k end is =
     elim (stood standings (j - 1) (standing.Lost w cause) k (standing.Reported end) is) [ inl t ↦ absurd (let e = t.1 in cc) | inr t ↦ t ]
 
-told_after : (rules : Profile) (e : Event) (past : List Event) (state : State) → AreTold past state → AreGrabbed (grabbers past) state → IsPossible rules e state → AreTold (past ++ e ∷ []) (after rules e state)
-told_after rules (event.Join slot) past state h g p = told_more past (event.Join slot) state (after rules (event.Join slot) state) h (λ k x closed is. is)
-told_after rules (event.Load load) past state h g p = told_more past (event.Load load) state (after rules (event.Load load) state) h (λ k x closed is. is)
-told_after rules (event.Round (answers.Planned plan backlog short)) past state h g p =
-    told_more past (event.Round (answers.Planned plan backlog short)) state (after rules (event.Round (answers.Planned plan backlog short)) state) h (λ k x closed is. is)
-told_after rules (event.Round (answers.NoPlan short)) past state h g p =
-    told_more past (event.Round (answers.NoPlan short)) state (after rules (event.Round (answers.NoPlan short)) state) h (λ k x closed is. is)
-told_after rules (event.Grab worker handle function now) past state h g p =
-    told_more past (event.Grab worker handle function now) state (after rules (event.Grab worker handle function now) state) h (λ k x closed is. closed_pushed state.standings k x closed is)
-told_after rules (event.Begin worker ticket) past state h g p =
-    told_more past (event.Begin worker ticket) state (after rules (event.Begin worker ticket) state) h
+told_after : (settings : Settings) (e : Event) (past : List Event) (state : State) → AreTold past state → AreGrabbed (grabbers past) state → IsPossible settings e state → AreTold (past ++ e ∷ []) (after settings e state)
+told_after settings (event.Join slot) past state h g p = told_more past (event.Join slot) state (after settings (event.Join slot) state) h (λ k x closed is. is)
+told_after settings (event.Load load) past state h g p = told_more past (event.Load load) state (after settings (event.Load load) state) h (λ k x closed is. is)
+told_after settings (event.Round (answers.Planned plan backlog short)) past state h g p =
+    told_more past (event.Round (answers.Planned plan backlog short)) state (after settings (event.Round (answers.Planned plan backlog short)) state) h (λ k x closed is. is)
+told_after settings (event.Round (answers.NoPlan short)) past state h g p =
+    told_more past (event.Round (answers.NoPlan short)) state (after settings (event.Round (answers.NoPlan short)) state) h (λ k x closed is. is)
+told_after settings (event.Grab worker handle function now) past state h g p =
+    told_more past (event.Grab worker handle function now) state (after settings (event.Grab worker handle function now) state) h (λ k x closed is. closed_pushed state.standings k x closed is)
+told_after settings (event.Begin worker ticket) past state h g p =
+    told_more past (event.Begin worker ticket) state (after settings (event.Begin worker ticket) state) h
     (λ k x closed is. elim (stood state.standings (ticket - 1) standing.Reporting k x is) [ inl t ↦ absurd (false≢true (sym closed ∙ ap is_open t.1)) | inr t ↦ t ])
-told_after rules (event.Reported worker ticket end) past state h g p = told_reported rules past state worker ticket end h g p
-told_after rules (event.Lost worker cause) past state h g p =
+told_after settings (event.Reported worker ticket end) past state h g p = told_reported settings past state worker ticket end h g p
+told_after settings (event.Lost worker cause) past state h g p =
     record {
       reported = λ k end is. reported_more past (event.Lost worker cause) k end (h.reported k end (reported_stays state.standings (open_ticket state worker) worker cause k end is));
       lost = told_lost past state.standings (open_ticket state worker) worker cause h.lost;
     }
 
-told_all : (rules : Profile) (events past : List Event) (state : State) → AreTold past state → AreGrabbed (grabbers past) state → IsHistory rules state events → AreTold (past ++ events) (replay rules state events)
-told_all rules [] past state h g p = subst (λ (es : List Event). AreTold es state) (sym (append-nil past)) h
-told_all rules (e ∷ events) past state h g p =
-    subst (λ (es : List Event). AreTold es (replay rules (after rules e state) events)) (append_assoc past (e ∷ []) events)
-    (told_all rules events (past ++ e ∷ []) (after rules e state) (told_after rules e past state h g p.0)
-    (subst (λ (ws : List WorkerName). AreGrabbed ws (after rules e state)) (sym (filter_map-append grabber_of past (e ∷ []))) (grabbed_after rules e (grabbers past) state g p.0)) p.1)
+told_all : (settings : Settings) (events past : List Event) (state : State) → AreTold past state → AreGrabbed (grabbers past) state → IsHistory settings state events → AreTold (past ++ events) (replay settings state events)
+told_all settings [] past state h g p = subst (λ (es : List Event). AreTold es state) (sym (append-nil past)) h
+told_all settings (e ∷ events) past state h g p =
+    subst (λ (es : List Event). AreTold es (replay settings (after settings e state) events)) (append_assoc past (e ∷ []) events)
+    (told_all settings events (past ++ e ∷ []) (after settings e state) (told_after settings e past state h g p.0)
+    (subst (λ (ws : List WorkerName). AreGrabbed ws (after settings e state)) (sym (filter_map-append grabber_of past (e ∷ []))) (grabbed_after settings e (grabbers past) state g p.0)) p.1)
 
-told_first : (rules : Profile) → AreTold [] (first rules)
-told_first rules =
+told_first : (settings : Settings) → AreTold [] (first settings)
+told_first settings =
     record {
       reported = λ k end is. absurd (let t = standing_given [] k (standing.Reported end) standing.Running is in omega (arith, t.0, t.1));
       lost = λ k w cause is. absurd (let t = standing_given [] k (standing.Lost w cause) standing.Running is in omega (arith, t.0, t.1));
     }
 
-accounted : (rules : Profile) (events : List Event) (state : State) (k : ℕ) (x : Standing) → IsSound rules state → AreGrabbed (grabbers events) state → AreTold events state
+accounted : (settings : Settings) (events : List Event) (state : State) (k : ℕ) (x : Standing) → IsSoundState settings state → AreGrabbed (grabbers events) state → AreTold events state
     → 0 < k → k ≤ length state.standings → standing_in state.standings k ≡ Some x → count_by (is_report_of k) events ≡ times_reported (Some x) → IsAccountedFor events state k x
-accounted rules events state k standing.Running sound g told from_one given is count =
-    (held_by_grabber rules events state k sound g (record { from_one = from_one; given = given; goes_on = ap is_open (standing_given state.standings k standing.Running standing.Running is).2 }), count)
-accounted rules events state k standing.Reporting sound g told from_one given is count =
-    (held_by_grabber rules events state k sound g (record { from_one = from_one; given = given; goes_on = ap is_open (standing_given state.standings k standing.Reporting standing.Running is).2 }), count)
-accounted rules events state k (standing.Reported end) sound g told from_one given is count = (told.reported k end is, count)
-accounted rules events state k (standing.Lost worker cause) sound g told from_one given is count = (g.lost k worker cause is, told.lost k worker cause is, count)
+accounted settings events state k standing.Running sound g told from_one given is count =
+    (held_by_grabber settings events state k sound g (record { from_one = from_one; given = given; goes_on = ap is_open (standing_given state.standings k standing.Running standing.Running is).2 }), count)
+accounted settings events state k standing.Reporting sound g told from_one given is count =
+    (held_by_grabber settings events state k sound g (record { from_one = from_one; given = given; goes_on = ap is_open (standing_given state.standings k standing.Reporting standing.Running is).2 }), count)
+accounted settings events state k (standing.Reported end) sound g told from_one given is count = (told.reported k end is, count)
+accounted settings events state k (standing.Lost worker cause) sound g told from_one given is count = (g.lost k worker cause is, told.lost k worker cause is, count)
 
 pub jobs_are_accounted_for_lem : JobsAreAccountedFor
-jobs_are_accounted_for_lem rules r events h k from_one given =
-    let state = replay rules (first rules) events in
-    let sound = histories_are_sound_lem rules r events h in
-    let booked = jobs_are_booked_once_lem rules r events h in
-    let g = grabbed_all rules events [] (first rules) (grabbed_first rules) h in
-    let told = told_all rules events [] (first rules) (told_first rules) (grabbed_first rules) h in
+jobs_are_accounted_for_lem settings r events h k from_one given =
+    let state = replay settings (first settings) events in
+    let sound = histories_are_sound_lem settings r events h in
+    let booked = jobs_are_booked_once_lem settings r events h in
+    let g = grabbed_all settings events [] (first settings) (grabbed_first settings) h in
+    let told = told_all settings events [] (first settings) (told_first settings) (grabbed_first settings) h in
     let there : k ≤ length state.standings = omega (arith, given, ap length booked.jobs, sound.jobs) in
     let x = get_or state.standings (k - 1) standing.Running in
     let is = standing_from state.standings k x standing.Running from_one there refl in
-    (x, is, accounted rules events state k x sound g told from_one there is (booked.reports k ∙ ap times_reported is))
+    (x, is, accounted settings events state k x sound g told from_one there is (booked.reports k ∙ ap times_reported is))

@@ -1,6 +1,6 @@
 -- What contracts see of a pool, and what its calls answer.
 use Rattle.std.specs.Prelude.{◌≡◌, ℕ, ◌+◌, ◌&&◌, nat_lt, nat_le, List, [], ◌∷◌, ◌++◌, length, Option, None, Some, Result, Ok, Err, is_some, Bool, true, false, not, if◌then◌else◌, slice_index, count_by, IfSome}
-use Rattle.pool_settings.specs.Profile.{Profile}
+use Rattle.pool_settings.specs.Settings.{Settings}
 use Rattle.worker_state.specs.declared.slot.Slot.{Slot}
 use Rattle.worker_state.specs.declared.order.Order.{Order}
 use Rattle.worker_state.specs.declared.slot.WorkerName.{WorkerName}
@@ -41,24 +41,24 @@ use Rattle.pool_core.specs.declared.answer.StayOrRetire.{StayOrRetire}
 use Rattle.pool_core.specs.declared.answer.StayOrRetire.TheVariants.{Stay, Retire}
 use Rattle.pool_core.specs.Machine.{State, slot_in, has_open, is_live_in, open_ticket, standing_in, IsPossible, after, owed, same_what, input_of, orders_from}
 
--- The value of a pool: what the settings say, its history, and its state
+-- The value of a pool: what the settings say, its history, and its state.
 pub record Book : Type 0 where
-  pub rules : Profile
+  pub settings : Settings
   pub events : List Event
   pub state : State
   pub chapters : ℕ
 
 -- the event happened, and nothing else
 pub record IsStep (event : Event) (old new : Book) : Type 0 where
-  pub possible : IsPossible old.rules event old.state
-  pub state : new.state ≡ after old.rules event old.state
+  pub possible : IsPossible old.settings event old.state
+  pub state : new.state ≡ after old.settings event old.state
   pub events : new.events ≡ old.events ++ event ∷ []
-  pub rules : new.rules ≡ old.rules
+  pub settings : new.settings ≡ old.settings
   pub chapters : new.chapters ≡ old.chapters
 
 -- there is room for q events beside those owed
 abbrev pub has_room : Book → ℕ → Bool
-has_room book q = nat_le (length book.events + owed book.state + q) book.rules.history
+has_room book q = nat_le (length book.events + owed book.state + q) book.settings.history
 
 -- The refusal that is due, want of memory aside: the one of the lowest number.
 
@@ -106,7 +106,7 @@ abbrev pub late_refusal : Book → WorkerName → ℕ → Option ℕ → Option 
 late_refusal book worker now None = Some expire.NoJob
 late_refusal book worker now (Some ticket) =
     if stands is_reporting (standing_in book.state.standings ticket) then Some expire.Reporting
-    else if nat_le (slice_index book.state.grab_times worker.slot + book.rules.job_timeout_ms) now then None
+    else if nat_le (slice_index book.state.grab_times worker.slot + book.settings.job_timeout_ms) now then None
     else Some expire.NotLate
 
 abbrev pub expire_refusal : Book → WorkerName → ℕ → Option ExpireError
@@ -118,7 +118,7 @@ expire_refusal book worker now =
 -- what a worker is told after a report
 abbrev pub stay_or_retire : Book → WorkerName → StayOrRetire
 stay_or_retire book worker =
-    if nat_lt (run_count (slot_in book.state.slots worker.slot) + 1) book.rules.max_runs then Stay else Retire
+    if nat_lt (run_count (slot_in book.state.slots worker.slot) + 1) book.settings.max_runs then Stay else Retire
 
 abbrev pub load_refusal : Book → Option LoadError
 load_refusal book = if has_room book 1 then None else Some load.HistoryFull
@@ -157,8 +157,8 @@ round_refusal book =
     else Some round.NoLoad
 
 -- the input now
-abbrev pub IsInput : Book → Instance → Type 0
-IsInput book input = (load : List Line) × (book.state.load ≡ Some load) × (input ≡ input_of book.rules book.state load)
+abbrev pub IsInputOf : Book → Instance → Type 0
+IsInputOf book input = (load : List Line) × (book.state.load ≡ Some load) × (input ≡ input_of book.settings book.state load)
 
 -- what a round with this answer tells
 abbrev pub ran_of : Answer → State → Ran
@@ -176,7 +176,7 @@ view_refusal book = if is_some book.state.load then None else Some view.NoLoad
 -- The answer keeps the previous plan, cut to what is live and permitted now, where that plan is best and full.
 abbrev pub KeepsPlan : Book → Answer → Type 0
 KeepsPlan book answer =
-    IfSome book.state.load (λ load. IfSome book.state.previous (λ plan. IsSteady (input_of book.rules book.state load) plan answer))
+    IfSome book.state.load (λ load. IfSome book.state.previous (λ plan. IsSteady (input_of book.settings book.state load) plan answer))
 
 abbrev pub chapter_refusal : Book → Option ChapterError
 chapter_refusal book = if nat_lt book.chapters max_chapters then None else Some chapter.ChaptersUsed

@@ -28,10 +28,10 @@ use Rattle.pool_core.specs.declared.error.ReportError.{ReportError}
 use Rattle.pool_core.specs.declared.error.LoseError.{LoseError}
 use Rattle.pool_core.specs.declared.error.ExpireError.{ExpireError}
 use Rattle.pool_core.specs.declared.error.ChapterError.{ChapterError}
-use Rattle.pool_core.specs.Refusal.{is_join_memory, is_load_memory, is_round_memory, is_view_memory, is_grab_memory, is_chapter_memory}
+use Rattle.pool_core.specs.CallRefusals.{is_join_memory, is_load_memory, is_round_memory, is_view_memory, is_grab_memory, is_chapter_memory}
 use Rattle.pool_core.specs.Machine.{slot_in, next_ticket}
 use Rattle.pool_core.specs.Kept.{IsChapter}
-use Rattle.pool_core.specs.Book.{Book, IsStep, IsInput, KeepsPlan, has_round, join_refusal, load_refusal, round_refusal, view_refusal, grab_refusal, begin_refusal, report_refusal, lose_refusal, expire_refusal, chapter_refusal, stay_or_retire, ran_of, next_chapter}
+use Rattle.pool_core.specs.Book.{Book, IsStep, IsInputOf, KeepsPlan, has_round, join_refusal, load_refusal, round_refusal, view_refusal, grab_refusal, begin_refusal, report_refusal, lose_refusal, expire_refusal, chapter_refusal, stay_or_retire, ran_of, next_chapter}
 
 -- The call is this event, or it is refused and changes nothing.
 abbrev pub Makes : {A E : Type 0} → Event → Book → Book → Result A E → Type 0
@@ -66,16 +66,16 @@ Rounds old new result =
 -- A view changes nothing.
 abbrev pub Views : Book → Result (Instance × Option (List (ℕ × Option ℕ))) ViewError → Type 0
 Views book result =
-    IfOk result (λ seen. IsInput book seen.0 × (seen.1 ≡ book.state.previous))
+    IfOk result (λ seen. IsInputOf book seen.0 × (seen.1 ≡ book.state.previous))
     × (due is_view_memory result ≡ view_refusal book)
 
 -- what an adoption says of the input that was offered
 abbrev pub AnswersOffer : {A : Type 0} → Book → Instance → Result A AdoptError → Type 0
-AnswersOffer book input (Ok x) = IsInput book input × (has_round book ≡ true)
+AnswersOffer book input (Ok x) = IsInputOf book input × (has_round book ≡ true)
 AnswersOffer book input (Err adopt.NoLoad) = book.state.load ≡ None
-AnswersOffer book input (Err adopt.Stale) = (is_some book.state.load ≡ true) × (IsInput book input → ⊥)
-AnswersOffer book input (Err adopt.HistoryFull) = IsInput book input × (has_round book ≡ false)
-AnswersOffer book input (Err adopt.Memory) = IsInput book input × (has_round book ≡ true)
+AnswersOffer book input (Err adopt.Stale) = (is_some book.state.load ≡ true) × (IsInputOf book input → ⊥)
+AnswersOffer book input (Err adopt.HistoryFull) = IsInputOf book input × (has_round book ≡ false)
+AnswersOffer book input (Err adopt.Memory) = IsInputOf book input × (has_round book ≡ true)
 
 abbrev pub Adopts : Certificate → Book → Book → Result Ran AdoptError → Type 0
 Adopts certified old new result =
@@ -114,7 +114,7 @@ Expires worker now old new result =
 abbrev pub EndsChapter : Book → Book → Result Chapter ChapterError → Type 0
 EndsChapter old new result =
     IfOk result (λ chapter. (chapter.events.items ≡ old.events) × (chapter.number ≡ old.chapters + 1))
-    × IfOk result (λ chapter. IsChapter old.rules old.chapters chapter.events.items new.state)
+    × IfOk result (λ chapter. IsChapter old.settings old.chapters chapter.events.items new.state)
     × OnOk result (new ≡ next_chapter old)
     × OnErr result (new ≡ old)
     × (due is_chapter_memory result ≡ chapter_refusal old)

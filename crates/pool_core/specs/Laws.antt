@@ -2,7 +2,7 @@
 use Rattle.gear_status.specs.Status.{Line}
 use Rattle.std.specs.Prelude.{◌≡◌, ℕ, ◌+◌, ◌-◌, ◌<◌, ◌≤◌, ◌==◌, List, [], ◌∷◌, ◌++◌, length, Option, None, Some, ◌⊎◌, Bool, true, false, IsTrue, if◌then◌else◌, slice_get, slice_index_or, count_by}
 use Rattle.std.specs.List.{filter_map, flat_map}
-use Rattle.pool_settings.specs.Profile.{Profile, IsProfile}
+use Rattle.pool_settings.specs.Settings.{Settings, AreSettings}
 use Rattle.plan_model.specs.declared.answer.Answer.{Answer}
 use Rattle.plan_model.specs.declared.answer.Answer.TheVariants as answers
 use Rattle.plan_model.specs.Planning.{assigned}
@@ -19,8 +19,8 @@ use Rattle.worker_state.specs.Orders.{no_order}
 use Rattle.pool_core.specs.declared.event.Job.{Job}
 use Rattle.pool_core.specs.declared.event.Event.{Event}
 use Rattle.pool_core.specs.declared.event.Event.TheVariants as event
-use Rattle.pool_core.specs.Kept.{IsBase, IsSound}
-use Rattle.pool_core.specs.Machine.{State, first, slot_in, standing_in, is_live_in, open_ticket, what_of, input_of, after_round, replay, IsHistory, Replays}
+use Rattle.pool_core.specs.Kept.{IsBase, IsSoundState}
+use Rattle.pool_core.specs.Machine.{State, first, slot_in, standing_in, is_live_in, open_ticket, what_of, input_of, after_round, replay, IsHistory, IsReplay}
 use Rattle.pool_core.specs.Book.{Book, IsStep, next_chapter, totals_of}
 
 -- the generation of the next worker of a slot
@@ -28,11 +28,11 @@ abbrev pub next_generation : State → ℕ → ℕ
 next_generation state slot = last_generation (slot_in state.slots slot) + 1
 
 -- the order of a slot; a slot that is not there has none
-abbrev pub order_in : List Order → ℕ → Order
-order_in orders slot = slice_index_or orders slot no_order
+abbrev pub order_at : List Order → ℕ → Order
+order_at orders slot = slice_index_or orders slot no_order
 
--- The jobs have only grown, one that is reported or lost stands as it did, and no slot's last generation is smaller
-pub record Extends (old new : State) : Type 0 where
+-- The jobs have only grown, one that is reported or lost stands as it did, and no slot's last generation is smaller.
+pub record ExtendsState (old new : State) : Type 0 where
   pub jobs : (more : List Job) × (new.jobs ≡ old.jobs ++ more)
   pub closed : (k : ℕ) (x : Standing) → standing_in old.standings k ≡ Some x → is_open x ≡ false → standing_in new.standings k ≡ Some x
   pub generations : (s : ℕ) → last_generation (slot_in old.slots s) ≤ last_generation (slot_in new.slots s)
@@ -96,14 +96,14 @@ abbrev pub times_reported : Option Standing → ℕ
 times_reported None = 0
 times_reported (Some standing) = if is_reported standing then 1 else 0
 
--- Later states extend earlier ones
+-- Later states extend earlier ones.
 abbrev pub HistoriesExtend : Type 0
 HistoriesExtend =
-    (rules : Profile) → IsProfile rules → (earlier later : List Event) → IsHistory rules (first rules) (earlier ++ later)
-    → Extends (replay rules (first rules) earlier) (replay rules (first rules) (earlier ++ later))
+    (settings : Settings) → AreSettings settings → (earlier later : List Event) → IsHistory settings (first settings) (earlier ++ later)
+    → ExtendsState (replay settings (first settings) earlier) (replay settings (first settings) (earlier ++ later))
 
--- Each job is running, reported or lost, and each was grabbed by one event and reported by at most one
-pub record IsCounted (events : List Event) (state : State) : Type 0 where
+-- Each job is running, reported or lost, and each was grabbed by one event and reported by at most one.
+pub record AreJobsCounted (events : List Event) (state : State) : Type 0 where
   pub sum : length state.standings
       ≡ count_by is_open state.standings + count_by is_reported state.standings + count_by is_lost state.standings
   pub grabs : length state.standings ≡ count_by is_grab events
@@ -111,11 +111,11 @@ pub record IsCounted (events : List Event) (state : State) : Type 0 where
 
 abbrev pub HistoriesCount : Type 0
 HistoriesCount =
-    (rules : Profile) → IsProfile rules → (events : List Event) → IsHistory rules (first rules) events
-    → IsCounted events (replay rules (first rules) events)
+    (settings : Settings) → AreSettings settings → (events : List Event) → IsHistory settings (first settings) events
+    → AreJobsCounted events (replay settings (first settings) events)
 
--- The same from any sound base: the base's numbers, and those of the chapter's events
-pub record IsCountedFrom (base : State) (events : List Event) (state : State) : Type 0 where
+-- The same from any sound base: the base's numbers, and those of the chapter's events.
+pub record AreJobsCountedFrom (base : State) (events : List Event) (state : State) : Type 0 where
   pub sum : length state.standings
       ≡ count_by is_open state.standings + count_by is_reported state.standings + count_by is_lost state.standings
   pub grabs : length state.standings ≡ length base.standings + count_by is_grab events
@@ -123,31 +123,32 @@ pub record IsCountedFrom (base : State) (events : List Event) (state : State) : 
 
 abbrev pub ChaptersCount : Type 0
 ChaptersCount =
-    (rules : Profile) → IsProfile rules → (base : State) → IsSound rules base → (events : List Event) → IsHistory rules base events
-    → IsCountedFrom base events (replay rules base events)
+    (settings : Settings) → AreSettings settings → (base : State) → IsSoundState settings base → (events : List Event)
+    → IsHistory settings base events
+    → AreJobsCountedFrom base events (replay settings base events)
 
--- Every state that a history leads to is sound
+-- Every state that a history leads to is sound.
 abbrev pub HistoriesAreSound : Type 0
 HistoriesAreSound =
-    (rules : Profile) → IsProfile rules → (events : List Event) → IsHistory rules (first rules) events
-    → IsSound rules (replay rules (first rules) events)
+    (settings : Settings) → AreSettings settings → (events : List Event) → IsHistory settings (first settings) events
+    → IsSoundState settings (replay settings (first settings) events)
 
--- The jobs are those that were grabbed; a job that is reported was so by one event, and every other by none
+-- The jobs are those that were grabbed; a job that is reported was so by one event, and every other by none.
 pub record IsBooked (events : List Event) (state : State) : Type 0 where
   pub jobs : state.jobs ≡ grabbed_jobs events
   pub reports : (k : ℕ) → count_by (is_report_of k) events ≡ times_reported (standing_in state.standings k)
 
 abbrev pub JobsAreBookedOnce : Type 0
 JobsAreBookedOnce =
-    (rules : Profile) → IsProfile rules → (events : List Event) → IsHistory rules (first rules) events
-    → IsBooked events (replay rules (first rules) events)
+    (settings : Settings) → AreSettings settings → (events : List Event) → IsHistory settings (first settings) events
+    → IsBooked events (replay settings (first settings) events)
 
--- Each lost job is lost with the worker that grabbed it
+-- Each lost job is lost with the worker that grabbed it.
 abbrev pub JobsAreLostWithTheirWorkers : Type 0
 JobsAreLostWithTheirWorkers =
-    (rules : Profile) → IsProfile rules → (events : List Event) → IsHistory rules (first rules) events
+    (settings : Settings) → AreSettings settings → (events : List Event) → IsHistory settings (first settings) events
     → (k : ℕ) (worker : WorkerName) (cause : Cause)
-    → standing_in (replay rules (first rules) events).standings k ≡ Some (standing.Lost worker cause)
+    → standing_in (replay settings (first settings) events).standings k ≡ Some (standing.Lost worker cause)
     → slice_get (grabbers events) (k - 1) ≡ Some worker
 
 -- the event is one of these
@@ -167,7 +168,7 @@ IsHeldByGrabber events state k =
     × IsTrue (is_live_in state worker) × (open_ticket state worker ≡ Some k)
 
 -- What a history says of a job, by how it stands: it goes on with the worker that grabbed it; it was reported by one event, of that
--- worker and with that end; or it is lost with that worker by an event of that cause. But for the second no event reported it
+-- worker and with that end; or it is lost with that worker by an event of that cause. But for the second no event reported it.
 abbrev pub IsAccountedFor : List Event → State → ℕ → Standing → Type 0
 IsAccountedFor events state k standing.Running = IsHeldByGrabber events state k × (count_by (is_report_of k) events ≡ 0)
 IsAccountedFor events state k standing.Reporting = IsHeldByGrabber events state k × (count_by (is_report_of k) events ≡ 0)
@@ -177,74 +178,78 @@ IsAccountedFor events state k (standing.Lost worker cause) =
     (slice_get (grabbers events) (k - 1) ≡ Some worker) × Happened (event.Lost worker cause) events
     × (count_by (is_report_of k) events ≡ 0)
 
--- Each grabbed job is running, reported once, or lost with its named worker
+-- Each grabbed job is running, reported once, or lost with its named worker.
 abbrev pub JobsAreAccountedFor : Type 0
 JobsAreAccountedFor =
-    (rules : Profile) → IsProfile rules → (events : List Event) → IsHistory rules (first rules) events
+    (settings : Settings) → AreSettings settings → (events : List Event) → IsHistory settings (first settings) events
     → (k : ℕ) → 0 < k → k ≤ length (grabbed_jobs events)
-    → (how : Standing) × (standing_in (replay rules (first rules) events).standings k ≡ Some how)
-    × IsAccountedFor events (replay rules (first rules) events) k how
+    → (how : Standing) × (standing_in (replay settings (first settings) events).standings k ≡ Some how)
+    × IsAccountedFor events (replay settings (first settings) events) k how
 
--- Of two workers that join a slot the later one has the greater generation
+-- Of two workers that join a slot the later one has the greater generation.
 abbrev pub WorkersAreNew : Type 0
 WorkersAreNew =
-    (rules : Profile) → IsProfile rules → (earlier between later : List Event) (slot : ℕ)
-    → IsHistory rules (first rules) (earlier ++ event.Join slot ∷ (between ++ event.Join slot ∷ later))
-    → next_generation (replay rules (first rules) earlier) slot
-    < next_generation (replay rules (first rules) (earlier ++ event.Join slot ∷ between)) slot
+    (settings : Settings) → AreSettings settings → (earlier between later : List Event) (slot : ℕ)
+    → IsHistory settings (first settings) (earlier ++ event.Join slot ∷ (between ++ event.Join slot ∷ later))
+    → next_generation (replay settings (first settings) earlier) slot
+    < next_generation (replay settings (first settings) (earlier ++ event.Join slot ∷ between)) slot
 
 -- After a round with a plan the order of each live worker is its function by the plan, for its generation. Where that was its order
--- before, the order stays, its number too; where not, it has the number of this round. The order of an empty slot is as it was
+-- before, the order stays, its number too; where not, it has the number of this round. The order of an empty slot is as it was.
 pub record FollowsPlan (plan : List (ℕ × Option ℕ)) (round : ℕ) (slots : List Slot) (old new : List Order) : Type 0 where
   pub live : (s : ℕ) → IsTrue (is_live (slot_in slots s))
-      → ((order_in new s).generation ≡ last_generation (slot_in slots s)) × ((order_in new s).what ≡ what_of (assigned plan s))
-  pub stays : (s : ℕ) → IsTrue (is_live (slot_in slots s)) → (order_in old s).generation ≡ last_generation (slot_in slots s)
-      → (order_in old s).what ≡ what_of (assigned plan s) → order_in new s ≡ order_in old s
-  pub numbered : (s : ℕ) → IsTrue (is_live (slot_in slots s)) → (order_in new s ≡ order_in old s) ⊎ ((order_in new s).round ≡ round)
-  pub empty : (s : ℕ) → is_live (slot_in slots s) ≡ false → order_in new s ≡ order_in old s
+      → ((order_at new s).generation ≡ last_generation (slot_in slots s)) × ((order_at new s).what ≡ what_of (assigned plan s))
+  pub stays : (s : ℕ) → IsTrue (is_live (slot_in slots s)) → (order_at old s).generation ≡ last_generation (slot_in slots s)
+      → (order_at old s).what ≡ what_of (assigned plan s) → order_at new s ≡ order_at old s
+  pub numbered : (s : ℕ) → IsTrue (is_live (slot_in slots s)) → (order_at new s ≡ order_at old s) ⊎ ((order_at new s).round ≡ round)
+  pub empty : (s : ℕ) → is_live (slot_in slots s) ≡ false → order_at new s ≡ order_at old s
 
 abbrev pub RoundsOrder : Type 0
 RoundsOrder =
-    (rules : Profile) (state : State) → IsSound rules state → (plan : List (ℕ × Option ℕ)) (backlog : ℕ) (short : Option (List ℕ))
+    (settings : Settings) (state : State) → IsSoundState settings state
+    → (plan : List (ℕ × Option ℕ)) (backlog : ℕ) (short : Option (List ℕ))
     → FollowsPlan plan (state.rounds + 1) state.slots state.orders (after_round (answers.Planned plan backlog short) state).orders
 
--- Each round of a history holds an answer that is shown for the input of the state before it, and so is best of all plans
+-- Each round of a history holds an answer that is shown for the input of the state before it, and so is best of all plans.
 abbrev pub RoundsAreShown : Type 0
 RoundsAreShown =
-    (rules : Profile) (base : State) (earlier later : List Event) (answer : Answer)
-    → IsHistory rules base (earlier ++ event.Round answer ∷ later)
-    → (load : List Line) × ((replay rules base earlier).load ≡ Some load)
-    × Shown (input_of rules (replay rules base earlier) load) answer × Best (input_of rules (replay rules base earlier) load) answer
+    (settings : Settings) (base : State) (earlier later : List Event) (answer : Answer)
+    → IsHistory settings base (earlier ++ event.Round answer ∷ later)
+    → (load : List Line) × ((replay settings base earlier).load ≡ Some load)
+    × Shown (input_of settings (replay settings base earlier) load) answer
+    × Best (input_of settings (replay settings base earlier) load) answer
 
--- Joined lists of events replay one after the other
+-- Joined lists of events replay one after the other.
 abbrev pub HistoriesJoin : Type 0
 HistoriesJoin =
-    (rules : Profile) (base : State) (earlier later : List Event)
-    → IsHistory rules base earlier → IsHistory rules (replay rules base earlier) later
-    → IsHistory rules base (earlier ++ later) × (replay rules base (earlier ++ later) ≡ replay rules (replay rules base earlier) later)
+    (settings : Settings) (base : State) (earlier later : List Event)
+    → IsHistory settings base earlier → IsHistory settings (replay settings base earlier) later
+    → IsHistory settings base (earlier ++ later)
+    × (replay settings base (earlier ++ later) ≡ replay settings (replay settings base earlier) later)
 
--- A history that is cut anywhere, as at the end of a chapter, is two: the first leads to a base, and the second goes on from it
+-- A history that is cut anywhere, as at the end of a chapter, is two: the first leads to a base, and the second goes on from it.
 abbrev pub HistoriesCut : Type 0
 HistoriesCut =
-    (rules : Profile) (base : State) (earlier later : List Event) → IsHistory rules base (earlier ++ later)
-    → IsHistory rules base earlier × IsHistory rules (replay rules base earlier) later
-    × (replay rules base (earlier ++ later) ≡ replay rules (replay rules base earlier) later)
+    (settings : Settings) (base : State) (earlier later : List Event) → IsHistory settings base (earlier ++ later)
+    → IsHistory settings base earlier × IsHistory settings (replay settings base earlier) later
+    × (replay settings base (earlier ++ later) ≡ replay settings (replay settings base earlier) later)
 
--- The base of each chapter of a pool is sound
+-- The base of each chapter of a pool is sound.
 abbrev pub BasesAreSound : Type 0
-BasesAreSound = (rules : Profile) → IsProfile rules → (chapters : ℕ) (base : State) → IsBase rules chapters base → IsSound rules base
+BasesAreSound = (settings : Settings) → AreSettings settings → (chapters : ℕ) (base : State) → IsBase settings chapters base
+    → IsSoundState settings base
 
 abbrev pub one_if : Bool → ℕ
 one_if holds = if holds then 1 else 0
 
--- Each event that may come next counts as one grab, as one report, or as neither
+-- Each event that may come next counts as one grab, as one report, or as neither.
 abbrev pub EventsCount : Book → Type 0
 EventsCount book =
     (e : Event) (new : Book) → IsStep e book new
     → ((totals_of new).grabbed ≡ (totals_of book).grabbed + one_if (is_grab e))
     × ((totals_of new).reported ≡ (totals_of book).reported + one_if (is_report e))
 
--- One call: nothing, or one event
+-- One call: nothing, or one event.
 abbrev pub Called : Book → Book → Type 0
 Called old new = (new ≡ old) ⊎ ((e : Event) × IsStep e old new)
 
@@ -253,7 +258,7 @@ pub record Outcome : Type 0 where
   pub book : Book
   pub handed_out : List Event
 
--- One call: nothing or one event, and nothing is handed out; or the end of a chapter, which hands out all of its events
+-- One call: nothing or one event, and nothing is handed out; or the end of a chapter, which hands out all of its events.
 abbrev pub Leaves : Book → Outcome → Type 0
 Leaves old new =
     (Called old new.book × (new.handed_out ≡ []))
@@ -273,8 +278,8 @@ abbrev pub all_handed_out : List Outcome → List Event
 all_handed_out outcomes = flat_map (λ outcome. outcome.handed_out) outcomes
 
 -- After any list of calls the state is the replay of the events that were handed out and of those that are there, from the base
--- that it was before
+-- that it was before.
 abbrev pub CallsReplay : Type 0
 CallsReplay =
-    (base : State) (book : Book) (calls : List Outcome) → Replays book.rules base book.events book.state → AllCalled book calls
-    → Replays (last_of book calls).rules base (all_handed_out calls ++ (last_of book calls).events) (last_of book calls).state
+    (base : State) (book : Book) (calls : List Outcome) → IsReplay book.settings base book.events book.state → AllCalled book calls
+    → IsReplay (last_of book calls).settings base (all_handed_out calls ++ (last_of book calls).events) (last_of book calls).state

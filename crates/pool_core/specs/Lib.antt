@@ -1,6 +1,6 @@
 pub mod Machine
 pub mod Walk
-pub mod Refusal
+pub mod CallRefusals
 pub mod Book
 pub mod Kept
 pub mod Calls

@@ -2,7 +2,7 @@
 use Rattle.std.specs.Prelude.{◌≡◌, ℕ, ◌+◌, ◌-◌, ◌<◌, ◌==◌, ◌&&◌, nat_lt, List, [], ◌∷◌, ◌++◌, length, Option, None, Some, Bool, true, false, IsTrue, if◌then◌else◌, slice_get, slice_set, slice_index_or, map, replicate, count_by, sum_by}
 use Rattle.plan_model.specs.declared.answer.Answer.{Answer}
 use Rattle.plan_model.specs.declared.answer.Answer.TheVariants as answers
-use Rattle.pool_settings.specs.Profile.{Profile}
+use Rattle.pool_settings.specs.Settings.{Settings}
 use Rattle.plan_model.specs.Planning.{Instance, IsInstance, assigned}
 use Rattle.gear_status.specs.Status.{Line}
 use Rattle.pool_settings.specs.Slots.{slots as slot_count}
@@ -24,7 +24,7 @@ use Rattle.pool_core.specs.declared.event.Job.{Job}
 use Rattle.pool_core.specs.declared.event.Event.{Event}
 use Rattle.pool_core.specs.declared.event.Event.TheVariants as event
 
--- The state. By slot: what it holds, when its last grab was, its order. By ticket, from 1: what was assigned, and how it stands
+-- The state. By slot: what it holds, when its last grab was, its order. By ticket, from 1: what was assigned, and how it stands.
 pub record State : Type 0 where
   pub slots : List Slot
   pub grab_times : List ℕ
@@ -35,12 +35,12 @@ pub record State : Type 0 where
   pub previous : Option (List (ℕ × Option ℕ))
   pub rounds : ℕ
 
-abbrev pub first : Profile → State
-first rules =
+abbrev pub first : Settings → State
+first settings =
     record {
-      slots = replicate (slot_count rules) (Empty 0);
-      grab_times = replicate (slot_count rules) 0;
-      orders = replicate (slot_count rules) no_order;
+      slots = replicate (slot_count settings) (Empty 0);
+      grab_times = replicate (slot_count settings) 0;
+      orders = replicate (slot_count settings) no_order;
       load = None;
       jobs = [];
       standings = [];
@@ -61,8 +61,8 @@ has_open (Some own) ticket = own == ticket
 abbrev pub standing_in : List Standing → ℕ → Option Standing
 standing_in standings ticket = if ticket == 0 then None else slice_get standings (ticket - 1)
 
-abbrev pub job_in : List Job → ℕ → Option Job
-job_in jobs ticket = if ticket == 0 then None else slice_get jobs (ticket - 1)
+abbrev pub job_at : List Job → ℕ → Option Job
+job_at jobs ticket = if ticket == 0 then None else slice_get jobs (ticket - 1)
 
 abbrev pub is_live_in : State → WorkerName → Bool
 is_live_in state worker = has_generation (slot_in state.slots worker.slot) worker.generation
@@ -74,25 +74,25 @@ abbrev pub next_ticket : State → ℕ
 next_ticket state = length state.standings + 1
 
 -- what a round has to plan for
-abbrev pub input_of : Profile → State → List Line → Instance
-input_of rules state load = instance_of rules (map is_live state.slots) (waiting_of rules load)
+abbrev pub input_of : Settings → State → List Line → Instance
+input_of settings state load = instance_of settings (map is_live state.slots) (waiting_of settings load)
 
-abbrev pub IsPossible : Profile → Event → State → Type 0
-IsPossible rules (event.Join slot) state =
+abbrev pub IsPossible : Settings → Event → State → Type 0
+IsPossible settings (event.Join slot) state =
     (slot < length state.slots) × (is_live (slot_in state.slots slot) ≡ false)
     × (last_generation (slot_in state.slots slot) < max_generation)
-IsPossible rules (event.Load load) state = Unit {0}
-IsPossible rules (event.Round answer) state =
-    (load : List Line) × (state.load ≡ Some load) × IsInstance (input_of rules state load) × Shown (input_of rules state load) answer
-IsPossible rules (event.Grab worker handle function now) state =
+IsPossible settings (event.Load load) state = Unit {0}
+IsPossible settings (event.Round answer) state =
+    (load : List Line) × (state.load ≡ Some load) × IsInstance (input_of settings state load) × Shown (input_of settings state load) answer
+IsPossible settings (event.Grab worker handle function now) state =
     IsTrue (is_live_in state worker) × (open_ticket state worker ≡ None)
-IsPossible rules (event.Begin worker ticket) state =
+IsPossible settings (event.Begin worker ticket) state =
     IsTrue (is_live_in state worker) × IsTrue (has_open (open_ticket state worker) ticket)
     × (standing_in state.standings ticket ≡ Some standing.Running)
-IsPossible rules (event.Reported worker ticket end) state =
+IsPossible settings (event.Reported worker ticket end) state =
     IsTrue (is_live_in state worker) × IsTrue (has_open (open_ticket state worker) ticket)
     × (standing_in state.standings ticket ≡ Some standing.Reporting)
-IsPossible rules (event.Lost worker cause) state = IsTrue (is_live_in state worker)
+IsPossible settings (event.Lost worker cause) state = IsTrue (is_live_in state worker)
 
 -- what a worker is to do with this function, or without one
 abbrev pub what_of : Option ℕ → What
@@ -145,52 +145,52 @@ with_lost standings None worker cause = standings
 with_lost standings (Some ticket) worker cause = with_standing standings ticket (standing.Lost worker cause)
 
 -- the slot after one more run
-abbrev pub slot_after_run : Profile → ℕ → ℕ → Slot
-slot_after_run rules generation runs =
-    if nat_lt (runs + 1) rules.max_runs then Live generation (runs + 1) None else Empty generation
+abbrev pub slot_after_run : Settings → ℕ → ℕ → Slot
+slot_after_run settings generation runs =
+    if nat_lt (runs + 1) settings.max_runs then Live generation (runs + 1) None else Empty generation
 
-abbrev pub after : Profile → Event → State → State
-after rules (event.Join slot) state =
+abbrev pub after : Settings → Event → State → State
+after settings (event.Join slot) state =
     record state {
       slots = with_slot state slot (Live (last_generation (slot_in state.slots slot) + 1) 0 None);
       orders = slice_set state.orders slot (record { generation = last_generation (slot_in state.slots slot) + 1; round = 0; what = Idle });
     }
-after rules (event.Load load) state = record state { load = Some load }
-after rules (event.Round answer) state = after_round answer state
-after rules (event.Grab worker handle function now) state =
+after settings (event.Load load) state = record state { load = Some load }
+after settings (event.Round answer) state = after_round answer state
+after settings (event.Grab worker handle function now) state =
     record state {
       slots = with_slot state worker.slot (Live worker.generation (run_count (slot_in state.slots worker.slot)) (Some (next_ticket state)));
       grab_times = slice_set state.grab_times worker.slot now;
       jobs = state.jobs ++ record { handle = handle; function = function } ∷ [];
       standings = state.standings ++ standing.Running ∷ [];
     }
-after rules (event.Begin worker ticket) state =
+after settings (event.Begin worker ticket) state =
     record state { standings = with_standing state.standings ticket standing.Reporting }
-after rules (event.Reported worker ticket end) state =
+after settings (event.Reported worker ticket end) state =
     record state {
-      slots = with_slot state worker.slot (slot_after_run rules worker.generation (run_count (slot_in state.slots worker.slot)));
+      slots = with_slot state worker.slot (slot_after_run settings worker.generation (run_count (slot_in state.slots worker.slot)));
       standings = with_standing state.standings ticket (standing.Reported end);
     }
-after rules (event.Lost worker cause) state =
+after settings (event.Lost worker cause) state =
     record state {
       slots = with_slot state worker.slot (Empty worker.generation);
       standings = with_lost state.standings (open_ticket state worker) worker cause;
     }
 
 -- the state after a list of events
-abbrev pub replay : Profile → State → List Event → State
-replay rules state [] = state
-replay rules state (event ∷ events) = replay rules (after rules event state) events
+abbrev pub replay : Settings → State → List Event → State
+replay settings state [] = state
+replay settings state (event ∷ events) = replay settings (after settings event state) events
 
 -- each event was possible where it stood
-abbrev pub IsHistory : Profile → State → List Event → Type 0
-IsHistory rules state [] = Unit {0}
-IsHistory rules state (event ∷ events) = IsPossible rules event state × IsHistory rules (after rules event state) events
+abbrev pub IsHistory : Settings → State → List Event → Type 0
+IsHistory settings state [] = Unit {0}
+IsHistory settings state (event ∷ events) = IsPossible settings event state × IsHistory settings (after settings event state) events
 
 -- the events are a history from the base, and the state is their replay
-pub record Replays (rules : Profile) (base : State) (events : List Event) (state : State) : Type 0 where
-  pub history : IsHistory rules base events
-  pub replayed : state ≡ replay rules base events
+pub record IsReplay (settings : Settings) (base : State) (events : List Event) (state : State) : Type 0 where
+  pub history : IsHistory settings base events
+  pub replayed : state ≡ replay settings base events
 
 -- events that may still come without asking: a worker's last one, and those that close its job
 abbrev pub owed : State → ℕ

@@ -25,7 +25,7 @@ pub enum JoinError {
 }
 
 impl Labelled for JoinError {
-    ghost use Rattle.pool_core.specs.Refusal.{join_label};
+    ghost use Rattle.pool_core.specs.CallRefusals.{join_label};
 
     ghost label = { join_label };
 
@@ -40,7 +40,7 @@ impl Labelled for JoinError {
 }
 
 impl Refusal for JoinError {
-    ghost use Rattle.pool_core.specs.Refusal.{is_join_memory};
+    ghost use Rattle.pool_core.specs.CallRefusals.{is_join_memory};
 
     ghost is_memory = { is_join_memory };
 }
@@ -57,7 +57,7 @@ pub enum LoadError {
 }
 
 impl Labelled for LoadError {
-    ghost use Rattle.pool_core.specs.Refusal.{load_label};
+    ghost use Rattle.pool_core.specs.CallRefusals.{load_label};
 
     ghost label = { load_label };
 
@@ -70,7 +70,7 @@ impl Labelled for LoadError {
 }
 
 impl Refusal for LoadError {
-    ghost use Rattle.pool_core.specs.Refusal.{is_load_memory};
+    ghost use Rattle.pool_core.specs.CallRefusals.{is_load_memory};
 
     ghost is_memory = { is_load_memory };
 }
@@ -90,7 +90,7 @@ pub enum RoundError {
 }
 
 impl Labelled for RoundError {
-    ghost use Rattle.pool_core.specs.Refusal.{round_label};
+    ghost use Rattle.pool_core.specs.CallRefusals.{round_label};
 
     ghost label = { round_label };
 
@@ -104,7 +104,7 @@ impl Labelled for RoundError {
 }
 
 impl Refusal for RoundError {
-    ghost use Rattle.pool_core.specs.Refusal.{is_round_memory};
+    ghost use Rattle.pool_core.specs.CallRefusals.{is_round_memory};
 
     ghost is_memory = { is_round_memory };
 }
@@ -121,7 +121,7 @@ pub enum ViewError {
 }
 
 impl Labelled for ViewError {
-    ghost use Rattle.pool_core.specs.Refusal.{view_label};
+    ghost use Rattle.pool_core.specs.CallRefusals.{view_label};
 
     ghost label = { view_label };
 
@@ -134,7 +134,7 @@ impl Labelled for ViewError {
 }
 
 impl Refusal for ViewError {
-    ghost use Rattle.pool_core.specs.Refusal.{is_view_memory};
+    ghost use Rattle.pool_core.specs.CallRefusals.{is_view_memory};
 
     ghost is_memory = { is_view_memory };
 }
@@ -157,7 +157,7 @@ pub enum AdoptError {
 }
 
 impl Labelled for AdoptError {
-    ghost use Rattle.pool_core.specs.Refusal.{adopt_label};
+    ghost use Rattle.pool_core.specs.CallRefusals.{adopt_label};
 
     ghost label = { adopt_label };
 
@@ -172,7 +172,7 @@ impl Labelled for AdoptError {
 }
 
 impl Refusal for AdoptError {
-    ghost use Rattle.pool_core.specs.Refusal.{is_adopt_memory};
+    ghost use Rattle.pool_core.specs.CallRefusals.{is_adopt_memory};
 
     ghost is_memory = { is_adopt_memory };
 }
@@ -195,7 +195,7 @@ pub enum GrabError {
 }
 
 impl Labelled for GrabError {
-    ghost use Rattle.pool_core.specs.Refusal.{grab_label};
+    ghost use Rattle.pool_core.specs.CallRefusals.{grab_label};
 
     ghost label = { grab_label };
 
@@ -210,7 +210,7 @@ impl Labelled for GrabError {
 }
 
 impl Refusal for GrabError {
-    ghost use Rattle.pool_core.specs.Refusal.{is_grab_memory};
+    ghost use Rattle.pool_core.specs.CallRefusals.{is_grab_memory};
 
     ghost is_memory = { is_grab_memory };
 }
@@ -230,7 +230,7 @@ pub enum BeginError {
 }
 
 impl Labelled for BeginError {
-    ghost use Rattle.pool_core.specs.Refusal.{begin_label};
+    ghost use Rattle.pool_core.specs.CallRefusals.{begin_label};
 
     ghost label = { begin_label };
 
@@ -264,7 +264,7 @@ pub enum ReportError {
 }
 
 impl Labelled for ReportError {
-    ghost use Rattle.pool_core.specs.Refusal.{report_label};
+    ghost use Rattle.pool_core.specs.CallRefusals.{report_label};
 
     ghost label = { report_label };
 
@@ -292,7 +292,7 @@ pub enum LoseError {
 }
 
 impl Labelled for LoseError {
-    ghost use Rattle.pool_core.specs.Refusal.{lose_label};
+    ghost use Rattle.pool_core.specs.CallRefusals.{lose_label};
 
     ghost label = { lose_label };
 
@@ -327,7 +327,7 @@ pub enum ExpireError {
 }
 
 impl Labelled for ExpireError {
-    ghost use Rattle.pool_core.specs.Refusal.{expire_label};
+    ghost use Rattle.pool_core.specs.CallRefusals.{expire_label};
 
     ghost label = { expire_label };
 
@@ -359,7 +359,7 @@ pub enum ChapterError {
 }
 
 impl Labelled for ChapterError {
-    ghost use Rattle.pool_core.specs.Refusal.{chapter_label};
+    ghost use Rattle.pool_core.specs.CallRefusals.{chapter_label};
 
     ghost label = { chapter_label };
 
@@ -372,7 +372,7 @@ impl Labelled for ChapterError {
 }
 
 impl Refusal for ChapterError {
-    ghost use Rattle.pool_core.specs.Refusal.{is_chapter_memory};
+    ghost use Rattle.pool_core.specs.CallRefusals.{is_chapter_memory};
 
     ghost is_memory = { is_chapter_memory };
 }

@@ -1,7 +1,7 @@
 //! The pool and what it answers without a change. Its calls stand in the files below it, each of one subject.
 ghost use Rattle.std.specs.Prelude.{◌≡◌, ◌+◌, ◌<◌, ◌≤◌, slice_get, IfSome, IfNone, [], Some, None, length, IfOk};
-ghost use Rattle.pool_core.specs.Machine.{first, slot_in, standing_in, job_in, owed};
-ghost use Rattle.pool_settings.specs.Profile.{IsProfile};
+ghost use Rattle.pool_core.specs.Machine.{first, slot_in, standing_in, job_at, owed};
+ghost use Rattle.pool_settings.specs.Settings.{AreSettings};
 ghost use Rattle.worker_state.specs.Orders.{IsOrder};
 ghost use Rattle.pool_core.specs.Kept.{IsChapter};
 ghost use Rattle.pool_core.specs.Book.{Book, has_room, totals_of};
@@ -90,7 +90,7 @@ impl Pool {
     /// A pool of these settings: all slots are empty, there is no load, and nothing has happened. The only error is that memory
     /// was refused.
     pub fn new(alloc: Global, settings: Settings) -> Result<Pool, AllocError>
-        ensures { IfOk result (λ pool. pool ≡ record { rules = settings; events = []; state = first settings; chapters = 0 }) }
+        ensures { IfOk result (λ pool. pool ≡ record { settings = settings; events = []; state = first settings; chapters = 0 }) }
     {
         let count = settings.slots() as usize;
         let slots = table::empty_slots(alloc, count)?;
@@ -151,9 +151,9 @@ impl Pool {
 
     /// The handle and the function of the ticket's job, if it was given.
     pub fn job(&self, ticket: Ticket) -> Option<(&Handle, &[u8])>
-        ensures some { IfSome result (λ job. job_in self.now.state.jobs ticket
+        ensures some { IfSome result (λ job. job_at self.now.state.jobs ticket
             ≡ Some (record { handle = job.0.now; function = job.1.now })) }
-        ensures none { IfNone result (job_in self.now.state.jobs ticket ≡ None) }
+        ensures none { IfNone result (job_at self.now.state.jobs ticket ≡ None) }
     {
         if ticket.number() == 0 {
             return None;
@@ -184,9 +184,9 @@ impl Pool {
     /// the state of now, and with those that are owed they are no more than the settings allow.
     pub fn history(&self) -> &[Event]
         ensures events { result.now ≡ self.now.events }
-        ensures settings { IsProfile self.now.rules }
-        ensures replays { IsChapter self.now.rules self.now.chapters self.now.events self.now.state }
-        ensures within { length self.now.events + owed self.now.state ≤ self.now.rules.history }
+        ensures settings { AreSettings self.now.settings }
+        ensures replays { IsChapter self.now.settings self.now.chapters self.now.events self.now.state }
+        ensures within { length self.now.events + owed self.now.state ≤ self.now.settings.history }
     {
         self.events.as_slice()
     }

@@ -3,7 +3,7 @@ ghost use Rattle.std.specs.Prelude.{◌≡◌, ◌↔◌, ◌<◌, ◌≤◌, �
 ghost use Rattle.plan_model.specs.Planning.{assigned};
 ghost use Rattle.worker_state.specs.Slots.{is_live};
 ghost use Rattle.worker_state.specs.Orders.{no_order, IsOrder};
-ghost use Rattle.pool_settings.specs.Profile.{IsProfile};
+ghost use Rattle.pool_settings.specs.Settings.{AreSettings};
 ghost use Rattle.pool_settings.specs.Slots.{slots as slot_count, owners};
 ghost use Rattle.pool_settings.specs.Planning.{instance_of, waiting_of};
 ghost use Rattle.pool_core.specs.Machine.{what_of, same_what, ordered, orders_from};

@@ -2,7 +2,7 @@
 use Rattle.std.proofs.Common.{◌≡◌, ℕ, List, Bool, true, false, Option, Some, None, Result, Ok, Err, IfOk, OnOk, OnErr, ◌⊎◌, ap, refl, inl, inr}
 use Rattle.std.specs.FinSet as set
 use Rattle.plan_model.specs.Certificate.{Certificate}
-use Rattle.pool_settings.specs.Profile.{Profile}
+use Rattle.pool_settings.specs.Settings.{Settings}
 use Rattle.pool_core.specs.declared.event.Event.{Event}
 use Rattle.pool_core.specs.declared.event.Event.TheVariants as event
 use Rattle.pool_core.specs.declared.answer.Ran.{Ran}
@@ -15,7 +15,7 @@ use Rattle.pool_core.specs.Laws.{Called}
 use Rattle.pool_commands.specs.declared.command.Command.{Command}
 use Rattle.pool_commands.specs.declared.command.Command.TheVariants as command
 use Rattle.pool_replay.specs.declared.desk.Desk.{Desk}
-use Rattle.pool_replay.specs.Step.{StepOf, IfPass, Adopting}
+use Rattle.pool_replay.specs.Step.{StepOf, IfPass, TellsAdoption}
 use Rattle.pool_replay.specs.Law.{DoesTo, is_chapter}
 
 one_event : {A E : Type 0} (result : Result A E) (e : Event) (old new : Book) → OnOk result (IsStep e old new) → OnErr result (new ≡ old) → Called old new
@@ -32,7 +32,7 @@ with_pass : (has : Bool) (Steps : Desk → List ℕ → Desk → Type 0) (old : 
 with_pass true Steps old line new called step = called step
 with_pass false Steps old line new called step = inl (ap (λ d. d.pool) step.1)
 
-adopted : (viewed : Option Certificate) (old : Desk) (line : List ℕ) (new : Desk) → Adopting viewed old line new → Called old.pool new.pool
+adopted : (viewed : Option Certificate) (old : Desk) (line : List ℕ) (new : Desk) → TellsAdoption viewed old line new → Called old.pool new.pool
 adopted None old line new step = inl (ap (λ d. d.pool) step.1)
 adopted (Some viewed) old line new step = one_event step.0 _ old.pool new.pool step.1.0.0 step.1.0.1
 
@@ -41,7 +41,7 @@ ends_chapter : (result : Result Chapter ChapterError) (old new : Book)
 ends_chapter (Ok x) old new ok err = inr ok
 ends_chapter (Err x) old new ok err = inl err
 
-pub called : (p : Profile) (c : Command) (old : Desk) (line : List ℕ) (new : Desk) → StepOf p c old line new → DoesTo c old.pool new.pool
+pub called : (p : Settings) (c : Command) (old : Desk) (line : List ℕ) (new : Desk) → StepOf p c old line new → DoesTo c old.pool new.pool
 called p (command.Join slot) old line new step = one_event step.0 _ old.pool new.pool step.1.0.0 step.1.0.1
 called p (command.Load load) old line new step = one_event step.0 _ old.pool new.pool step.1.0.0 step.1.0.1
 called p command.Round old line new step = rounds step.0 old.pool new.pool step.1.0 step.1.1
@@ -79,6 +79,6 @@ moves command.Totals old new c = inl c
 moves command.Chapter old new (inl same) = inl (inl same)
 moves command.Chapter old new (inr ends) = inr (refl, ends)
 
-pub same_rules : (old new : Book) → Called old new → new.rules ≡ old.rules
-same_rules old new (inl same) = ap (λ b. b.rules) same
-same_rules old new (inr (e, step)) = step.rules
+pub same_rules : (old new : Book) → Called old new → new.settings ≡ old.settings
+same_rules old new (inl same) = ap (λ b. b.settings) same
+same_rules old new (inr (e, step)) = step.settings

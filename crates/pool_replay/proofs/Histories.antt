@@ -1,9 +1,9 @@
 -- A whole transcript is a history of the pool's machine.
 use Rattle.std.proofs.Common.{◌≡◌, ℕ, ◌+◌, ◌≤◌, List, [], ◌∷◌, ◌++◌, Bool, true, cond, Some, count_by, length, suc, refl, sym, ap, subst, ◌∙◌, inl, inr, append_assoc, append-nil, arith}
 use Rattle.std.proofs.lemmas.List.Sums.{sum_by-cons}
-use Rattle.pool_settings.specs.Profile.{Profile}
+use Rattle.pool_settings.specs.Settings.{Settings}
 use Rattle.pool_core.specs.declared.event.Event.{Event}
-use Rattle.pool_core.specs.Machine.{State, Replays}
+use Rattle.pool_core.specs.Machine.{State, IsReplay}
 use Rattle.pool_core.specs.Book.{Book, IsStep, next_chapter}
 use Rattle.pool_core.specs.Laws.{Called}
 use Rattle.pool_commands.specs.Grammar.{command_in}
@@ -27,8 +27,8 @@ widen few most old new fewer (chapters, events, k, at_most) = (chapters, events,
 -- one event, and then more
 more : (most : ℕ) (old middle new : Book) (e : Event) → IsStep e old middle → Comes most middle new → Comes most old new
 more most old middle new e s (chapters, events, k, at_most) =
-    let by_rules : Replays old.rules middle.state events new.state = subst (λ (r : Profile). Replays r middle.state events new.state) s.rules k.replays in
-    let by = subst (λ (t : State). Replays old.rules t events new.state) s.state by_rules in (
+    let by_rules : IsReplay old.settings middle.state events new.state = subst (λ (r : Settings). IsReplay r middle.state events new.state) s.settings k.replays in
+    let by = subst (λ (t : State). IsReplay old.settings t events new.state) s.state by_rules in (
       chapters,
       e ∷ events,
       record {
@@ -60,7 +60,7 @@ abbrev one_if : Bool → ℕ
 one_if b = cond b 1 0
 
 -- the step of one line, and then those of the others
-goes_by : (p : Profile) (line : List ℕ) (lines : List (List ℕ)) (c : Command) (old middle new : Book)
+goes_by : (p : Settings) (line : List ℕ) (lines : List (List ℕ)) (c : Command) (old middle new : Book)
     → command_in p line ≡ Some c → DoesTo c old middle → Comes (count_by (is_chapter_line p) lines) middle new
     → Comes (count_by (is_chapter_line p) (line ∷ lines)) old new
 goes_by p line lines c old middle new is does k =

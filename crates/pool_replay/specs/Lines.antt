@@ -5,7 +5,7 @@ use Rattle.plan_model.specs.Certificate.{Certificate}
 use Rattle.plan_model.specs.declared.answer.Answer.{Answer}
 use Rattle.plan_model.specs.declared.answer.Answer.TheVariants as answers
 use Rattle.pool_settings.specs.Names.{name_at}
-use Rattle.pool_settings.specs.Profile.{Profile}
+use Rattle.pool_settings.specs.Settings.{Settings}
 use Rattle.pool_settings.specs.Slots.{slots}
 use Rattle.pool_commands.specs.Law.{worker_text}
 use Rattle.worker_state.specs.Causes.{cause_label}
@@ -23,7 +23,7 @@ use Rattle.pool_core.specs.declared.error.ReportError.{ReportError}
 use Rattle.pool_core.specs.declared.error.ChapterError.{ChapterError}
 use Rattle.pool_core.specs.declared.event.Chapter.{Chapter}
 use Rattle.refusal.specs.Label.{Label, label_words}
-use Rattle.pool_core.specs.Refusal.{join_label, view_label, grab_label, report_label, chapter_label}
+use Rattle.pool_core.specs.CallRefusals.{join_label, view_label, grab_label, report_label, chapter_label}
 use Rattle.pool_core.specs.declared.answer.StayOrRetire.{StayOrRetire}
 use Rattle.pool_core.specs.declared.answer.StayOrRetire.TheVariants.{Stay, Retire}
 use Rattle.pool_core.specs.declared.answer.Totals.{Totals}
@@ -32,8 +32,8 @@ use Rattle.pool_core.specs.declared.answer.Ran.{Ran}
 -- ---- refusals
 
 -- the number of a refusal in its call, and its name
-abbrev pub refused : Label → List ℕ
-refused label = codes "refused " ++ label_words label
+abbrev pub refused_line : Label → List ℕ
+refused_line label = codes "refused " ++ label_words label
 
 -- these two are refusals of the desk, not of the pool, and have no number
 abbrev pub no_pass : List ℕ
@@ -45,27 +45,27 @@ no_view = codes "refused NoView"
 -- ---- answers
 
 -- a worker as command lines name it, and the empty text where there is no such slot
-abbrev pub worker_words : Profile → WorkerName → List ℕ
-worker_words p worker =
-    if nat_lt worker.slot (slots p) then worker_text p worker.slot worker.generation else []
+abbrev pub worker_words : Settings → WorkerName → List ℕ
+worker_words settings worker =
+    if nat_lt worker.slot (slots settings) then worker_text settings worker.slot worker.generation else []
 
 -- `ok`, or the refusal
 abbrev pub ok_line : {A E : Type 0} → (E → Label) → Result A E → List ℕ
 ok_line label_of (Ok x) = codes "ok"
-ok_line label_of (Err e) = refused (label_of e)
+ok_line label_of (Err e) = refused_line (label_of e)
 
-abbrev pub join_line : Profile → Result WorkerName JoinError → List ℕ
-join_line p (Ok worker) = codes "ok " ++ worker_words p worker
-join_line p (Err e) = refused (join_label e)
+abbrev pub join_line : Settings → Result WorkerName JoinError → List ℕ
+join_line settings (Ok worker) = codes "ok " ++ worker_words settings worker
+join_line settings (Err e) = refused_line (join_label e)
 
 abbrev pub grab_line : Result ℕ GrabError → List ℕ
 grab_line (Ok ticket) = codes "ok " ++ decimal ticket
-grab_line (Err e) = refused (grab_label e)
+grab_line (Err e) = refused_line (grab_label e)
 
 abbrev pub report_line : Result StayOrRetire ReportError → List ℕ
 report_line (Ok Stay) = codes "ok stay"
 report_line (Ok Retire) = codes "ok retire"
-report_line (Err e) = refused (report_label e)
+report_line (Err e) = refused_line (report_label e)
 
 -- a backlog above all numbers of jobs counts what nobody serves
 abbrev pub backlog_words : Option ℕ → List ℕ
@@ -79,32 +79,33 @@ ran_line ran = codes "ok " ++ decimal ran.number ++ codes " " ++ backlog_words r
 
 abbrev pub ran_or : {E : Type 0} → (E → Label) → Result Ran E → List ℕ
 ran_or label_of (Ok ran) = ran_line ran
-ran_or label_of (Err e) = refused (label_of e)
+ran_or label_of (Err e) = refused_line (label_of e)
 
-abbrev pub backlog_of : Answer → Option ℕ
-backlog_of (answers.Planned plan backlog short) = Some backlog
-backlog_of (answers.NoPlan short) = None
+abbrev pub backlog_if_planned : Answer → Option ℕ
+backlog_if_planned (answers.Planned plan backlog short) = Some backlog
+backlog_if_planned (answers.NoPlan short) = None
 
 abbrev pub view_line : Result Certificate ViewError → List ℕ
-view_line (Ok viewed) = codes "ok " ++ backlog_words (backlog_of viewed.answer)
-view_line (Err e) = refused (view_label e)
+view_line (Ok viewed) = codes "ok " ++ backlog_words (backlog_if_planned viewed.answer)
+view_line (Err e) = refused_line (view_label e)
 
-abbrev pub job_line : Profile → Option Standing → List ℕ
-job_line p None = codes "none"
-job_line p (Some standing.Running) = codes "running"
-job_line p (Some standing.Reporting) = codes "reporting"
-job_line p (Some (standing.Reported end.Complete)) = codes "reported complete"
-job_line p (Some (standing.Reported end.Fail)) = codes "reported fail"
-job_line p (Some (standing.Lost worker cause)) = codes "lost " ++ worker_words p worker ++ codes " " ++ (cause_label cause).name
+abbrev pub job_line : Settings → Option Standing → List ℕ
+job_line settings None = codes "none"
+job_line settings (Some standing.Running) = codes "running"
+job_line settings (Some standing.Reporting) = codes "reporting"
+job_line settings (Some (standing.Reported end.Complete)) = codes "reported complete"
+job_line settings (Some (standing.Reported end.Fail)) = codes "reported fail"
+job_line settings (Some (standing.Lost worker cause)) =
+    codes "lost " ++ worker_words settings worker ++ codes " " ++ (cause_label cause).name
 
 -- the pool gives no order to stop
-abbrev pub what_line : Profile → ℕ → What → List ℕ
-what_line p round Idle = codes "idle"
-what_line p round (Work function) = codes "work " ++ name_at p.functions function ++ codes " round " ++ decimal round
-what_line p round Stop = codes "stop"
+abbrev pub what_line : Settings → ℕ → What → List ℕ
+what_line settings round Idle = codes "idle"
+what_line settings round (Work function) = codes "work " ++ name_at settings.functions function ++ codes " round " ++ decimal round
+what_line settings round Stop = codes "stop"
 
-abbrev pub order_line : Profile → Order → List ℕ
-order_line p order = what_line p order.round order.what
+abbrev pub order_line : Settings → Order → List ℕ
+order_line settings order = what_line settings order.round order.what
 
 abbrev pub totals_line : Totals → List ℕ
 totals_line t =
@@ -114,4 +115,4 @@ totals_line t =
 -- the number of the chapter that has ended, and how many events were handed out with it
 abbrev pub chapter_line : Result Chapter ChapterError → List ℕ
 chapter_line (Ok chapter) = codes "ok chapter " ++ decimal chapter.number ++ codes " events " ++ decimal (length chapter.events.items)
-chapter_line (Err e) = refused (chapter_label e)
+chapter_line (Err e) = refused_line (chapter_label e)

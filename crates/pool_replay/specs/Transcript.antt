@@ -2,7 +2,7 @@
 use Rattle.std.specs.Prelude.{ℕ, ◌≡◌, ◌+◌, ◌==◌, List, [], ◌∷◌, ◌++◌, Bool, Some, None, ◌⊎◌}
 use Rattle.std.specs.List.{slice_split}
 use Rattle.std.specs.FinSet as set
-use Rattle.pool_settings.specs.Profile.{Profile}
+use Rattle.pool_settings.specs.Settings.{Settings}
 use Rattle.pool_core.specs.Machine.{first}
 use Rattle.pool_commands.specs.declared.command.Command.{Command}
 use Rattle.pool_commands.specs.Grammar.{command_in}
@@ -33,42 +33,42 @@ abbrev pub lines_of : List ℕ → List (List ℕ)
 lines_of text = lines_of_parts (slice_split is_line_feed text)
 
 -- a pool in which nothing has happened, without a pass or a view
-abbrev pub first_desk : Profile → Desk
-first_desk p =
+abbrev pub first_desk : Settings → Desk
+first_desk settings =
     record {
-      pool = record { rules = p; events = []; state = first p; chapters = 0 };
+      pool = record { settings = settings; events = []; state = first settings; chapters = 0 };
       passes = set.empty;
       viewed = None;
     }
 
 -- nothing more is printed: the line of that number is no command, or there was no memory
-abbrev pub StopsAt : Profile → ℕ → List ℕ → List ℕ → End → Type 0
-StopsAt p number line output how =
-    (output ≡ []) × (((how ≡ end.BadLine number) × (command_in p line ≡ None)) ⊎ (how ≡ end.Memory))
+abbrev pub StopsAt : Settings → ℕ → List ℕ → List ℕ → End → Type 0
+StopsAt settings number line output how =
+    (output ≡ []) × (((how ≡ end.BadLine number) × (command_in settings line ≡ None)) ⊎ (how ≡ end.Memory))
 
 -- The output of the lines from this number on, how their run ends, and at which desk: each line is a command, and what it prints
 -- is one step of the desk. The run ends after the last line, at the first line that is no command, or at a line for which there was
 -- no memory.
-abbrev pub LeadsTo : Profile → ℕ → Desk → List (List ℕ) → List ℕ → End → Desk → Type 0
-LeadsTo p number desk [] output how last = (output ≡ []) × (how ≡ end.Done) × (last ≡ desk)
-LeadsTo p number desk (line ∷ lines) output how last =
-    (StopsAt p number line output how × (last ≡ desk))
+abbrev pub RunsTo : Settings → ℕ → Desk → List (List ℕ) → List ℕ → End → Desk → Type 0
+RunsTo settings number desk [] output how last = (output ≡ []) × (how ≡ end.Done) × (last ≡ desk)
+RunsTo settings number desk (line ∷ lines) output how last =
+    (StopsAt settings number line output how × (last ≡ desk))
     ⊎ ((command : Command) × (answer : List ℕ) × (rest : List ℕ) × (next : Desk)
-    × (command_in p line ≡ Some command) × StepOf p command desk answer next
-    × (output ≡ ended answer ++ rest) × LeadsTo p (number + 1) next lines rest how last)
+    × (command_in settings line ≡ Some command) × StepOf settings command desk answer next
+    × (output ≡ ended answer ++ rest) × RunsTo settings (number + 1) next lines rest how last)
 
 -- the same, wherever it ends
-abbrev pub IsTranscript : Profile → ℕ → Desk → List (List ℕ) → List ℕ → End → Type 0
-IsTranscript p number desk lines output how = (last : Desk) × LeadsTo p number desk lines output how last
+abbrev pub IsTranscript : Settings → ℕ → Desk → List (List ℕ) → List ℕ → End → Type 0
+IsTranscript settings number desk lines output how = (last : Desk) × RunsTo settings number desk lines output how last
 
 -- A run of an input: the transcript of its lines on a pool in which nothing has happened, or nothing where there was no memory
 -- for that pool.
-abbrev pub IsRun : Profile → List ℕ → List ℕ → End → Type 0
-IsRun p input output how =
-    ((output ≡ []) × (how ≡ end.Memory)) ⊎ IsTranscript p 1 (first_desk p) (lines_of input) output how
+abbrev pub IsRun : Settings → List ℕ → List ℕ → End → Type 0
+IsRun settings input output how =
+    ((output ≡ []) × (how ≡ end.Memory)) ⊎ IsTranscript settings 1 (first_desk settings) (lines_of input) output how
 
 -- the line is a command, and what it prints was appended
-abbrev pub Answers : Profile → List ℕ → Desk → List ℕ → Desk → List ℕ → Type 0
-Answers p line old before new after =
-    (command : Command) × (answer : List ℕ) × (command_in p line ≡ Some command) × StepOf p command old answer new
+abbrev pub AnswersLine : Settings → List ℕ → Desk → List ℕ → Desk → List ℕ → Type 0
+AnswersLine settings line old before new after =
+    (command : Command) × (answer : List ℕ) × (command_in settings line ≡ Some command) × StepOf settings command old answer new
     × (after ≡ before ++ ended answer)

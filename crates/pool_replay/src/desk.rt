@@ -1,11 +1,11 @@
 //! The desk at which a pool is driven: the pool, the passes under their workers' names, and the view that was kept.
 
 ghost use Rattle.std.specs.Prelude.{◌≡◌, ◌<◌, IfOk, OnOk, string_bytes, length};
-ghost use Rattle.pool_commands.specs.Grammar.{IsWithin};
+ghost use Rattle.pool_commands.specs.Grammar.{IsCommandWithin};
 ghost use Rattle.pool_core.specs.Book.{totals_of};
 ghost use Rattle.pool_core.specs.Machine.{standing_in};
 ghost use Rattle.pool_replay.specs.Lines as spec;
-ghost use Rattle.pool_replay.specs.Step.{Joins, Loads, Rounds, Views, Adopting, Grabs, Begins, Reports, Loses, Expires, TellsOrder, EndsChapter, WithPass, StepOf, Sees, with_joined, with_viewed};
+ghost use Rattle.pool_replay.specs.Step.{TellsJoin, TellsLoad, TellsRound, TellsView, TellsAdoption, TellsGrab, TellsBegin, TellsReport, TellsLoss, TellsExpiry, TellsOrder, TellsChapter, WithPass, StepOf, Sees, with_joined, with_viewed};
 ghost use Rattle.pool_replay.specs.Transcript.{first_desk};
 
 use crate::lines::{self, NO_PASS, NO_VIEW};
@@ -54,7 +54,7 @@ impl Desk {
         settings: &Settings,
         command: Command,
     ) -> Result<String, AllocError>
-        requires { IsWithin (length self.old.pool.state.slots) command }
+        requires { IsCommandWithin (length self.old.pool.state.slots) command }
         ensures { IfOk result (λ line. StepOf settings.now command self.old (string_bytes line) self.new) }
     {
         match command {
@@ -92,7 +92,7 @@ impl Desk {
         slot: SlotId,
     ) -> Result<String, AllocError>
         requires { slot < length self.old.pool.state.slots }
-        ensures { IfOk result (λ line. Joins settings.now slot self.old (string_bytes line) self.new) }
+        ensures { IfOk result (λ line. TellsJoin settings.now slot self.old (string_bytes line) self.new) }
     {
         let answer = self.pool.join(slot);
         let line = lines::join_line(alloc, settings, &answer)?;
@@ -101,14 +101,14 @@ impl Desk {
     }
 
     fn load(&mut self, alloc: Global, load: Load) -> Result<String, AllocError>
-        ensures { IfOk result (λ line. Loads load self.old (string_bytes line) self.new) }
+        ensures { IfOk result (λ line. TellsLoad load self.old (string_bytes line) self.new) }
     {
         let answer = self.pool.load(load);
         lines::ok_line(alloc, answer)
     }
 
     fn round(&mut self, alloc: Global) -> Result<String, AllocError>
-        ensures { IfOk result (λ line. Rounds self.old (string_bytes line) self.new) }
+        ensures { IfOk result (λ line. TellsRound self.old (string_bytes line) self.new) }
     {
         let answer = self.pool.round();
         lines::ran_or(alloc, answer)
@@ -117,7 +117,7 @@ impl Desk {
     /// Looks at the pool and plans for what it sees. The plan is kept in the place of an older one; a refused view leaves that
     /// where it is.
     fn view(&mut self, alloc: Global) -> Result<String, AllocError>
-        ensures { IfOk result (λ line. Views self.old (string_bytes line) self.new) }
+        ensures { IfOk result (λ line. TellsView self.old (string_bytes line) self.new) }
     {
         let answer = look(alloc, &self.pool);
         let line = lines::view_line(alloc, &answer)?;
@@ -127,7 +127,7 @@ impl Desk {
 
     /// Offers the plan that was kept, and spends it, also where it is refused.
     fn adopt(&mut self, alloc: Global) -> Result<String, AllocError>
-        ensures { IfOk result (λ line. Adopting self.old.viewed self.old (string_bytes line) self.new) }
+        ensures { IfOk result (λ line. TellsAdoption self.old.viewed self.old (string_bytes line) self.new) }
     {
         let Some(viewed) = std::mem::replace(&mut self.viewed, None) else {
             return String::from_str(alloc, NO_VIEW);
@@ -145,7 +145,7 @@ impl Desk {
         now_ms: u64,
     ) -> Result<String, AllocError>
         ensures { IfOk result (λ line.
-            WithPass worker.now (Grabs worker.now handle function.now now_ms) self.old (string_bytes line) self.new) }
+            WithPass worker.now (TellsGrab worker.now handle function.now now_ms) self.old (string_bytes line) self.new) }
     {
         let Some(pass) = self.passes.get(worker) else {
             return String::from_str(alloc, NO_PASS);
@@ -160,7 +160,7 @@ impl Desk {
         worker: &WorkerName,
         ticket: Ticket,
     ) -> Result<String, AllocError>
-        ensures { IfOk result (λ line. WithPass worker.now (Begins worker.now ticket) self.old (string_bytes line) self.new) }
+        ensures { IfOk result (λ line. WithPass worker.now (TellsBegin worker.now ticket) self.old (string_bytes line) self.new) }
     {
         let Some(pass) = self.passes.get(worker) else {
             return String::from_str(alloc, NO_PASS);
@@ -176,7 +176,7 @@ impl Desk {
         ticket: Ticket,
         end: EndKind,
     ) -> Result<String, AllocError>
-        ensures { IfOk result (λ line. WithPass worker.now (Reports worker.now ticket end) self.old (string_bytes line) self.new) }
+        ensures { IfOk result (λ line. WithPass worker.now (TellsReport worker.now ticket end) self.old (string_bytes line) self.new) }
     {
         let Some(pass) = self.passes.get(worker) else {
             return String::from_str(alloc, NO_PASS);
@@ -192,7 +192,7 @@ impl Desk {
         worker: &WorkerName,
         cause: Cause,
     ) -> Result<String, AllocError>
-        ensures { IfOk result (λ line. WithPass worker.now (Loses worker.now cause) self.old (string_bytes line) self.new) }
+        ensures { IfOk result (λ line. WithPass worker.now (TellsLoss worker.now cause) self.old (string_bytes line) self.new) }
     {
         let Some(pass) = self.passes.take(worker) else {
             return String::from_str(alloc, NO_PASS);
@@ -209,7 +209,7 @@ impl Desk {
         now_ms: u64,
     ) -> Result<String, AllocError>
         requires { worker.now.slot < length self.old.pool.state.slots }
-        ensures { IfOk result (λ line. Expires worker.now now_ms self.old (string_bytes line) self.new) }
+        ensures { IfOk result (λ line. TellsExpiry worker.now now_ms self.old (string_bytes line) self.new) }
     {
         let answer = self.pool.expire(worker.slot, worker.generation, now_ms);
         lines::ok_line(alloc, answer)
@@ -238,7 +238,7 @@ impl Desk {
 
     /// Ends the chapter of the history. The events that are handed out are given up: nobody here reads them.
     fn chapter(&mut self, alloc: Global) -> Result<String, AllocError>
-        ensures { IfOk result (λ line. EndsChapter self.old (string_bytes line) self.new) }
+        ensures { IfOk result (λ line. TellsChapter self.old (string_bytes line) self.new) }
     {
         let answer = self.pool.end_chapter();
         lines::chapter_line(alloc, &answer)

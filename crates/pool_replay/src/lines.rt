@@ -22,7 +22,7 @@ pub const NO_VIEW: &str = "refused NoView";
 
 /// A refusal of the pool: its number in its call, and its name.
 fn refused(alloc: Global, label: &Label) -> Result<String, AllocError>
-    ensures { IfOk result (λ s. string_bytes s ≡ spec.refused label.now) }
+    ensures { IfOk result (λ s. string_bytes s ≡ spec.refused_line label.now) }
 {
     let number = label.number();
     let name = label.name();
@@ -145,7 +145,7 @@ pub fn ran_or<E: Refusal + Copy>(
 }
 
 fn backlog_of(answer: &Answer) -> Option<u64>
-    ensures { result ≡ spec.backlog_of answer.now }
+    ensures { result ≡ spec.backlog_if_planned answer.now }
 {
     match answer {
         Answer::Planned { backlog, .. } => Some(*backlog),

@@ -3,7 +3,7 @@
 ghost use Rattle.std.specs.Prelude.{◌≡◌, ◌∷◌, ◌<◌, [], None, IfErr, OnErr, OnOk, MatchOption, length, string_bytes};
 ghost use Rattle.pool_commands.specs.Grammar as grammar;
 ghost use Rattle.pool_replay.specs.declared.running.Stop.TheVariants.{NoCommand};
-ghost use Rattle.pool_replay.specs.Transcript.{IsRun, IsTranscript, Answers, first_desk, lines_of};
+ghost use Rattle.pool_replay.specs.Transcript.{IsRun, IsTranscript, AnswersLine, first_desk, lines_of};
 
 use crate::desk::Desk;
 use pool_commands::command_in;
@@ -75,9 +75,9 @@ fn answer_line(
     line: &[u8],
     output: &mut String,
 ) -> Result<(), Stop>
-    requires { desk.old.pool.rules ≡ settings.now }
-    ensures answer { OnOk result (Answers settings.now line.now desk.old (string_bytes output.old) desk.new (string_bytes output.new)) }
-    ensures rules { OnOk result (desk.new.pool.rules ≡ settings.now) }
+    requires { desk.old.pool.settings ≡ settings.now }
+    ensures answer { OnOk result (AnswersLine settings.now line.now desk.old (string_bytes output.old) desk.new (string_bytes output.new)) }
+    ensures settings { OnOk result (desk.new.pool.settings ≡ settings.now) }
     ensures unchanged { OnErr result (string_bytes output.new ≡ string_bytes output.old) }
     ensures no_command { IfErr result (λ stop. stop ≡ NoCommand → grammar.command_in settings.now line.now ≡ None) }
 {

@@ -5,17 +5,17 @@ use Rattle.std.specs.Fmt.{decimal}
 use Rattle.std.proofs.lemmas.Bool.{lt-ltb}
 use Rattle.plan_model.specs.Planning.{Assignment}
 use Rattle.pool_settings.specs.Names.{name_at, place_of}
-use Rattle.pool_settings.specs.Profile.{IsProfile, Profile}
+use Rattle.pool_settings.specs.Settings.{AreSettings, Settings}
 use Rattle.pool_settings.specs.Slots.{first_slot, machine_of, parts_of, slot_named}
 use Rattle.pool_settings.proofs.Searches.{place_is}
 use Rattle.pool_settings.proofs.SlotSums.{IsAt, machine_found, sum-room}
-use Rattle.pool_report.specs.Answered.{worker_in}
+use Rattle.pool_report.specs.Answered.{reported_worker}
 use Rattle.pool_report.specs.Law.{AreNamesFound}
-use Rattle.pool_report.specs.Report.{worker_name}
+use Rattle.pool_report.specs.Report.{name_of_worker}
 use Rattle.text_pieces.proofs.Cutting.{last_of_parts}
 use Rattle.text_pieces.proofs.Digits.{plain_decimal, uncut}
 
-module _ (p : Profile) (valid : IsProfile p) where
+module _ (p : Settings) (valid : AreSettings p) where
   pub function_found : (f : ℕ) → f < length p.functions → place_of p.functions (name_at p.functions f) ≡ Some f
   function_found f below = place_is p.functions (name_at p.functions f) f valid.functions_rise below refl
 
@@ -24,7 +24,7 @@ module _ (p : Profile) (valid : IsProfile p) where
       let shape : name ++ codes "/" ++ decimal n ≡ name ++ 47 ∷ decimal n = append_assoc name (codes "/") (decimal n) in
       rw shape (last_of_parts 47 name (decimal n) (uncut 47 n small refl))
 
-  pub worker_found : (plan : Assignment) (slot machine : ℕ) → IsAt p.workers machine slot → slot_named p (worker_name (worker_in p plan (slot, machine))) ≡ Some slot
+  pub worker_found : (plan : Assignment) (slot machine : ℕ) → IsAt p.workers machine slot → slot_named p (name_of_worker (reported_worker p plan (slot, machine))) ≡ Some slot
   worker_found plan slot machine at =
       let n = slot - first_slot p machine in
       let inside : machine < length p.machines = omega (arith, at.there, valid.workers_paired) in

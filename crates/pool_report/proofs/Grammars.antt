@@ -10,15 +10,15 @@ use Rattle.std.proofs.lemmas.List.{append-nil}
 use Rattle.plan_model.specs.declared.answer.Answer.{Answer}
 use Rattle.plan_model.specs.declared.answer.Answer.TheVariants.{Planned, NoPlan}
 use Rattle.pool_settings.specs.Names.{is_name, name_at, place_of}
-use Rattle.pool_settings.specs.Profile.{IsProfile, Profile}
+use Rattle.pool_settings.specs.Settings.{AreSettings, Settings}
 use Rattle.pool_settings.specs.Slots as slots
 use Rattle.pool_settings.proofs.OneToOne.{names_paired, slots_paired}
 use Rattle.pool_settings.proofs.SlotSums.{machine_found}
-use Rattle.pool_report.specs.Grammar.{AreEntries, AreLeft, AreNeeded, AreTextsReports, IsFunctionOrNone, IsReportOf, IsSet, IsSetOrNone, worker_at}
+use Rattle.pool_report.specs.Grammar.{AreEntries, AreLeft, AreNeeded, AreTextsReports, IsFunctionOrNone, IsReportOf, IsSet, IsSetOrNone, listed_worker}
 use Rattle.pool_report.specs.Law.{Spells}
-use Rattle.pool_report.specs.Lines.{Line, backlog, head, last, line_of, needed, no_plan, short, stranded, task}
+use Rattle.pool_report.specs.Lines.{ReportLine, backlog, head, last, line_of, needed, no_plan, short, stranded, task}
 use Rattle.pool_report.specs.Reading.{Draft, is_complete, is_line_feed, meaning, meaning_from, place, place_function, start}
-use Rattle.pool_report.specs.Report.{Needed, Short, Stranded, Worker, backlog_line, ended, needed_line, planned, report, short_if, short_line, short_lines, stranded_line, task_line, told_lines, worker_line, worker_name}
+use Rattle.pool_report.specs.Report.{Needed, Short, Stranded, Worker, backlog_line, ended, needed_line, planned, report, short_if, short_line, short_lines, stranded_line, task_line, finding_lines, worker_line, name_of_worker}
 use Rattle.pool_report.specs.Report as report_specs
 use Rattle.pool_report.specs.declared.stage.Misread.{Misread}
 use Rattle.pool_report.specs.declared.stage.Misread.TheVariants as misread
@@ -63,22 +63,22 @@ joined (x ∷ xs) = by (is_line_feed x) refl (first_part xs) (joined xs)
 
 -- ---- what was read, back to what is spelled
 
-module _ (p : Profile) where
+module _ (p : Settings) where
   -- one line more was read: what it tells and where it leads
   step_back : (n : ℕ) (d : Draft) (line next : List ℕ) (rest : List (List ℕ)) (answer : Answer) → meaning_from p n d (line ∷ next ∷ rest) ≡ Ok answer
-      → (told : Line) × (more : Draft) × Spells (ended line) told × (place p d told ≡ Ok more) × (meaning_from p (n + 1) more (next ∷ rest) ≡ Ok answer)
+      → (told : ReportLine) × (more : Draft) × Spells (ended line) told × (place p d told ≡ Ok more) × (meaning_from p (n + 1) more (next ∷ rest) ≡ Ok answer)
   step_back n d line next rest answer e = by (line_of line) refl
     where
       Step : Type 0
-      Step = (told : Line) × (more : Draft) × Spells (ended line) told × (place p d told ≡ Ok more) × (meaning_from p (n + 1) more (next ∷ rest) ≡ Ok answer)
+      Step = (told : ReportLine) × (more : Draft) × Spells (ended line) told × (place p d told ≡ Ok more) × (meaning_from p (n + 1) more (next ∷ rest) ≡ Ok answer)
 
-      placed : (told : Line) → line_of line ≡ Some told → (r : Result Draft Misread) → place p d told ≡ r → Step
+      placed : (told : ReportLine) → line_of line ≡ Some told → (r : Result Draft Misread) → place p d told ≡ r → Step
       placed told is (Ok more) on = (told, more, lines_spelled line told is, on, rw (is, on) at e)
       placed told is (Err misread.Bad) on = absurd (not_ok _ answer (rw (is, on) at e))
       placed told is (Err misread.Unknown) on = absurd (not_ok _ answer (rw (is, on) at e))
       placed told is (Err misread.Memory) on = absurd (not_ok _ answer (rw (is, on) at e))
 
-      by : (o : Option Line) → line_of line ≡ o → Step
+      by : (o : Option ReportLine) → line_of line ≡ o → Step
       by None none = absurd (not_ok _ answer (rw none at e))
       by (Some told) is = placed told is (place p d told) refl
 
@@ -97,7 +97,7 @@ module _ (p : Profile) where
       let s = step_back n (at stage.Done b es set a c l) line next rest answer e in
       absurd (none s.0 s.1 s.3)
     where
-      none : (told : Line) (more : Draft) → place p (at stage.Done b es set a c l) told ≡ Ok more → ⊥
+      none : (told : ReportLine) (more : Draft) → place p (at stage.Done b es set a c l) told ≡ Ok more → ⊥
       none head more h = not_ok _ more h
       none (backlog k) more h = not_ok _ more h
       none no_plan more h = not_ok _ more h
@@ -107,7 +107,7 @@ module _ (p : Profile) where
       none (stranded name) more h = not_ok _ more h
       none last more h = not_ok _ more h
 
-  module _ (valid : IsProfile p) (answer : Answer) where
+  module _ (valid : AreSettings p) (answer : Answer) where
     function_back : (name : List ℕ) (f : ℕ) → place_of p.functions name ≡ Some f → (f < length p.functions) × (name_at p.functions f ≡ name)
     function_back = (names_paired p.functions valid.functions_rise).named
 
@@ -173,7 +173,7 @@ module _ (p : Profile) where
         let s = step_back n (at stage.Leftovers b es set a c l) line next rest answer e in
         case s.0 s.1 s.2 s.3 s.4 (λ f h. left_back (next ∷ rest) (n + 1) b es set a c f h)
       where
-        case : (told : Line) (more : Draft) → Spells (ended line) told → place p (at stage.Leftovers b es set a c l) told ≡ Ok more
+        case : (told : ReportLine) (more : Draft) → Spells (ended line) told → place p (at stage.Leftovers b es set a c l) told ≡ Ok more
             → meaning_from p (n + 1) more (next ∷ rest) ≡ Ok answer
             → ((f : ℕ) → meaning_from p (n + 1) (at stage.Leftovers b es set a c f) (next ∷ rest) ≡ Ok answer → Tail f (out b es set) (text_of (next ∷ rest)))
             → Tail l (out b es set) (line ++ 10 ∷ text_of (next ∷ rest))
@@ -245,7 +245,7 @@ module _ (p : Profile) where
               tail.6 ∙ ap (λ (fs : List ℕ). out b es (Some fs)) (append_assoc set (f ∷ []) tail.1),
             )
 
-        case : (told : Line) (more : Draft) → Spells (ended line) told → place p (at stage.Set b es (Some set) a c 0) told ≡ Ok more → Goes more
+        case : (told : ReportLine) (more : Draft) → Spells (ended line) told → place p (at stage.Set b es (Some set) a c 0) told ≡ Ok more → Goes more
             → ((f : ℕ) → Goes (at stage.Set b es (Some (set ++ f ∷ [])) a (f + 1) 0) → SetTail (f + 1) b es (set ++ f ∷ []) (text_of (next ∷ rest)))
             → SetTail c b es set (line ++ 10 ∷ text_of (next ∷ rest))
         case head more spelled h goes again = absurd (not_ok _ more h)
@@ -289,7 +289,7 @@ module _ (p : Profile) where
     TasksTail k next es text =
         (more : List (ℕ × Option ℕ)) × (sums : Option Short) × (set : Option (List ℕ)) × (left : List Stranded)
         × AreEntries p next more × IsSetOrNone p sums set × AreLeft p 0 left
-        × (text ≡ flat_map worker_line (map (worker_at p) more) ++ (short_if sums ++ (flat_map stranded_line left ++ ended (codes "end"))))
+        × (text ≡ flat_map worker_line (map (listed_worker p) more) ++ (short_if sums ++ (flat_map stranded_line left ++ ended (codes "end"))))
         × (answer ≡ Planned (es ++ more) k set)
 
     -- what a line of a worker tells of its function
@@ -330,13 +330,13 @@ module _ (p : Profile) where
 
     -- the line of a worker, by its slot
     line_at : (worker : List ℕ) (function : Option (List ℕ)) (slot : ℕ) (o : Option ℕ) → slots.slot_named p worker ≡ Some slot → Named function o
-        → task_line worker function ≡ worker_line (worker_at p (slot, o))
+        → task_line worker function ≡ worker_line (listed_worker p (slot, o))
     line_at worker function slot o found named =
         let own = (slots_paired p valid).named worker slot found in
         let machine = name_at p.machines (slots.machine_of p slot) in
         let number = slots.worker_number p slot in
-        let spelled : worker ≡ worker_name (worker_at p (slot, o)) = sym own.1 ∙ sym (append_assoc machine (codes "/") (decimal number)) in
-        ap (λ (w : List ℕ). task_line w function) spelled ∙ ap (λ (f : Option (List ℕ)). task_line (worker_name (worker_at p (slot, o))) f) (sym named.1)
+        let spelled : worker ≡ name_of_worker (listed_worker p (slot, o)) = sym own.1 ∙ sym (append_assoc machine (codes "/") (decimal number)) in
+        ap (λ (w : List ℕ). task_line w function) spelled ∙ ap (λ (f : Option (List ℕ)). task_line (name_of_worker (listed_worker p (slot, o))) f) (sym named.1)
 
     tasks_end : (k next : ℕ) (es : List (ℕ × Option ℕ)) (text : List ℕ) → Tail 0 (out (Some k) es None) text → TasksTail k next es text
     tasks_end k next es text tail =
@@ -380,7 +380,7 @@ module _ (p : Profile) where
             let tail = again slot o (subst Goes there.5 goes) in
             let below = ((slots_paired p valid).named worker slot there.2).0 in
             let behind = short_if tail.1 ++ (flat_map stranded_line tail.3 ++ ended (codes "end")) in
-            let lines = flat_map worker_line (map (worker_at p) tail.0) in (
+            let lines = flat_map worker_line (map (listed_worker p) tail.0) in (
               (slot, o) ∷ tail.0,
               tail.1,
               tail.2,
@@ -388,12 +388,12 @@ module _ (p : Profile) where
               (there.3, below, there.4.0, tail.4),
               tail.5,
               tail.6,
-              in_front line (worker_line (worker_at p (slot, o))) (text_of (next ∷ rest)) (lines ++ behind) (spelled.2 ∙ line_at worker function slot o there.2 there.4) tail.7
-                  ∙ sym (append_assoc (worker_line (worker_at p (slot, o))) lines behind),
+              in_front line (worker_line (listed_worker p (slot, o))) (text_of (next ∷ rest)) (lines ++ behind) (spelled.2 ∙ line_at worker function slot o there.2 there.4) tail.7
+                  ∙ sym (append_assoc (worker_line (listed_worker p (slot, o))) lines behind),
               tail.8 ∙ ap (λ (more : List (ℕ × Option ℕ)). Planned more k tail.2) (append_assoc es ((slot, o) ∷ []) tail.0),
             )
 
-        case : (told : Line) (more : Draft) → Spells (ended line) told → place p (at stage.Tasks (Some k) es None a 0 0) told ≡ Ok more → Goes more → Again
+        case : (told : ReportLine) (more : Draft) → Spells (ended line) told → place p (at stage.Tasks (Some k) es None a 0 0) told ≡ Ok more → Goes more → Again
             → TasksTail k a es (line ++ 10 ∷ text_of (next ∷ rest))
         case head more spelled h goes again = absurd (not_ok _ more h)
         case (backlog j) more spelled h goes again = absurd (not_ok _ more h)
@@ -420,7 +420,7 @@ module _ (p : Profile) where
         Goes : Draft → Type 0
         Goes d = meaning_from p (n + 1) d (next ∷ rest) ≡ Ok answer
 
-        case : (told : Line) (more : Draft) → Spells (ended line) told → place p (at stage.Bare None [] None 0 0 0) told ≡ Ok more → Goes more
+        case : (told : ReportLine) (more : Draft) → Spells (ended line) told → place p (at stage.Bare None [] None 0 0 0) told ≡ Ok more → Goes more
             → ShortTail None [] (line ++ 10 ∷ text_of (next ∷ rest))
         case head more spelled h goes = absurd (not_ok _ more h)
         case (backlog j) more spelled h goes = absurd (not_ok _ more h)
@@ -448,7 +448,7 @@ module _ (p : Profile) where
     planned_whole : (k : ℕ) (line text whole : List ℕ) → Spells (ended line) (backlog k) → TasksTail k 0 [] text
         → whole ≡ ended (codes "report 1") ++ (line ++ 10 ∷ text) → IsReportOf p whole answer
     planned_whole k line text whole spelled tail is =
-        let lines = flat_map worker_line (map (worker_at p) tail.0) in
+        let lines = flat_map worker_line (map (listed_worker p) tail.0) in
         let rest = flat_map stranded_line tail.3 in
         let same = is ∙ ap (λ (t : List ℕ). ended (codes "report 1") ++ t) (in_front line (backlog_line k) text (lines ++ (short_if tail.1 ++ (rest ++ ended (codes "end")))) spelled.2 tail.7)
         ∙ regroup (ended (codes "report 1")) (backlog_line k) lines (short_if tail.1) rest (ended (codes "end")) in
@@ -473,7 +473,7 @@ module _ (p : Profile) where
         Goes : Draft → Type 0
         Goes d = meaning_from p (n + 1) d (next ∷ rest) ≡ Ok answer
 
-        case : (told : Line) (more : Draft) → Spells (ended line) told → place p (at stage.Verdict None [] None 0 0 0) told ≡ Ok more → Goes more → IsReportOf p whole answer
+        case : (told : ReportLine) (more : Draft) → Spells (ended line) told → place p (at stage.Verdict None [] None 0 0 0) told ≡ Ok more → Goes more → IsReportOf p whole answer
         case head more spelled h goes = absurd (not_ok _ more h)
         case (backlog k) more spelled h goes =
             planned_whole k line (text_of (next ∷ rest)) whole spelled (tasks_back (next ∷ rest) (n + 1) k [] 0 (subst Goes (sym (same_ok _ _ h)) goes)) is
@@ -495,7 +495,7 @@ module _ (p : Profile) where
         Goes : Draft → Type 0
         Goes d = meaning_from p (n + 1) d (next ∷ rest) ≡ Ok answer
 
-        case : (told : Line) (more : Draft) → Spells (ended line) told → place p start told ≡ Ok more → Goes more → IsReportOf p (line ++ 10 ∷ text_of (next ∷ rest)) answer
+        case : (told : ReportLine) (more : Draft) → Spells (ended line) told → place p start told ≡ Ok more → Goes more → IsReportOf p (line ++ 10 ∷ text_of (next ∷ rest)) answer
         case head more spelled h goes =
             verdict_back (next ∷ rest) (n + 1) (subst Goes (sym (same_ok _ _ h)) goes) (line ++ 10 ∷ text_of (next ∷ rest))
             (in_front line (ended (codes "report 1")) (text_of (next ∷ rest)) (text_of (next ∷ rest)) spelled refl)
@@ -512,13 +512,13 @@ module _ (p : Profile) where
 
 -- ---- what is spelled, read
 
-module _ (p : Profile) (valid : IsProfile p) where
+module _ (p : Settings) (valid : AreSettings p) where
   below_of : (o : Option ℕ) → IsFunctionOrNone p o → Below (length p.functions) o
   below_of None there = tt
   below_of (Some f) there = there
 
   tasks_lead : (more : List (ℕ × Option ℕ)) (k : ℕ) (es : List (ℕ × Option ℕ)) (next : ℕ) → AreEntries p next more
-      → (last : ℕ) × Leads p (at stage.Tasks (Some k) es None next 0 0) (flat_map worker_line (map (worker_at p) more)) (at stage.Tasks (Some k) (es ++ more) None last 0 0)
+      → (last : ℕ) × Leads p (at stage.Tasks (Some k) es None next 0 0) (flat_map worker_line (map (listed_worker p) more)) (at stage.Tasks (Some k) (es ++ more) None last 0 0)
   tasks_lead [] k es next entries =
       (next, subst (λ (fs : List (ℕ × Option ℕ)). Leads p (at stage.Tasks (Some k) es None next 0 0) [] (at stage.Tasks (Some k) fs None next 0 0)) (sym (append-nil es)) (leads_none p _))
   tasks_lead (e ∷ more) k es next entries =
@@ -527,11 +527,11 @@ module _ (p : Profile) (valid : IsProfile p) where
       let order : ltb e.0 next ≡ false = le-ltb e.0 next entries.0 in
       let machine = slots.machine_of p e.0 in
       let good = worker_read p valid (λ (s : ℕ). e.1) (e.0, machine) (machine_found p e.0 machine valid entries.1 refl) (below_of e.1 entries.2) in
-      let first : Leads p d (worker_line (worker_at p e)) then_on = leads_line p d then_on _ _ (lines_read.workers (worker_at p e) good.named) (rw (good.slot, order) (good.function d)) in
+      let first : Leads p d (worker_line (listed_worker p e)) then_on = leads_line p d then_on _ _ (lines_read.workers (listed_worker p e) good.named) (rw (good.slot, order) (good.function d)) in
       let rest = tasks_lead more k (es ++ e ∷ []) (e.0 + 1) entries.3 in (
         rest.0,
-        subst (λ (fs : List (ℕ × Option ℕ)). Leads p d (flat_map worker_line (map (worker_at p) (e ∷ more))) (at stage.Tasks (Some k) fs None rest.0 0 0)) (append_assoc es (e ∷ []) more)
-            (leads_on p d then_on _ (worker_line (worker_at p e)) (flat_map worker_line (map (worker_at p) more)) first rest.1),
+        subst (λ (fs : List (ℕ × Option ℕ)). Leads p d (flat_map worker_line (map (listed_worker p) (e ∷ more))) (at stage.Tasks (Some k) fs None rest.0 0 0)) (append_assoc es (e ∷ []) more)
+            (leads_on p d then_on _ (worker_line (listed_worker p e)) (flat_map worker_line (map (listed_worker p) more)) first rest.1),
       )
 
   named_so : (name : List ℕ) (f : ℕ) → f < length p.functions → name ≡ name_at p.functions f → IsTrue (is_name name)
@@ -598,26 +598,26 @@ module _ (p : Profile) (valid : IsProfile p) where
   headed = leads_line p start (at stage.Verdict None [] None 0 0 0) (ended (codes "report 1")) head lines_read.first refl
 
   counted : (k : ℕ) (entries : List (ℕ × Option ℕ)) → k < 2 ^ 33 → k ≢ 2 ^ 32 → AreEntries p 0 entries
-      → (a : ℕ) × Leads p (at stage.Verdict None [] None 0 0 0) (backlog_line k ++ flat_map worker_line (map (worker_at p) entries)) (at stage.Tasks (Some k) entries None a 0 0)
+      → (a : ℕ) × Leads p (at stage.Verdict None [] None 0 0 0) (backlog_line k ++ flat_map worker_line (map (listed_worker p) entries)) (at stage.Tasks (Some k) entries None a 0 0)
   counted k entries small other there =
       let d = at stage.Verdict None [] None 0 0 0 in
       let e = at stage.Tasks (Some k) [] None 0 0 0 in
       let count : Leads p d (backlog_line k) e = leads_line p d e (backlog_line k) (backlog k) (lines_read.counts k small other) refl in
       let rest = tasks_lead entries k [] 0 there in
-      (rest.0, leads_on p d e (at stage.Tasks (Some k) entries None rest.0 0 0) (backlog_line k) (flat_map worker_line (map (worker_at p) entries)) count rest.1)
+      (rest.0, leads_on p d e (at stage.Tasks (Some k) entries None rest.0 0 0) (backlog_line k) (flat_map worker_line (map (listed_worker p) entries)) count rest.1)
 
   -- a plan's lines, with a set or none
   planned_lead : (k : ℕ) (entries : List (ℕ × Option ℕ)) (sums : Option Short) (set : Option (List ℕ)) (left : List Stranded) → k < 2 ^ 33 → k ≢ 2 ^ 32 → AreEntries p 0 entries
-      → IsSetOrNone p sums set → AreLeft p 0 left → meaning p (report (planned k (map (worker_at p) entries) sums) left) ≡ Ok (Planned entries k set)
+      → IsSetOrNone p sums set → AreLeft p 0 left → meaning p (report (planned k (map (listed_worker p) entries) sums) left) ≡ Ok (Planned entries k set)
   planned_lead k entries None None left small other there is rest =
-      let lines = backlog_line k ++ flat_map worker_line (map (worker_at p) entries) in
+      let lines = backlog_line k ++ flat_map worker_line (map (listed_worker p) entries) in
       let first = counted k entries small other there in
       let d = at stage.Verdict None [] None 0 0 0 in
       let e = at stage.Tasks (Some k) entries None first.0 0 0 in
       closed (lines ++ []) left stage.Tasks (Some k) entries None first.0 0 refl
       (leads_on p start d e (ended (codes "report 1")) (lines ++ []) headed (leads_on p d e e lines [] first.1 (leads_none p e))) rest
   planned_lead k entries (Some sums) (Some set) left small other there is rest =
-      let lines = backlog_line k ++ flat_map worker_line (map (worker_at p) entries) in
+      let lines = backlog_line k ++ flat_map worker_line (map (listed_worker p) entries) in
       let first = counted k entries small other there in
       let d = at stage.Verdict None [] None 0 0 0 in
       let e = at stage.Tasks (Some k) entries None first.0 0 0 in

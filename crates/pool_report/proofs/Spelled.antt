@@ -9,7 +9,7 @@ use Rattle.std.proofs.lemmas.List.{take-append-drop}
 use Rattle.std.proofs.lemmas.Slice.Eq.{bytes_eq-Decides}
 use Rattle.pool_settings.specs.Names.{is_name}
 use Rattle.pool_report.specs.Law.{Spells}
-use Rattle.pool_report.specs.Lines.{Line, after, backlog, backlog_in, counted, head, idle_in, is_worker, keyed, last, line_of, needed, needed_in, no_plan, short, short_in, stranded, stranded_in, task, unserved_in, work_in}
+use Rattle.pool_report.specs.Lines.{ReportLine, after, backlog, backlog_in, count_after, head, idle_in, is_worker, keyed, last, line_of, needed, needed_in, no_plan, short, short_in, stranded, stranded_in, task, unserved_in, work_in}
 use Rattle.pool_report.specs.Report.{ended}
 use Rattle.text_pieces.specs.Cuts.{cut_last}
 use Rattle.text_pieces.specs.Numbers.{plain_number_below}
@@ -38,7 +38,7 @@ after_parts word line rest e = by (bytes_eq (take (length word) line) word) refl
 spaced : (front name middle back : List ℕ) → front ++ (name ++ (middle ++ back)) ≡ ((front ++ name) ++ middle) ++ back
 spaced front name middle back = sym (append_assoc (front ++ name) middle back ∙ append_assoc front name (middle ++ back))
 
-backlog_spelled : (rest : List ℕ) (told : Line) → backlog_in rest ≡ Some told → Spells (ended (codes "backlog " ++ rest)) told
+backlog_spelled : (rest : List ℕ) (told : ReportLine) → backlog_in rest ≡ Some told → Spells (ended (codes "backlog " ++ rest)) told
 backlog_spelled rest told e = by (plain_number_below (2 ^ 32) rest) refl
   where
     by : (o : Option ℕ) → plain_number_below (2 ^ 32) rest ≡ o → Spells (ended (codes "backlog " ++ rest)) told
@@ -48,7 +48,7 @@ backlog_spelled rest told e = by (plain_number_below (2 ^ 32) rest) refl
         let number = plain_spelled (2 ^ 32) rest k (omega arith) is in
         rw (← tells) (omega (arith, number.1), (λ h. omega (arith, h, number.1)), rw (lt-ltb k (2 ^ 32) number.1) (ap (λ t. ended (codes "backlog " ++ t)) number.0))
 
-unserved_spelled : (rest : List ℕ) (told : Line) → unserved_in rest ≡ Some told → Spells (ended (codes "unserved " ++ rest)) told
+unserved_spelled : (rest : List ℕ) (told : ReportLine) → unserved_in rest ≡ Some told → Spells (ended (codes "unserved " ++ rest)) told
 unserved_spelled rest told e = by (plain_number_below (2 ^ 32) rest) refl
   where
     above : (w : ℕ) → plain_number_below (2 ^ 32) rest ≡ Some w → (d : Bool) → ltb 0 w ≡ d → Spells (ended (codes "unserved " ++ rest)) told
@@ -64,7 +64,7 @@ unserved_spelled rest told e = by (plain_number_below (2 ^ 32) rest) refl
     by None none = absurd (never told (rw none at e))
     by (Some w) is = above w is (ltb 0 w) refl
 
-work_spelled : (rest : List ℕ) (told : Line) → work_in rest ≡ Some told → Spells (ended (codes "work " ++ rest)) told
+work_spelled : (rest : List ℕ) (told : ReportLine) → work_in rest ≡ Some told → Spells (ended (codes "work " ++ rest)) told
 work_spelled rest told e = by (cut_last 32 rest) refl
   where
     cut : (parts : List ℕ × List ℕ) → cut_last 32 rest ≡ Some parts → (d : Bool) → (is_worker parts.0 && is_name parts.1) ≡ d → Spells (ended (codes "work " ++ rest)) told
@@ -78,7 +78,7 @@ work_spelled rest told e = by (cut_last 32 rest) refl
     by None none = absurd (never told (rw none at e))
     by (Some parts) is = cut parts is (is_worker parts.0 && is_name parts.1) refl
 
-idle_spelled : (rest : List ℕ) (told : Line) → idle_in rest ≡ Some told → Spells (ended (codes "idle " ++ rest)) told
+idle_spelled : (rest : List ℕ) (told : ReportLine) → idle_in rest ≡ Some told → Spells (ended (codes "idle " ++ rest)) told
 idle_spelled rest told e = by (is_worker rest) refl
   where
     by : (d : Bool) → is_worker rest ≡ d → Spells (ended (codes "idle " ++ rest)) told
@@ -87,7 +87,7 @@ idle_spelled rest told e = by (is_worker rest) refl
         let tells : task rest None ≡ told = same (task rest None) told (rw holds at e) in
         rw (← tells) (holds, tt, refl)
 
-counted_parts : (word rest : List ℕ) (pair : List ℕ × ℕ) → counted word rest ≡ Some pair
+counted_parts : (word rest : List ℕ) (pair : List ℕ × ℕ) → count_after word rest ≡ Some pair
     → (pair.1 < 2 ^ 64) × (rest ≡ pair.0 ++ (32 ∷ (word ++ (32 ∷ decimal pair.1))))
 counted_parts word rest pair e = outer (cut_last 32 rest) refl
   where
@@ -115,10 +115,10 @@ counted_parts word rest pair e = outer (cut_last 32 rest) refl
     outer None none = absurd (never pair (rw none at e))
     outer (Some parts) cut = counts parts cut (plain_number_below (2 ^ 64) parts.1) refl
 
-short_spelled : (rest : List ℕ) (told : Line) → short_in rest ≡ Some told → Spells (ended (codes "short need " ++ rest)) told
-short_spelled rest told e = by (counted (codes "have") rest) refl
+short_spelled : (rest : List ℕ) (told : ReportLine) → short_in rest ≡ Some told → Spells (ended (codes "short need " ++ rest)) told
+short_spelled rest told e = by (count_after (codes "have") rest) refl
   where
-    sums : (pair : List ℕ × ℕ) → counted (codes "have") rest ≡ Some pair → (o : Option ℕ) → plain_number_below (2 ^ 64) pair.0 ≡ o → Spells (ended (codes "short need " ++ rest)) told
+    sums : (pair : List ℕ × ℕ) → count_after (codes "have") rest ≡ Some pair → (o : Option ℕ) → plain_number_below (2 ^ 64) pair.0 ≡ o → Spells (ended (codes "short need " ++ rest)) told
     sums pair is None none = absurd (never told (rw (is, none) at e))
     sums pair is (Some need) number =
         let tells : short ≡ told = same short told (rw (is, number) at e) in
@@ -133,25 +133,25 @@ short_spelled rest told e = by (counted (codes "have") rest) refl
               ∙ spaced (codes "short need ") (decimal need) (codes " have ") (decimal pair.1)),
         )
 
-    by : (o : Option (List ℕ × ℕ)) → counted (codes "have") rest ≡ o → Spells (ended (codes "short need " ++ rest)) told
+    by : (o : Option (List ℕ × ℕ)) → count_after (codes "have") rest ≡ o → Spells (ended (codes "short need " ++ rest)) told
     by None none = absurd (never told (rw none at e))
     by (Some pair) is = sums pair is (plain_number_below (2 ^ 64) pair.0) refl
 
-needed_spelled : (rest : List ℕ) (told : Line) → needed_in rest ≡ Some told → Spells (ended (codes "in " ++ rest)) told
-needed_spelled rest told e = by (counted (codes "need") rest) refl
+needed_spelled : (rest : List ℕ) (told : ReportLine) → needed_in rest ≡ Some told → Spells (ended (codes "in " ++ rest)) told
+needed_spelled rest told e = by (count_after (codes "need") rest) refl
   where
-    named : (pair : List ℕ × ℕ) → counted (codes "need") rest ≡ Some pair → (d : Bool) → is_name pair.0 ≡ d → Spells (ended (codes "in " ++ rest)) told
+    named : (pair : List ℕ × ℕ) → count_after (codes "need") rest ≡ Some pair → (d : Bool) → is_name pair.0 ≡ d → Spells (ended (codes "in " ++ rest)) told
     named pair is false other = absurd (never told (rw (is, other) at e))
     named pair is true holds =
         let tells : needed pair.0 ≡ told = same (needed pair.0) told (rw (is, holds) at e) in
         let parts = counted_parts (codes "need") rest pair is in
         rw (← tells) (pair.1, holds, parts.0, ap ended (ap (λ t. codes "in " ++ t) parts.1 ∙ spaced (codes "in ") pair.0 (codes " need ") (decimal pair.1)))
 
-    by : (o : Option (List ℕ × ℕ)) → counted (codes "need") rest ≡ o → Spells (ended (codes "in " ++ rest)) told
+    by : (o : Option (List ℕ × ℕ)) → count_after (codes "need") rest ≡ o → Spells (ended (codes "in " ++ rest)) told
     by None none = absurd (never told (rw none at e))
     by (Some pair) is = named pair is (is_name pair.0) refl
 
-stranded_spelled : (rest : List ℕ) (told : Line) → stranded_in rest ≡ Some told → Spells (ended (codes "stranded " ++ rest)) told
+stranded_spelled : (rest : List ℕ) (told : ReportLine) → stranded_in rest ≡ Some told → Spells (ended (codes "stranded " ++ rest)) told
 stranded_spelled rest told e = by (cut_last 32 rest) refl
   where
     named : (parts : List ℕ × List ℕ) (w : ℕ) → cut_last 32 rest ≡ Some parts → plain_number_below (2 ^ 32) parts.1 ≡ Some w
@@ -178,7 +178,7 @@ stranded_spelled rest told e = by (cut_last 32 rest) refl
 
 -- ---- lines
 
-tried : (word line : List ℕ) (told : Line) (inner : List ℕ → Option Line) (other : Option Line)
+tried : (word line : List ℕ) (told : ReportLine) (inner : List ℕ → Option ReportLine) (other : Option ReportLine)
     → ((rest : List ℕ) → inner rest ≡ Some told → Spells (ended (word ++ rest)) told)
     → (other ≡ Some told → Spells (ended line) told)
     → option_map_or inner (after word line) other ≡ Some told → Spells (ended line) told
@@ -188,7 +188,7 @@ tried word line told inner other here there e = by (after word line) refl
     by None none = there (rw none at e)
     by (Some rest) is = subst (λ t. Spells (ended t) told) (sym (after_parts word line rest is)) (here rest (rw is at e))
 
-keyed_spelled : (line : List ℕ) (told : Line) → keyed line ≡ Some told → Spells (ended line) told
+keyed_spelled : (line : List ℕ) (told : ReportLine) → keyed line ≡ Some told → Spells (ended line) told
 keyed_spelled line told =
     tried (codes "backlog ") line told backlog_in _ (λ rest. backlog_spelled rest told)
     (tried (codes "unserved ") line told unserved_in _ (λ rest. unserved_spelled rest told)
@@ -199,7 +199,7 @@ keyed_spelled line told =
     (tried (codes "stranded ") line told stranded_in _ (λ rest. stranded_spelled rest told)
     (λ none. absurd (never told none))))))))
 
-pub lines_spelled : (line : List ℕ) (told : Line) → line_of line ≡ Some told → Spells (ended line) told
+pub lines_spelled : (line : List ℕ) (told : ReportLine) → line_of line ≡ Some told → Spells (ended line) told
 lines_spelled line told e = first (bytes_eq line (codes "report 1")) refl
   where
     is_text : (word : List ℕ) → bytes_eq line word ≡ true → ended line ≡ ended word

@@ -2,12 +2,12 @@
 use Rattle.std.proofs.Common.{◌≡◌, ℕ, ◌+◌, List, ◌∷◌, Ok, Err}
 use Rattle.std.specs.List.{slice_split}
 use Rattle.pool_report.specs.Reading.{Draft, is_line_feed, meaning_from, place_line}
-use Rattle.pool_settings.specs.Profile.{Profile}
+use Rattle.pool_settings.specs.Settings.{Settings}
 use Rattle.pool_report.specs.declared.stage.Misread.TheVariants as misread
 use Rattle.pool_report.specs.declared.error.ReadError.TheVariants as error
 use Rattle.pool_report.proofs.Splits.{first_part}
 
-module _ (p : Profile) (n : ℕ) (d : Draft) (line tail : List ℕ) where
+module _ (p : Settings) (n : ℕ) (d : Draft) (line tail : List ℕ) where
   pub bad_line : place_line p d line ≡ Err misread.Bad → meaning_from p n d (line ∷ slice_split is_line_feed tail) ≡ Err (error.BadLine n)
   bad_line e = let next = first_part tail in rw (next.2, e)
 

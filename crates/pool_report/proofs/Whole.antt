@@ -15,11 +15,11 @@ use Rattle.plan_model.specs.declared.answer.Answer.TheVariants.{Planned, NoPlan}
 use Rattle.plan_model.proofs.Hall.{Rising, backlog-le-top, rising}
 use Rattle.plan_model.proofs.Ranges.{range-rises}
 use Rattle.pool_settings.specs.Names.{name_at}
-use Rattle.pool_settings.specs.Profile.{IsProfile, Profile}
+use Rattle.pool_settings.specs.Settings.{AreSettings, Settings}
 use Rattle.pool_settings.specs.Slots.{all_workers, live_workers, owners}
 use Rattle.pool_settings.proofs.SlotSums.{IsAt, length-owners_from, owner_at, sum-room}
-use Rattle.pool_report.specs.Answered.{report_text, short_at, stranded_all, stranded_in, worker_in}
-use Rattle.pool_report.specs.Law.{HasName, IsOf, listed, retold}
+use Rattle.pool_report.specs.Answered.{report_text, short_at, stranded_all, stranded_at, reported_worker}
+use Rattle.pool_report.specs.Law.{HasName, IsOf, listed_plan, retold}
 use Rattle.pool_report.specs.Lines.{backlog, head, last, no_plan, short}
 use Rattle.pool_report.specs.Reading.{Draft, answer_of, is_complete, is_line_feed, meaning, meaning_from, place_function, start, with_entry}
 use Rattle.pool_report.specs.Report.{backlog_line, ended, needed_line, short_line, short_lines, stranded_line, worker_line}
@@ -61,7 +61,7 @@ may_below n f (g ∷ row) h found = elim (or_cases (eqb g f) (list_any (λ g. eq
   | inr other ↦ may_below n f row h.1 other
 ]
 
-module _ (p : Profile) (valid : IsProfile p) where
+module _ (p : Settings) (valid : AreSettings p) where
   name_had : (o : Option ℕ) → Below (length p.functions) o → HasName (option_map (name_at p.functions) o)
   name_had None below = tt
   name_had (Some f) below = valid.functions_named f [] below
@@ -115,9 +115,9 @@ module _ (p : Profile) (valid : IsProfile p) where
     left_below : All (λ f. f < length p.functions) left
     left_below = All-filter (is_stranded i) (λ f. f < length p.functions) (functions i) (λ k d inside. rw (get_or-range_with_len 0 (length i.least) k d (omega (arith, inside, length-range_with_len 0 (length i.least)))) (omega (arith, inside, length-range_with_len 0 (length i.least), many)))
 
-    known_left : AreKnown p (λ f. (stranded_in p i f).waiting) 0 left
+    known_left : AreKnown p (λ f. (stranded_at p i f).waiting) 0 left
     known_left =
-        are_known (λ f. (stranded_in p i f).waiting) left 0 (numbers_from_0 left) (rising left (IsStrictlyIncreasing-filter (is_stranded i) (functions i) (range-rises (length i.least))))
+        are_known (λ f. (stranded_at p i f).waiting) left 0 (numbers_from_0 left) (rising left (IsStrictlyIncreasing-filter (is_stranded i) (functions i) (range-rises (length i.least))))
         (recursion_from_All (λ f. f < length p.functions) left left_below) (λ f. waiting_few i.waiting f sound.counted)
 
     -- what stands behind the set
@@ -125,7 +125,7 @@ module _ (p : Profile) (valid : IsProfile p) where
         → Leads p start (ended (codes "report 1") ++ front) (at s k entries set a b 0)
         → meaning p (ended (codes "report 1") ++ front ++ flat_map stranded_line (stranded_all p i) ++ ended (codes "end")) ≡ Ok (answer_of (at s k entries set a b 0))
     closed s k entries set a b front complete on =
-        let rest = leftovers p i (λ f. (stranded_in p i f).waiting) left s k entries set a b 0 (λ f. refl) complete known_left in
+        let rest = leftovers p i (λ f. (stranded_at p i f).waiting) left s k entries set a b 0 (λ f. refl) complete known_left in
         let d = at rest.0 k entries set a b rest.1 in
         let e = at stage.Done k entries set a b rest.1 in
         let done : Leads p d (ended (codes "end")) e = leads_line p d e (ended (codes "end")) last lines_read.end (rw rest.2 refl) in
@@ -174,7 +174,7 @@ module _ (p : Profile) (valid : IsProfile p) where
 
     -- the lines up to the last worker's
     workers_read : (entries : List (ℕ × Option ℕ)) (k : ℕ) (set : Option (List ℕ)) → IsShownPlan i entries k set
-        → (a : ℕ) × Leads p (at stage.Verdict None [] None 0 0 0) (backlog_line k ++ flat_map worker_line (map (worker_in p (assigned entries)) i.live)) (at stage.Tasks (Some k) (listed i (assigned entries)) None a 0 0)
+        → (a : ℕ) × Leads p (at stage.Verdict None [] None 0 0 0) (backlog_line k ++ flat_map worker_line (map (reported_worker p (assigned entries)) i.live)) (at stage.Tasks (Some k) (listed_plan i (assigned entries)) None a 0 0)
     workers_read entries k set shown =
         let plan = assigned entries in
         let permitted = (and_parts _ (is_permitted i plan) shown.permitted).1 in
@@ -183,30 +183,30 @@ module _ (p : Profile) (valid : IsProfile p) where
         let small : k < 2 ^ 33 = omega (arith, shown.exact, backlog-le-top i plan sound.counted) in
         let count : Leads p d (backlog_line k) e = leads_line p d e (backlog_line k) (backlog k) (lines_read.counts k small (λ same. backlog_other i plan sound (sym shown.exact ∙ same))) refl in
         let rest = tasks p plan i.live (Some k) [] 0 (live_read plan permitted) in
-        (rest.0, leads_on p d e (at stage.Tasks (Some k) (listed i plan) None rest.0 0 0) (backlog_line k) (flat_map worker_line (map (worker_in p plan) i.live)) count rest.1)
+        (rest.0, leads_on p d e (at stage.Tasks (Some k) (listed_plan i plan) None rest.0 0 0) (backlog_line k) (flat_map worker_line (map (reported_worker p plan) i.live)) count rest.1)
 
-    pub plan_read : (entries : List (ℕ × Option ℕ)) (k : ℕ) (set : Option (List ℕ)) → IsShownPlan i entries k set → meaning p (report_text p i (Planned entries k set)) ≡ Ok (Planned (listed i (assigned entries)) k set)
+    pub plan_read : (entries : List (ℕ × Option ℕ)) (k : ℕ) (set : Option (List ℕ)) → IsShownPlan i entries k set → meaning p (report_text p i (Planned entries k set)) ≡ Ok (Planned (listed_plan i (assigned entries)) k set)
     plan_read entries k None shown =
         let plan = assigned entries in
-        let lines = backlog_line k ++ flat_map worker_line (map (worker_in p plan) i.live) in
+        let lines = backlog_line k ++ flat_map worker_line (map (reported_worker p plan) i.live) in
         let first = workers_read entries k None shown in
         let d = at stage.Verdict None [] None 0 0 0 in
-        let e = at stage.Tasks (Some k) (listed i plan) None first.0 0 0 in
-        closed stage.Tasks (Some k) (listed i plan) None first.0 0 (lines ++ []) refl
+        let e = at stage.Tasks (Some k) (listed_plan i plan) None first.0 0 0 in
+        closed stage.Tasks (Some k) (listed_plan i plan) None first.0 0 (lines ++ []) refl
         (leads_on p start d e (ended (codes "report 1")) (lines ++ []) headed (leads_on p d e e lines [] first.1 (leads_none p e)))
     plan_read entries k (Some set) shown =
         let plan = assigned entries in
-        let lines = backlog_line k ++ flat_map worker_line (map (worker_in p plan) i.live) in
+        let lines = backlog_line k ++ flat_map worker_line (map (reported_worker p plan) i.live) in
         let lacks : IsShort i (k - 1) set = shown.evidence.1 in
         let first = workers_read entries k (Some set) shown in
         let d = at stage.Verdict None [] None 0 0 0 in
-        let e = at stage.Tasks (Some k) (listed i plan) None first.0 0 0 in
+        let e = at stage.Tasks (Some k) (listed_plan i plan) None first.0 0 0 in
         let line = short_line (sum_by (need i (k - 1)) set) (neighbours (may_do i) (machines_of i) set) in
-        let sums = leads_line p e (at stage.Set (Some k) (listed i plan) (Some []) first.0 0 0) line short (lines_read.sums (sum_by (need i (k - 1)) set) (neighbours (may_do i) (machines_of i) set) (sum_few i (k - 1) set sound lacks.rising lacks.within) (have_few i set sound)) refl in
-        let rest = set_read (k - 1) set stage.Tasks (Some k) (listed i plan) first.0 lacks sums in
-        let f = at stage.Set (Some k) (listed i plan) (Some set) first.0 rest.0 0 in
+        let sums = leads_line p e (at stage.Set (Some k) (listed_plan i plan) (Some []) first.0 0 0) line short (lines_read.sums (sum_by (need i (k - 1)) set) (neighbours (may_do i) (machines_of i) set) (sum_few i (k - 1) set sound lacks.rising lacks.within) (have_few i set sound)) refl in
+        let rest = set_read (k - 1) set stage.Tasks (Some k) (listed_plan i plan) first.0 lacks sums in
+        let f = at stage.Set (Some k) (listed_plan i plan) (Some set) first.0 rest.0 0 in
         let shorts = short_lines (short_at p i (k - 1) set) in
-        closed stage.Set (Some k) (listed i plan) (Some set) first.0 rest.0 (lines ++ shorts) refl
+        closed stage.Set (Some k) (listed_plan i plan) (Some set) first.0 rest.0 (lines ++ shorts) refl
         (leads_on p start d f (ended (codes "report 1")) (lines ++ shorts) headed (leads_on p d e f lines shorts first.1 rest.1))
 
     pub answer_read : (answer : Answer) → Shown i answer → meaning p (report_text p i answer) ≡ Ok (retold i answer)

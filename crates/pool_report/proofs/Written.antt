@@ -8,9 +8,9 @@ use Rattle.std.proofs.lemmas.Bool.{and_from, and_parts, cases_lt, false≢true, 
 use Rattle.std.proofs.lemmas.List.Folds.{list_all-append}
 use Rattle.pool_settings.specs.Names.{is_machine_name, is_machine_name_byte, is_name, is_name_byte}
 use Rattle.text_pieces.specs.Cuts.{cut_last}
-use Rattle.pool_report.specs.Law.{AreLinesRead, HasName, IsNamed, Tells, is_one_line}
+use Rattle.pool_report.specs.Law.{AreLinesRead, HasName, IsNamed, TellsLine, is_one_line}
 use Rattle.pool_report.specs.Lines.{backlog, idle_in, is_worker, needed, needed_in, short, short_in, stranded, stranded_in, task, work_in}
-use Rattle.pool_report.specs.Report.{Needed, Stranded, Worker, backlog_line, needed_line, short_line, stranded_line, task_line, worker_line, worker_name}
+use Rattle.pool_report.specs.Report.{Needed, Stranded, Worker, backlog_line, needed_line, short_line, stranded_line, task_line, worker_line, name_of_worker}
 use Rattle.text_pieces.proofs.Cutting.{last_nowhere, last_of_parts, none_in}
 use Rattle.text_pieces.proofs.Digits.{digits, plain, plain_decimal, uncut}
 
@@ -76,7 +76,7 @@ work_read name f worker named =
 idle_read : (name : List ℕ) → is_worker name ≡ true → idle_in name ≡ Some (task name None)
 idle_read name worker = rw worker refl
 
-task_told : (name : List ℕ) (f : Option (List ℕ)) → is_worker name ≡ true → is_one_line name ≡ true → HasName f → Tells (task_line name f) (task name f)
+task_told : (name : List ℕ) (f : Option (List ℕ)) → is_worker name ≡ true → is_one_line name ≡ true → HasName f → TellsLine (task_line name f) (task name f)
 task_told name None worker line named = (codes "idle " ++ name, refl, joined (codes "idle ") name refl line, idle_read name worker)
 task_told name (Some f) worker line named = (
   codes "work " ++ name ++ codes " " ++ f,
@@ -85,12 +85,12 @@ task_told name (Some f) worker line named = (
   work_read name f worker named,
 )
 
-worker_told : (w : Worker) → IsNamed w → Tells (worker_line w) (task (worker_name w) w.function)
+worker_told : (w : Worker) → IsNamed w → TellsLine (worker_line w) (task (name_of_worker w) w.function)
 worker_told w named =
-    task_told (worker_name w) w.function (worker_shaped w.machine w.number named.0 named.1)
+    task_told (name_of_worker w) w.function (worker_shaped w.machine w.number named.0 named.1)
     (joined (w.machine ++ codes "/") (decimal w.number) (joined w.machine (codes "/") (machine_line w.machine named.0) refl) (number_line w.number named.1)) named.2
 
-counts_told : (k : ℕ) → k < 2 ^ 33 → k ≢ 2 ^ 32 → Tells (backlog_line k) (backlog k)
+counts_told : (k : ℕ) → k < 2 ^ 33 → k ≢ 2 ^ 32 → TellsLine (backlog_line k) (backlog k)
 counts_told k small other = elim (cases_lt k (2 ^ 32)) [
   | inl below ↦ (
     codes "backlog " ++ decimal k,
@@ -106,7 +106,7 @@ counts_told k small other = elim (cases_lt k (2 ^ 32)) [
   )
 ]
 
-sums_told : (need have : ℕ) → need < 2 ^ 64 → have < 2 ^ 64 → Tells (short_line need have) short
+sums_told : (need have : ℕ) → need < 2 ^ 64 → have < 2 ^ 64 → TellsLine (short_line need have) short
 sums_told need have few many = (
   codes "short need " ++ decimal need ++ codes " have " ++ decimal have,
   refl,
@@ -115,7 +115,7 @@ sums_told need have few many = (
   sums_read need have few many,
 )
 
-needs_told : (n : Needed) → is_name n.function ≡ true → n.need < 2 ^ 64 → Tells (needed_line n) (needed n.function)
+needs_told : (n : Needed) → is_name n.function ≡ true → n.need < 2 ^ 64 → TellsLine (needed_line n) (needed n.function)
 needs_told n named small = (
   codes "in " ++ n.function ++ codes " need " ++ decimal n.need,
   refl,
@@ -124,7 +124,7 @@ needs_told n named small = (
   needs_read n.function n.need named small,
 )
 
-leftovers_told : (s : Stranded) → is_name s.function ≡ true → s.waiting < 2 ^ 32 → Tells (stranded_line s) (stranded s.function)
+leftovers_told : (s : Stranded) → is_name s.function ≡ true → s.waiting < 2 ^ 32 → TellsLine (stranded_line s) (stranded s.function)
 leftovers_told s named small = (
   codes "stranded " ++ s.function ++ codes " " ++ decimal s.waiting,
   refl,

@@ -6,6 +6,6 @@ pub mod Told
 pub mod Reading
 pub mod Drafts
 pub mod Answered
-pub mod Refusal
+pub mod ReportRefusals
 pub mod Law
 pub mod Grammar

@@ -5,7 +5,7 @@ use Rattle.pool_report.specs.declared.error.WriteError.{WriteError}
 use Rattle.pool_report.specs.declared.error.WriteError.TheVariants as error
 
 -- all of it, a front of it, or nothing
-abbrev pub Wrote : {T : Type 0} → Output → List ℕ → Output → Result T WriteError → Type 0
-Wrote old text new (Ok done) = HasText old text new
-Wrote old text new (Err (error.WriteFault count)) = HasFront old text count new
-Wrote old text new (Err error.Memory) = new ≡ old
+abbrev pub WroteText : {T : Type 0} → Output → List ℕ → Output → Result T WriteError → Type 0
+WroteText old text new (Ok done) = HasText old text new
+WroteText old text new (Err (error.WriteFault count)) = HasFront old text count new
+WroteText old text new (Err error.Memory) = new ≡ old

@@ -4,9 +4,9 @@ use Rattle.std.specs.List.{slice_split}
 use Rattle.std.specs.Option.{option_map_or}
 use Rattle.plan_model.specs.declared.answer.Answer.{Answer}
 use Rattle.plan_model.specs.declared.answer.Answer.TheVariants.{Planned, NoPlan}
-use Rattle.pool_report.specs.Lines.{Line, head, backlog, no_plan, task, short, needed, stranded, last, line_of}
+use Rattle.pool_report.specs.Lines.{ReportLine, head, backlog, no_plan, task, short, needed, stranded, last, line_of}
 use Rattle.pool_settings.specs.Names.{place_of}
-use Rattle.pool_settings.specs.Profile.{Profile}
+use Rattle.pool_settings.specs.Settings.{Settings}
 use Rattle.pool_settings.specs.Slots.{slot_named}
 use Rattle.pool_report.specs.declared.stage.Stage.{Stage}
 use Rattle.pool_report.specs.declared.stage.Stage.TheVariants as stage
@@ -35,9 +35,9 @@ abbrev pub is_start : Stage → Bool
 is_start stage.Start = true
 is_start _ = false
 
-abbrev pub is_verdict : Stage → Bool
-is_verdict stage.Verdict = true
-is_verdict _ = false
+abbrev pub at_verdict : Stage → Bool
+at_verdict stage.Verdict = true
+at_verdict _ = false
 
 abbrev pub is_tasks : Stage → Bool
 is_tasks stage.Tasks = true
@@ -86,41 +86,41 @@ with_stranded f d = record { stage = stage.Leftovers; backlog = d.backlog; entri
 abbrev pub in_place : Bool → Result Draft Misread → Result Draft Misread
 in_place holds next = if holds then next else Err misread.Bad
 
-abbrev pub known : Option ℕ → (ℕ → Result Draft Misread) → Result Draft Misread
-known found next = option_map_or next found (Err misread.Unknown)
+abbrev pub if_known : Option ℕ → (ℕ → Result Draft Misread) → Result Draft Misread
+if_known found next = option_map_or next found (Err misread.Unknown)
 
-abbrev pub place_function : Profile → ℕ → Option (List ℕ) → Draft → Result Draft Misread
-place_function p slot None d = Ok (with_entry slot None d)
-place_function p slot (Some name) d = known (place_of p.functions name) (λ f. Ok (with_entry slot (Some f) d))
+abbrev pub place_function : Settings → ℕ → Option (List ℕ) → Draft → Result Draft Misread
+place_function settings slot None d = Ok (with_entry slot None d)
+place_function settings slot (Some name) d = if_known (place_of settings.functions name) (λ f. Ok (with_entry slot (Some f) d))
 
-abbrev pub place_task : Profile → List ℕ → Option (List ℕ) → Draft → Result Draft Misread
-place_task p worker function d =
+abbrev pub place_task : Settings → List ℕ → Option (List ℕ) → Draft → Result Draft Misread
+place_task settings worker function d =
     in_place (is_tasks d.stage)
-    (known (slot_named p worker) (λ slot. in_place (not (nat_lt slot d.next_slot)) (place_function p slot function d)))
+    (if_known (slot_named settings worker) (λ slot. in_place (not (nat_lt slot d.next_slot)) (place_function settings slot function d)))
 
-abbrev pub place_needed : Profile → List ℕ → Draft → Result Draft Misread
-place_needed p name d =
+abbrev pub place_needed : Settings → List ℕ → Draft → Result Draft Misread
+place_needed settings name d =
     in_place (is_set d.stage)
-    (known (place_of p.functions name) (λ f. in_place (not (nat_lt f d.next_function)) (Ok (with_needed f d))))
+    (if_known (place_of settings.functions name) (λ f. in_place (not (nat_lt f d.next_function)) (Ok (with_needed f d))))
 
-abbrev pub place_stranded : Profile → List ℕ → Draft → Result Draft Misread
-place_stranded p name d =
+abbrev pub place_stranded : Settings → List ℕ → Draft → Result Draft Misread
+place_stranded settings name d =
     in_place (is_complete d.stage)
-    (known (place_of p.functions name) (λ f. in_place (not (nat_lt f d.next_stranded)) (Ok (with_stranded f d))))
+    (if_known (place_of settings.functions name) (λ f. in_place (not (nat_lt f d.next_stranded)) (Ok (with_stranded f d))))
 
 -- what is told after one more line
-abbrev pub place : Profile → Draft → Line → Result Draft Misread
-place p d head = in_place (is_start d.stage) (Ok (moved stage.Verdict d))
-place p d (backlog k) = in_place (is_verdict d.stage) (Ok (with_backlog k d))
-place p d no_plan = in_place (is_verdict d.stage) (Ok (moved stage.Bare d))
-place p d (task worker function) = place_task p worker function d
-place p d short = in_place (before_set d.stage) (Ok (with_set d))
-place p d (needed name) = place_needed p name d
-place p d (stranded name) = place_stranded p name d
-place p d last = in_place (is_complete d.stage) (Ok (moved stage.Done d))
+abbrev pub place : Settings → Draft → ReportLine → Result Draft Misread
+place settings d head = in_place (is_start d.stage) (Ok (moved stage.Verdict d))
+place settings d (backlog k) = in_place (at_verdict d.stage) (Ok (with_backlog k d))
+place settings d no_plan = in_place (at_verdict d.stage) (Ok (moved stage.Bare d))
+place settings d (task worker function) = place_task settings worker function d
+place settings d short = in_place (before_set d.stage) (Ok (with_set d))
+place settings d (needed name) = place_needed settings name d
+place settings d (stranded name) = place_stranded settings name d
+place settings d last = in_place (is_complete d.stage) (Ok (moved stage.Done d))
 
-abbrev pub place_line : Profile → Draft → List ℕ → Result Draft Misread
-place_line p d line = option_map_or (place p d) (line_of line) (Err misread.Bad)
+abbrev pub place_line : Settings → Draft → List ℕ → Result Draft Misread
+place_line settings d line = option_map_or (place settings d) (line_of line) (Err misread.Bad)
 
 abbrev pub answer_of : Draft → Answer
 answer_of d = option_map_or (λ k. Planned d.entries k d.set) d.backlog (NoPlan (unwrap_or d.set []))
@@ -129,11 +129,11 @@ abbrev pub is_line_feed : ℕ → Bool
 is_line_feed b = b == 10
 
 -- the fault of line n, or what the lines behind it tell
-abbrev pub then_on : ℕ → Result Draft Misread → (Draft → Result Answer ReadError) → Result Answer ReadError
-then_on n (Ok d) next = next d
-then_on n (Err misread.Bad) next = Err (error.BadLine n)
-then_on n (Err misread.Unknown) next = Err (error.UnknownName n)
-then_on n (Err misread.Memory) next = Err error.Memory
+abbrev pub and_read_on : ℕ → Result Draft Misread → (Draft → Result Answer ReadError) → Result Answer ReadError
+and_read_on n (Ok d) next = next d
+and_read_on n (Err misread.Bad) next = Err (error.BadLine n)
+and_read_on n (Err misread.Unknown) next = Err (error.UnknownName n)
+and_read_on n (Err misread.Memory) next = Err error.Memory
 
 -- behind the last line feed: nothing may stand behind the line feed of `end`
 abbrev pub at_rest : ℕ → Draft → List ℕ → Result Answer ReadError
@@ -141,13 +141,13 @@ at_rest n d rest =
     if is_done d.stage then (if length rest == 0 then Ok (answer_of d) else Err (error.BadLine n))
     else Err error.Truncated
 
--- The parts of a text between its line feeds, from line n on
-abbrev pub meaning_from : Profile → ℕ → Draft → List (List ℕ) → Result Answer ReadError
-meaning_from p n d [] = Err error.Truncated
-meaning_from p n d (line ∷ []) = at_rest n d line
-meaning_from p n d (line ∷ next ∷ rest) =
-    then_on n (place_line p d line) (λ more. meaning_from p (n + 1) more (next ∷ rest))
+-- The parts of a text between its line feeds, from line n on.
+abbrev pub meaning_from : Settings → ℕ → Draft → List (List ℕ) → Result Answer ReadError
+meaning_from settings n d [] = Err error.Truncated
+meaning_from settings n d (line ∷ []) = at_rest n d line
+meaning_from settings n d (line ∷ next ∷ rest) =
+    and_read_on n (place_line settings d line) (λ more. meaning_from settings (n + 1) more (next ∷ rest))
 
 -- the answer that a text tells, or its first fault
-abbrev pub meaning : Profile → List ℕ → Result Answer ReadError
-meaning p text = meaning_from p 1 start (slice_split is_line_feed text)
+abbrev pub meaning : Settings → List ℕ → Result Answer ReadError
+meaning settings text = meaning_from settings 1 start (slice_split is_line_feed text)

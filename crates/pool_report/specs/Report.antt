@@ -23,9 +23,9 @@ pub record Stranded : Type 0 where
   pub waiting : ℕ
 
 -- a plan with its backlog, or none
-pub data Told : Type 0 where
-  planned : ℕ → List Worker → Option Short → Told
-  no_plan : Short → Told
+pub data Finding : Type 0 where
+  planned : ℕ → List Worker → Option Short → Finding
+  no_plan : Short → Finding
 
 abbrev pub ended : List ℕ → List ℕ
 ended line = line ++ 10 ∷ []
@@ -36,15 +36,15 @@ backlog_line k =
     if nat_lt k (2 ^ 32) then ended (codes "backlog " ++ decimal k)
     else ended (codes "unserved " ++ decimal (k - 2 ^ 32))
 
-abbrev pub worker_name : Worker → List ℕ
-worker_name w = w.machine ++ codes "/" ++ decimal w.number
+abbrev pub name_of_worker : Worker → List ℕ
+name_of_worker w = w.machine ++ codes "/" ++ decimal w.number
 
 abbrev pub task_line : List ℕ → Option (List ℕ) → List ℕ
 task_line name (Some function) = ended (codes "work " ++ name ++ codes " " ++ function)
 task_line name None = ended (codes "idle " ++ name)
 
 abbrev pub worker_line : Worker → List ℕ
-worker_line w = task_line (worker_name w) w.function
+worker_line w = task_line (name_of_worker w) w.function
 
 abbrev pub needed_line : Needed → List ℕ
 needed_line n = ended (codes "in " ++ n.function ++ codes " need " ++ decimal n.need)
@@ -62,10 +62,10 @@ abbrev pub short_if : Option Short → List ℕ
 short_if None = []
 short_if (Some s) = short_lines s
 
-abbrev pub told_lines : Told → List ℕ
-told_lines (planned k workers short) = backlog_line k ++ flat_map worker_line workers ++ short_if short
-told_lines (no_plan short) = ended (codes "noplan") ++ short_lines short
+abbrev pub finding_lines : Finding → List ℕ
+finding_lines (planned k workers short) = backlog_line k ++ flat_map worker_line workers ++ short_if short
+finding_lines (no_plan short) = ended (codes "noplan") ++ short_lines short
 
-abbrev pub report : Told → List Stranded → List ℕ
-report told stranded =
-    ended (codes "report 1") ++ told_lines told ++ flat_map stranded_line stranded ++ ended (codes "end")
+abbrev pub report : Finding → List Stranded → List ℕ
+report finding stranded =
+    ended (codes "report 1") ++ finding_lines finding ++ flat_map stranded_line stranded ++ ended (codes "end")

@@ -1,4 +1,4 @@
-// What the lines of a report have told so far.
+//! What the lines of a report have told so far.
 
 ghost use Rattle.std.specs.Prelude.{◌≡◌, ◌≢◌, [], OnOk, IfErr, IfOk, Ok, Err, Some, false, nat_lt, ◌<◌};
 ghost use Rattle.pool_report.specs.Reading as spec;
@@ -99,8 +99,8 @@ impl Draft {
     }
 
     fn place_backlog(&mut self, backlog: u64) -> Result<(), Misread>
-        ensures ok { OnOk result (spec.in_place (spec.is_verdict self.old.stage) (Ok (spec.with_backlog backlog self.old)) ≡ Ok self.new) }
-        ensures err { IfErr result (λ e. spec.in_place (spec.is_verdict self.old.stage) (Ok (spec.with_backlog backlog self.old)) ≡ Err e) }
+        ensures ok { OnOk result (spec.in_place (spec.at_verdict self.old.stage) (Ok (spec.with_backlog backlog self.old)) ≡ Ok self.new) }
+        ensures err { IfErr result (λ e. spec.in_place (spec.at_verdict self.old.stage) (Ok (spec.with_backlog backlog self.old)) ≡ Err e) }
     {
         if !matches!(self.stage, Stage::Verdict) {
             return Err(Misread::Bad);
@@ -111,8 +111,8 @@ impl Draft {
     }
 
     fn place_no_plan(&mut self) -> Result<(), Misread>
-        ensures ok { OnOk result (spec.in_place (spec.is_verdict self.old.stage) (Ok (spec.moved Stage.Bare self.old)) ≡ Ok self.new) }
-        ensures err { IfErr result (λ e. spec.in_place (spec.is_verdict self.old.stage) (Ok (spec.moved Stage.Bare self.old)) ≡ Err e) }
+        ensures ok { OnOk result (spec.in_place (spec.at_verdict self.old.stage) (Ok (spec.moved Stage.Bare self.old)) ≡ Ok self.new) }
+        ensures err { IfErr result (λ e. spec.in_place (spec.at_verdict self.old.stage) (Ok (spec.moved Stage.Bare self.old)) ≡ Err e) }
     {
         if !matches!(self.stage, Stage::Verdict) {
             return Err(Misread::Bad);

@@ -1,7 +1,7 @@
-// Why a report is not read, or not written.
+//! Why a report is not read, or not written.
 
 ghost use Rattle.std.specs.Prelude.{◌≡◌};
-ghost use Rattle.pool_report.specs.Refusal as spec;
+ghost use Rattle.pool_report.specs.ReportRefusals as spec;
 
 use refusal::{Label, Labelled, Refusal};
 use thiserror::Error;
@@ -28,7 +28,7 @@ pub enum ReadError {
 
 /// The number of a refusal is its place in the list of variants, from 1 to 4.
 impl Labelled for ReadError {
-    ghost use Rattle.pool_report.specs.Refusal.{read_label};
+    ghost use Rattle.pool_report.specs.ReportRefusals.{read_label};
 
     ghost label = { read_label };
 
@@ -43,7 +43,7 @@ impl Labelled for ReadError {
 }
 
 impl Refusal for ReadError {
-    ghost use Rattle.pool_report.specs.Refusal.{is_read_memory};
+    ghost use Rattle.pool_report.specs.ReportRefusals.{is_read_memory};
 
     ghost is_memory = { is_read_memory };
 }
@@ -51,7 +51,7 @@ impl Refusal for ReadError {
 impl ReadError {
     /// The line that is refused, counted from 1, where it is one line.
     pub fn line(self) -> Option<u64>
-        ensures { result ≡ spec.line_of self }
+        ensures { result ≡ spec.report_line_of self }
     {
         match self {
             ReadError::BadLine(line) | ReadError::UnknownName(line) => Some(line),

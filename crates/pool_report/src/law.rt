@@ -1,3 +1,5 @@
+//! Laws of reports, as functions that do nothing when they run.
+
 ghost use Rattle.std.specs.Prelude.{◌≡◌, Ok};
 ghost use Rattle.plan_model.specs.Shown.{Shown};
 ghost use Rattle.pool_report.specs.Answered.{report_text};

@@ -1,4 +1,4 @@
-// One line of a report, as it is read.
+//! One line of a report, as it is read.
 
 ghost use Rattle.std.specs.Prelude.{◌≡◌, option_map};
 ghost use Rattle.std.specs.List.{list_all};

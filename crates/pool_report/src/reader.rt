@@ -1,4 +1,4 @@
-// The answer that a report's text tells.
+//! The answer that a report's text tells.
 
 ghost use Rattle.std.specs.Prelude.{◌≡◌, ◌≢◌, ◌∷◌, ◌+◌, ◌<◌, [], IfOk, IfErr, MatchOption, Ok, Err, length};
 ghost use Rattle.std.specs.List.{slice_split};

@@ -1,4 +1,4 @@
-// The report of an answer, and its writing.
+//! The report of an answer, and its writing.
 
 ghost use Rattle.std.specs.Prelude.{◌≡◌, ◌+◌, ◌++◌, ◌^◌, ◌-◌, ◌<◌, [], if◌then◌else◌, IfOk, OnOk, All, length, map, option_map, string_bytes};
 ghost use Rattle.std.specs.List.{flat_map};
@@ -6,8 +6,8 @@ ghost use Rattle.plan_model.specs.Planning.{assigned, is_stranded};
 ghost use Rattle.plan_model.specs.Shown.{IsEvidence, Shown};
 ghost use Rattle.pool_report.specs.Answered as spec;
 ghost use Rattle.pool_report.specs.Kept.{needed_view, stranded_view, worker_view};
-ghost use Rattle.pool_report.specs.Outcome.{Wrote};
-ghost use Rattle.pool_report.specs.Report.{needed_line, short_if, short_lines, stranded_line, told_lines, worker_line};
+ghost use Rattle.pool_report.specs.Outcome.{WroteText};
+ghost use Rattle.pool_report.specs.Report.{needed_line, short_if, short_lines, stranded_line, finding_lines, worker_line};
 ghost use Rattle.pool_settings.specs.Names.{name_at};
 
 use crate::error::WriteError;
@@ -39,7 +39,7 @@ fn worker_of<'s>(
     machine: MachineId,
 ) -> Worker<'s>
     requires { machine < length settings.now.machines }
-    ensures { worker_view result ≡ spec.worker_in settings.now (assigned plan.now) (slot, machine) }
+    ensures { worker_view result ≡ spec.reported_worker settings.now (assigned plan.now) (slot, machine) }
 {
     Worker {
         machine: settings.machine_name(machine),
@@ -55,7 +55,7 @@ fn push_tasks(
     plan: &Plan,
 ) -> Result<(), AllocError>
     requires { All (λ worker. worker.1 < length settings.now.machines) input.now.live }
-    ensures { OnOk result (string_bytes out.new ≡ string_bytes out.old ++ flat_map worker_line (map (spec.worker_in settings.now (assigned plan.now)) input.now.live)) }
+    ensures { OnOk result (string_bytes out.new ≡ string_bytes out.old ++ flat_map worker_line (map (spec.reported_worker settings.now (assigned plan.now)) input.now.live)) }
 {
     for (slot, machine) in input.live() {
         push_worker(out, &worker_of(settings, plan, *slot, *machine))?;
@@ -110,7 +110,7 @@ fn push_evidence(
 
 fn stranded_of<'s>(settings: &'s Settings, input: &Input, function: FuncId) -> Stranded<'s>
     requires { function < length input.now.least }
-    ensures { stranded_view result ≡ spec.stranded_in settings.now input.now function }
+    ensures { stranded_view result ≡ spec.stranded_at settings.now input.now function }
 {
     Stranded {
         function: settings.function_name(function),
@@ -125,7 +125,7 @@ fn push_if_stranded(
     number: u32,
 ) -> Result<(), AllocError>
     requires { number < length input.now.least }
-    ensures { OnOk result (string_bytes out.new ≡ string_bytes out.old ++ (if is_stranded input.now number then stranded_line (spec.stranded_in settings.now input.now number) else [])) }
+    ensures { OnOk result (string_bytes out.new ≡ string_bytes out.old ++ (if is_stranded input.now number then stranded_line (spec.stranded_at settings.now input.now number) else [])) }
 {
     let function = FuncId::new(number);
     if input.is_stranded(function) {
@@ -152,7 +152,7 @@ fn push_told(
 ) -> Result<(), AllocError>
     requires workers { All (λ worker. worker.1 < length settings.now.machines) input.now.live }
     requires shown { Shown input.now answer.now }
-    ensures { OnOk result (string_bytes out.new ≡ string_bytes out.old ++ told_lines (spec.told settings.now input.now answer.now)) }
+    ensures { OnOk result (string_bytes out.new ≡ string_bytes out.old ++ finding_lines (spec.finding settings.now input.now answer.now)) }
 {
     match answer {
         Answer::Planned {
@@ -214,7 +214,7 @@ pub fn write<S: Sink>(
     requires of_these { input.now.may ≡ settings.now.may }
     requires shown { Shown input.now answer.now }
     requires count { (S.output sink.old).failures < 2 ^ 64 - 1 }
-    ensures written { Wrote (S.output sink.old) (spec.report_text settings.now input.now answer.now) (S.output sink.new) result }
+    ensures written { WroteText (S.output sink.old) (spec.report_text settings.now input.now answer.now) (S.output sink.new) result }
 {
     let text = match report_text(alloc, settings, input, answer) {
         Ok(text) => text,

@@ -1,4 +1,4 @@
-// How far a report has been read, and why a line of it is not taken.
+//! How far a report has been read, and why a line of it is not taken.
 
 use std::alloc::{AllocError, AllocFailed};
 

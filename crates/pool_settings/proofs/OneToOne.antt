@@ -8,7 +8,7 @@ use Rattle.std.proofs.lemmas.List.Sums.{sum_by-cons}
 use Rattle.std.proofs.lemmas.Slice.Eq.{bytes_eq-Decides}
 use Rattle.pool_settings.specs.Law.{AreOneToOne}
 use Rattle.pool_settings.specs.Names.{IsInByteOrder, name_at, place_of}
-use Rattle.pool_settings.specs.Profile.{IsProfile, Profile}
+use Rattle.pool_settings.specs.Settings.{AreSettings, Settings}
 use Rattle.pool_settings.specs.Slots.{first_slot, machine_of, parts_of, slot_at, slot_named, slots, worker_name}
 use Rattle.text_pieces.specs.Numbers.{plain_number_below}
 use Rattle.text_pieces.proofs.Cutting.{parts_of_last}
@@ -55,7 +55,7 @@ at_once (w ∷ ws) (suc a) (suc b) slot one other =
       to = omega (arith, other.to, below, sum_by-cons (λ (x : ℕ). x) w (take b ws));
     }))
 
-module _ (p : Profile) (valid : IsProfile p) where
+module _ (p : Settings) (valid : AreSettings p) where
   -- the slot of a machine's worker has the worker's name
   slot_back : (machine n slot : ℕ) → slot_at p machine n ≡ Some slot → machine < length p.machines
       → (slot < slots p) × (worker_name p slot ≡ name_at p.machines machine ++ 47 ∷ decimal n)

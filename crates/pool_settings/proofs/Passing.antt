@@ -17,7 +17,7 @@ use Rattle.pool_settings.specs.declared.error.SettingsError.TheVariants as fault
 use Rattle.pool_settings.specs.declared.place.Counted.TheVariants as counted
 use Rattle.pool_settings.specs.declared.place.Place.TheVariants as place
 use Rattle.pool_settings.specs.Place.{first_in, unless}
-use Rattle.pool_settings.specs.Profile.{IsProfile, Profile}
+use Rattle.pool_settings.specs.Settings.{AreSettings, Settings}
 use Rattle.pool_settings.specs.Reading as spec
 use Rattle.pool_settings.specs.Tree.{Entry, entries_at, entries_of}
 use Rattle.pool_settings.proofs.Ranges.{IsFrom, count_few, limit_range, text_range}
@@ -109,10 +109,10 @@ All-from_list_all p xs h k d below = by (p (get_or xs k d)) refl
 named : (p : List ℕ → Bool) (es : List Entry) → list_all (λ e. p e.0) es ≡ true → All (λ name. IsTrue (p name)) (spec.names_of es)
 named p es h = All-map (λ name. IsTrue (p name)) (λ e. e.0) es (All-from_list_all (λ e. p e.0) es h)
 
-pub IsProfile-profile_of : (tree : Members) → spec.first_fault tree ≡ None
+pub AreSettings-settings_of : (tree : Members) → spec.first_fault tree ≡ None
     → IsInByteOrder (spec.names_of (entries_at spec.functions_key tree)) → IsInByteOrder (spec.names_of (entries_at spec.machines_key tree))
-    → IsProfile (spec.profile_of tree)
-IsProfile-profile_of tree h functions_rise machines_rise =
+    → AreSettings (spec.settings_of tree)
+AreSettings-settings_of tree h functions_rise machines_rise =
     let p = passes tree h in
     let room = room_of tree p in
     let functions = entries_at spec.functions_key tree in
@@ -166,5 +166,5 @@ IsProfile-profile_of tree h functions_rise machines_rise =
     }
 
 -- settings that are those of the tree
-pub keeps : (p : Profile) (tree : Members) → p ≡ spec.profile_of tree → IsProfile (spec.profile_of tree) → IsProfile p
-keeps p tree same valid = subst IsProfile (sym same) valid
+pub keeps : (p : Settings) (tree : Members) → p ≡ spec.settings_of tree → AreSettings (spec.settings_of tree) → AreSettings p
+keeps p tree same valid = subst AreSettings (sym same) valid

@@ -6,11 +6,11 @@ use Rattle.std.specs.List.Sorted.{IsStrictlyIncreasing}
 use Rattle.std.proofs.lemmas.List.Elements.{All-filter, All-from_get_or}
 use Rattle.std.proofs.lemmas.List.FromFn.{get_or-enumerate_from, length-enumerate_from}
 use Rattle.std.proofs.lemmas.List.Kept.{IsStrictlyIncreasing-filter}
-use Rattle.plan_model.specs.Refusal.{AreSlotsInOrder, IsTaken, Refuses, instance}
+use Rattle.plan_model.specs.InputRefusals.{AreSlotsInOrder, IsTaken, Refuses, instance}
 use Rattle.plan_model.specs.declared.input.InputError.{InputError}
 use Rattle.plan_model.specs.declared.input.InputError.TheVariants.{BadMachine, Memory, SlotOrder, TooMany}
 use Rattle.plan_model.proofs.Ranges.{range-rises}
-use Rattle.pool_settings.specs.Profile.{IsProfile, Profile}
+use Rattle.pool_settings.specs.Settings.{AreSettings, Settings}
 use Rattle.pool_settings.specs.Slots.{all_workers, live_workers, owners}
 use Rattle.pool_settings.specs.Planning.{instance_of}
 use Rattle.pool_settings.proofs.Risen.{rows_same}
@@ -34,7 +34,7 @@ fewer p (x ∷ xs) = by (p x) refl (fewer p xs)
     by true is rest = rw is (omega (arith, rest))
     by false is rest = rw is (omega (arith, rest))
 
-module _ (p : Profile) (valid : IsProfile p) (live : List Bool) where
+module _ (p : Settings) (valid : AreSettings p) (live : List Bool) where
   many : length (owners p) ≡ sum p.workers
   many = length-owners_from 0 p.workers
 
@@ -89,13 +89,13 @@ only_memory TooMany live may least most waiting taken refused = absurd (refused.
 only_memory Memory live may least most waiting taken refused = refl
 
 -- the parts that are handed on are those of the settings
-pub record AreParts (live : List (ℕ × ℕ)) (may : List (List ℕ)) (least most : List ℕ) (p : Profile) (marks : List Bool) : Type 0 where
+pub record AreParts (live : List (ℕ × ℕ)) (may : List (List ℕ)) (least most : List ℕ) (p : Settings) (marks : List Bool) : Type 0 where
   pub live_is : live ≡ live_workers p marks
   pub may_is : may ≡ p.may
   pub least_is : least ≡ p.least
   pub most_is : most ≡ p.most
 
-module _ (live : List (ℕ × ℕ)) (may : List (List ℕ)) (least most waiting : List ℕ) (p : Profile) (marks : List Bool) (parts : AreParts live may least most p marks) where
+module _ (live : List (ℕ × ℕ)) (may : List (List ℕ)) (least most waiting : List ℕ) (p : Settings) (marks : List Bool) (parts : AreParts live may least most p marks) where
   pub same_instance : instance live may least most waiting ≡ instance (live_workers p marks) p.may p.least p.most waiting
   same_instance =
       ap (λ t. instance t may least most waiting) parts.live_is ∙ ap (λ t. instance (live_workers p marks) t least most waiting) parts.may_is

@@ -4,7 +4,7 @@ use Rattle.std.specs.List.{AllByRecursion, list_any, range_with_len}
 use Rattle.std.specs.List.Sorted.{IsStrictlyIncreasing}
 use Rattle.std.proofs.lemmas.Bool.{cases_eq, eq-eqb, ne_eqb}
 use Rattle.std.proofs.lemmas.List.Elements.{recursion_from_All}
-use Rattle.plan_model.specs.Refusal.{rising_of}
+use Rattle.plan_model.specs.InputRefusals.{rising_of}
 use Rattle.plan_model.proofs.Hall.{Rising, rising}
 
 -- the numbers from a on that a row names, of k numbers

@@ -4,7 +4,7 @@ use Rattle.std.specs.Prelude.{sum}
 use Rattle.std.proofs.lemmas.Bool.{cases_lt}
 use Rattle.std.proofs.lemmas.List.{get_or-append_right, get_or-replicate, get_or_append_left, length-replicate}
 use Rattle.std.proofs.lemmas.List.Sums.{sum_by-cons}
-use Rattle.pool_settings.specs.Profile.{IsProfile, Profile}
+use Rattle.pool_settings.specs.Settings.{AreSettings, Settings}
 use Rattle.pool_settings.specs.Slots.{firsts_from, machine_of, owners_from}
 
 sum-cons : (x : ℕ) (xs : List ℕ) → sum (x ∷ xs) ≡ x + sum xs
@@ -54,7 +54,7 @@ owner_at m (w ∷ ws) slot h = elim (cases_lt slot w) [
 ]
 
 -- the machine of a slot has it among its own
-pub machine_found : (p : Profile) (slot machine : ℕ) → IsProfile p → slot < sum p.workers → machine ≡ machine_of p slot → IsAt p.workers machine slot
+pub machine_found : (p : Settings) (slot machine : ℕ) → AreSettings p → slot < sum p.workers → machine ≡ machine_of p slot → IsAt p.workers machine slot
 machine_found p slot machine valid below is =
     let own = owner_at 0 p.workers slot below in
     let same : own.0 ≡ machine = omega (arith, own.1, is) in

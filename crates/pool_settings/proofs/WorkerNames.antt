@@ -4,7 +4,7 @@ use Rattle.std.specs.Prelude.{sum}
 use Rattle.std.specs.Fmt.{decimal}
 use Rattle.std.proofs.lemmas.Bool.Decides.{nat_tests}
 use Rattle.pool_settings.specs.Names.{name_at}
-use Rattle.pool_settings.specs.Profile.{IsProfile, Profile}
+use Rattle.pool_settings.specs.Settings.{AreSettings, Settings}
 use Rattle.pool_settings.specs.Slots.{machine_of, slot_named, worker_name, worker_number}
 use Rattle.text_pieces.proofs.Cutting.{last_of_parts}
 use Rattle.text_pieces.proofs.Digits.{plain_decimal, uncut}
@@ -12,7 +12,7 @@ use Rattle.pool_settings.proofs.Searches.{place_is}
 use Rattle.pool_settings.proofs.SlotSums.{machine_found, sum-room}
 
 -- the name of a slot's worker names the slot
-pub named : (p : Profile) → IsProfile p → (slot : ℕ) → slot < sum p.workers → slot_named p (worker_name p slot) ≡ Some slot
+pub named : (p : Settings) → AreSettings p → (slot : ℕ) → slot < sum p.workers → slot_named p (worker_name p slot) ≡ Some slot
 named p valid slot below =
     let m = machine_of p slot in
     let n = worker_number p slot in

@@ -1,10 +1,10 @@
 -- The settings as the code keeps them.
 use Rattle.std.specs.Prelude.{map, string_bytes}
-use Rattle.pool_settings.specs.Profile.{Profile}
+use Rattle.pool_settings.specs.Settings.{Settings}
 use Rattle.pool_settings.specs.declared.settings.Settings.TheInside.{Inside}
 
-abbrev pub profile_view : Inside → Profile
-profile_view s = record {
+abbrev pub settings_view : Inside → Settings
+settings_view s = record {
   server = string_bytes s.server;
   job_timeout_ms = s.job_timeout_ms;
   max_runs = s.max_runs;

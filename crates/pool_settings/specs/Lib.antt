@@ -1,5 +1,5 @@
 pub mod Names
-pub mod Profile
+pub mod Settings
 pub mod Slots
 pub mod Rows
 pub mod Planning
@@ -8,6 +8,6 @@ pub mod Place
 pub mod Fault
 pub mod Reading
 pub mod Entries
-pub mod Refusal
+pub mod SettingsRefusals
 pub mod Kept
 pub mod Law

@@ -9,7 +9,7 @@ use Rattle.toml.specs.Parse.{parse_document}
 use Rattle.pool_settings.specs.Names.{is_machine_name, is_name}
 use Rattle.pool_settings.specs.Place.{first_in, first_of, unless}
 use Rattle.pool_settings.specs.Tree.{Entry, entries_at, entries_in, entries_of, number_between, text_between, values_in}
-use Rattle.pool_settings.specs.Profile.{Profile}
+use Rattle.pool_settings.specs.Settings.{Settings}
 use Rattle.pool_settings.specs.Rows.{row_of}
 use Rattle.pool_settings.specs.declared.error.SettingsError.{SettingsError}
 use Rattle.pool_settings.specs.declared.error.SettingsError.TheVariants as fault
@@ -245,8 +245,8 @@ rows_of functions entries = map (λ e. row_of functions (listed e.1)) entries
 abbrev pub workers_in : Members → List ℕ
 workers_in tree = counts_of workers_key 0 (entries_at machines_key tree)
 
-abbrev pub profile_of : Members → Profile
-profile_of tree = record {
+abbrev pub settings_of : Members → Settings
+settings_of tree = record {
   server = unwrap_or (server_in tree) [];
   job_timeout_ms = unwrap_or (job_timeout_in tree) 0;
   max_runs = unwrap_or (max_runs_in tree) 0;
@@ -300,13 +300,13 @@ first_fault tree = first_of (
     ∷ fault_at fault.UnknownFunction (unknown_function tree)
     ∷ fault_at fault.TooMany (too_many tree) ∷ [])
 
-abbrev pub read_tree : Members → Result Profile SettingsError
-read_tree tree = option_map_or (λ f. Err f.0) (first_fault tree) (Ok (profile_of tree))
+abbrev pub read_tree : Members → Result Settings SettingsError
+read_tree tree = option_map_or (λ f. Err f.0) (first_fault tree) (Ok (settings_of tree))
 
 -- the tree of a text of UTF-8 bytes
 abbrev pub tree_of : List ℕ → Option Members
 tree_of bytes = if is_utf8 bytes then parse_document bytes else None
 
 -- what a settings file means, or its refusal
-abbrev pub reading : List ℕ → Result Profile SettingsError
-reading bytes = option_map_or read_tree (tree_of bytes) (Err fault.Text)
+abbrev pub reading : List ℕ → Result Settings SettingsError
+reading settings_text = option_map_or read_tree (tree_of settings_text) (Err fault.Text)

@@ -1,4 +1,4 @@
-// The greatest numbers that a settings file may give.
+//! The greatest numbers that a settings file may give.
 
 /// The most workers in all, and of a machine or on a function.
 pub const MAX_WORKERS: u32 = 4096;

@@ -1,4 +1,4 @@
-// The checks of a settings file. Each looks at the whole tree, and answers where the first fault is.
+//! The checks of a settings file. Each looks at the whole tree, and answers where the first fault is.
 
 ghost use Rattle.std.specs.Prelude.{◌≡◌, ◌&&◌, is_some, false};
 ghost use Rattle.std.specs.Option.{option_map_or};

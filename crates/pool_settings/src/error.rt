@@ -1,4 +1,4 @@
-// Why a settings file is not taken.
+//! Why a settings file is not taken.
 
 ghost use Rattle.std.specs.Prelude.{◌≡◌};
 
@@ -40,7 +40,7 @@ pub enum SettingsError {
 
 /// The number of a refusal is its place in the order in which it is looked for, from 1 to 9.
 impl Labelled for SettingsError {
-    ghost use Rattle.pool_settings.specs.Refusal.{settings_label};
+    ghost use Rattle.pool_settings.specs.SettingsRefusals.{settings_label};
 
     ghost label = { settings_label };
 
@@ -60,7 +60,7 @@ impl Labelled for SettingsError {
 }
 
 impl Refusal for SettingsError {
-    ghost use Rattle.pool_settings.specs.Refusal.{is_settings_memory};
+    ghost use Rattle.pool_settings.specs.SettingsRefusals.{is_settings_memory};
 
     ghost is_memory = { is_settings_memory };
 }

@@ -1,4 +1,4 @@
-// The first fault of a settings file, and where it is.
+//! The first fault of a settings file, and where it is.
 
 ghost use Rattle.std.specs.Prelude.{◌≡◌, ◌≤◌, IfOk, filter, Some, length, option_map};
 ghost use Rattle.std.specs.List.{after_last};
@@ -69,20 +69,20 @@ fn text_fault(before: &[u8]) -> Fault
 }
 
 /// How many line feeds there are.
-fn line_feeds(bytes: &[u8]) -> usize
-    ensures all { result ≡ length (filter spec.is_line_feed bytes.now) }
-    ensures few { result ≤ length bytes.now }
+fn line_feeds(settings_text: &[u8]) -> usize
+    ensures all { result ≡ length (filter spec.is_line_feed settings_text.now) }
+    ensures few { result ≤ length settings_text.now }
 {
-    bytes.iter().filter(|byte| **byte == b'\n').count()
+    settings_text.iter().filter(|byte| **byte == b'\n').count()
 }
 
 /// How many characters begin there.
-fn characters(bytes: &[u8]) -> usize
-    ensures all { result ≡ length (filter spec.begins_character bytes.now) }
-    ensures few { result ≤ length bytes.now }
+fn characters(settings_text: &[u8]) -> usize
+    ensures all { result ≡ length (filter spec.begins_character settings_text.now) }
+    ensures few { result ≤ length settings_text.now }
 {
     let mut count = 0;
-    for byte in bytes {
+    for byte in settings_text {
         if begins_character(*byte) {
             count += 1;
         }

@@ -1,4 +1,4 @@
-// Which keys a settings file gives.
+//! Which keys a settings file gives.
 
 ghost use Rattle.std.specs.Prelude.{◌≡◌, ◌≢◌, IfErr, IfOk, None, Some};
 ghost use Rattle.toml.specs.Errors.{IsBlank};

@@ -1,4 +1,4 @@
-// The keys of the top table that have a default.
+//! The keys of the top table that have a default.
 
 ghost use Rattle.std.specs.Prelude.{◌≡◌, option_map};
 ghost use Rattle.toml.specs.View.{table_view};

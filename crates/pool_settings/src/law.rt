@@ -1,4 +1,4 @@
-// What names say of numbers.
+//! What names say of numbers.
 
 ghost use Rattle.std.specs.Prelude.{length};
 ghost use Rattle.pool_settings.specs.Law.{AreOneToOne};

@@ -1,4 +1,4 @@
-// The last two checks: each listed function is there, and there are not too many of anything.
+//! The last two checks: each listed function is there, and there are not too many of anything.
 
 ghost use Rattle.std.specs.Prelude.{◌≡◌, length, nat_le, not, option_map, sum};
 ghost use Rattle.std.specs.List.{filter_map, find};

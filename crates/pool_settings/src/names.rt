@@ -1,4 +1,4 @@
-// Names in byte order, numbered from 0.
+//! Names in byte order, numbered from 0.
 
 ghost use Rattle.std.specs.Prelude.{◌≡◌, ◌<◌, ◌^◌, IfOk, IfSome, length, string_bytes};
 ghost use Rattle.std.specs.Cmp.Lexicographic.{slice_cmp};

@@ -1,4 +1,4 @@
-// Where in a settings file a fault is.
+//! Where in a settings file a fault is.
 
 ghost use Rattle.std.specs.Prelude.{◌≡◌, IfOk, string_bytes};
 ghost use Rattle.pool_settings.specs.Place.{place_view};

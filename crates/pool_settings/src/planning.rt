@@ -1,4 +1,4 @@
-// The planning problem of the settings.
+//! The planning problem of the settings.
 
 ghost use Rattle.std.specs.Prelude.{◌≡◌, ◌≤◌, false, IfOk, filter, length, slice_index_or};
 ghost use Rattle.std.specs.List.{enumerate_from};

@@ -1,4 +1,4 @@
-// The settings of a pool.
+//! The settings of a pool.
 
 ghost use Rattle.std.specs.Prelude.{◌≡◌, ◌≢◌, ◌<◌, ◌≤◌, ◌+◌, ◌^◌, Err, IfErr, IfOk, IfSome, None, Ok, Some, length, map, slice_index, slice_index_or, []};
 ghost use Rattle.std.specs.List.Sorted.{IsStrictlyIncreasing};
@@ -7,7 +7,7 @@ ghost use Rattle.toml.specs.View.{table_view};
 ghost use Rattle.pool_settings.specs.Entries.{table_entries, told};
 ghost use Rattle.pool_settings.specs.Names as names;
 ghost use Rattle.pool_settings.specs.Planning.{instance_of};
-ghost use Rattle.pool_settings.specs.Profile.{IsProfile};
+ghost use Rattle.pool_settings.specs.Settings.{AreSettings};
 ghost use Rattle.pool_settings.specs.Reading as spec;
 ghost use Rattle.pool_settings.specs.Rows.{may_do};
 ghost use Rattle.pool_settings.specs.Slots as slots;
@@ -49,15 +49,15 @@ pub struct Settings {
 
 impl Model for Settings {
     ghost use Rattle.std.specs.Prelude.{map, string_bytes};
-    ghost use Rattle.pool_settings.specs.Profile.{IsProfile, Profile};
+    ghost use Rattle.pool_settings.specs.Settings as meant;
 
-    ghost Value = { Profile };
+    ghost Value = { meant.Settings };
 
-    ghost use Rattle.pool_settings.specs.Kept.{profile_view};
+    ghost use Rattle.pool_settings.specs.Kept.{settings_view};
 
-    ghost view = { profile_view };
+    ghost view = { settings_view };
 
-    ghost invariant = { λ s. IsProfile (profile_view s) };
+    ghost invariant = { λ s. meant.AreSettings (settings_view s) };
 }
 
 /// The first check that a tree fails, with its place.
@@ -97,7 +97,7 @@ fn settings_of(
     requires passes { spec.first_fault (table_view tree.now) ≡ None }
     requires functions { table_entries functions.now ≡ entries_at spec.functions_key (table_view tree.now) }
     requires machines { table_entries machines.now ≡ entries_at spec.machines_key (table_view tree.now) }
-    ensures { IfOk result (λ s. s ≡ spec.profile_of (table_view tree.now)) }
+    ensures { IfOk result (λ s. s ≡ spec.settings_of (table_view tree.now)) }
 {
     let server = String::from_str(alloc, server_in(tree).unwrap_or(""))?;
     let names = Names::of_table(alloc, functions)?;
@@ -165,12 +165,12 @@ impl Settings {
     /// first that fails is answered; `SettingsError` says what each is. What should be a table and is not has no keys and lacks
     /// none: it is `BadValue`. `Memory` comes only where a growth was refused, and may come in the place of a later refusal; a file
     /// with nothing but white space and comments is `Version`, whatever memory there is.
-    pub fn read(alloc: Global, bytes: &[u8]) -> Result<Settings, SettingsError>
-        ensures ok { IfOk result (λ s. spec.reading bytes.now ≡ Ok s) }
-        ensures refused { IfErr result (λ f. f ≢ SettingsError.Memory → spec.reading bytes.now ≡ Err f) }
-        ensures memory { IfErr result (λ f. f ≡ SettingsError.Memory → ¬ IsBlank bytes.now) }
+    pub fn read(alloc: Global, settings_text: &[u8]) -> Result<Settings, SettingsError>
+        ensures ok { IfOk result (λ settings. spec.reading settings_text.now ≡ Ok settings) }
+        ensures refused { IfErr result (λ f. f ≢ SettingsError.Memory → spec.reading settings_text.now ≡ Err f) }
+        ensures memory { IfErr result (λ f. f ≡ SettingsError.Memory → ¬ IsBlank settings_text.now) }
     {
-        match toml::table_from_slice(alloc, bytes) {
+        match toml::table_from_slice(alloc, settings_text) {
             Ok(tree) => read_tree(alloc, &tree),
             Err(error) => {
                 if error.is_memory() {
@@ -263,7 +263,7 @@ impl Settings {
     pub fn functions(&self) -> u32
         ensures all { result ≡ length self.now.functions }
         ensures few { result ≤ 1024 }
-        ensures valid { IsProfile self.now }
+        ensures valid { AreSettings self.now }
     {
         self.functions.len() as u32
     }
@@ -272,7 +272,7 @@ impl Settings {
     pub fn machines(&self) -> u32
         ensures all { result ≡ length self.now.machines }
         ensures few { result ≤ 256 }
-        ensures valid { IsProfile self.now }
+        ensures valid { AreSettings self.now }
     {
         self.machines.len() as u32
     }
@@ -352,7 +352,7 @@ impl Settings {
     pub fn slots(&self) -> u32
         ensures all { result ≡ slots.slots self.now }
         ensures few { result ≤ 4096 }
-        ensures valid { IsProfile self.now }
+        ensures valid { AreSettings self.now }
     {
         self.slots.len()
     }
@@ -379,7 +379,7 @@ impl Settings {
     pub fn machine_of(&self, slot: SlotId) -> MachineId
         requires { slot < slots.slots self.now }
         ensures all { result ≡ slots.machine_of self.now slot }
-        ensures valid { IsProfile self.now }
+        ensures valid { AreSettings self.now }
         ensures there { result < length self.now.machines }
         ensures from { slots.first_slot self.now result ≤ slot }
         ensures to { slot < slots.first_slot self.now result + slice_index self.now.workers result }

@@ -1,4 +1,4 @@
-// The slots of machines, numbered by machine and then by the worker's number in its machine.
+//! The slots of machines, numbered by machine and then by the worker's number in its machine.
 
 ghost use Rattle.std.specs.Prelude.{◌≡◌, ◌<◌, ◌≤◌, ◌+◌, ◌++◌, IfOk, OnOk, length, sum, take, slice_index, replicate};
 ghost use Rattle.pool_settings.specs.Slots.{firsts_from, owners_from};

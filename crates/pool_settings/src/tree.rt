@@ -1,4 +1,4 @@
-// What a table of `toml` holds at a key.
+//! What a table of `toml` holds at a key.
 
 ghost use Rattle.std.specs.Prelude.{◌≡◌, is_some, option_and_then, option_map};
 ghost use Rattle.toml.specs.Data.{as_table, get_member};

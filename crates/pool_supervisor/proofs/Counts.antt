@@ -1,7 +1,7 @@
 -- How a call moves the totals, and what they count, by the pool's own laws.
 use Rattle.std.proofs.Common.{◌≡◌, ◌+◌, ◌++◌, length, false, sym, ap, subst, ◌∙◌, arith}
 use Rattle.std.specs.Prelude.{Result, Ok, Err, OnOk, OnErr, count_by}
-use Rattle.pool_settings.specs.Profile.{IsProfile}
+use Rattle.pool_settings.specs.Settings.{AreSettings}
 use Rattle.worker_state.specs.Slots.{is_open, is_reported, is_lost}
 use Rattle.pool_core.specs.declared.event.Event.{Event}
 use Rattle.pool_core.specs.Machine.{State, first, replay, IsHistory}
@@ -22,15 +22,15 @@ same_totals e old new (Err x) counts no_grab no_report step same =
     (ap (λ (b : Book). (totals_of b).grabbed) same, ap (λ (b : Book). (totals_of b).reported) same)
 
 -- the totals are the numbers of grabs and of reports of the whole history
-pub counts_its_events : (book : Book) → IsProfile book.rules → IsChapter book.rules book.chapters book.events book.state → HistoriesJoin → HistoriesCount → CountsItsEvents book (totals_of book)
+pub counts_its_events : (book : Book) → AreSettings book.settings → IsChapter book.settings book.chapters book.events book.state → HistoriesJoin → HistoriesCount → CountsItsEvents book (totals_of book)
 counts_its_events book valid chapter join count =
-    let base = first book.rules in
+    let base = first book.settings in
     let before = chapter.begins.before in
     let to_base = chapter.begins.replays in
-    let from_base : IsHistory book.rules (replay book.rules base before) book.events = subst (λ (s : State). IsHistory book.rules s book.events) to_base.replayed chapter.replays.history in
-    let joined = join book.rules base before book.events to_base.history from_base in
-    let replayed : book.state ≡ replay book.rules base (before ++ book.events) = chapter.replays.replayed ∙ (ap (λ (s : State). replay book.rules s book.events) to_base.replayed ∙ sym joined.1) in
-    let counted = count book.rules valid (before ++ book.events) joined.0 in
+    let from_base : IsHistory book.settings (replay book.settings base before) book.events = subst (λ (s : State). IsHistory book.settings s book.events) to_base.replayed chapter.replays.history in
+    let joined = join book.settings base before book.events to_base.history from_base in
+    let replayed : book.state ≡ replay book.settings base (before ++ book.events) = chapter.replays.replayed ∙ (ap (λ (s : State). replay book.settings s book.events) to_base.replayed ∙ sym joined.1) in
+    let counted = count book.settings valid (before ++ book.events) joined.0 in
     record {
       earlier = before;
       replays = record { history = joined.0; replayed = replayed };
@@ -39,10 +39,10 @@ counts_its_events book valid chapter join count =
     }
 
 -- each job that was grabbed is running, reported or lost
-pub accounts_for_each : (book : Book) → IsProfile book.rules → IsChapter book.rules book.chapters book.events book.state → HistoriesJoin → HistoriesCount
+pub accounts_for_each : (book : Book) → AreSettings book.settings → IsChapter book.settings book.chapters book.events book.state → HistoriesJoin → HistoriesCount
     → (totals_of book).grabbed ≡ (totals_of book).running + (totals_of book).reported + (totals_of book).lost
 accounts_for_each book valid chapter join count =
     let counts = counts_its_events book valid chapter join count in
-    let counted = count book.rules valid (counts.earlier ++ book.events) counts.replays.history in
+    let counted = count book.settings valid (counts.earlier ++ book.events) counts.replays.history in
     subst (λ (s : State). length s.standings ≡ count_by is_open s.standings + count_by is_reported s.standings + count_by is_lost s.standings)
     (sym counts.replays.replayed) counted.sum

@@ -15,7 +15,7 @@ use Rattle.worker_state.specs.declared.slot.Slot.TheVariants.{Empty}
 use Rattle.order_board.specs.declared.view.Post.{Post}
 use Rattle.order_board.specs.Posts.{posts_of}
 use Rattle.pool_core.specs.Machine.{State, slot_in}
-use Rattle.pool_core.specs.Laws.{order_in}
+use Rattle.pool_core.specs.Laws.{order_at}
 use Rattle.pool_supervisor.specs.Published.{live_order}
 
 -- the order of a live slot below this one
@@ -48,12 +48,12 @@ pub none_more : (state : State) (j : ℕ) (old new : List Post) → is_live (slo
     → ((s : ℕ) → posts_of s new ≡ posts_of s old ++ order_below state j s)
     → (s : ℕ) → posts_of s new ≡ posts_of s old ++ order_below state (j + 1) s
 none_more state j old new empty before =
-    one_more state j old new new (sym (ap (λ (b : Bool). posts_of j new ++ (if b then order_in state.orders j ∷ [] else [])) empty ∙ append-nil (posts_of j new))) (λ s apart. refl) before
+    one_more state j old new new (sym (ap (λ (b : Bool). posts_of j new ++ (if b then order_at state.orders j ∷ [] else [])) empty ∙ append-nil (posts_of j new))) (λ s apart. refl) before
 
 past_end : (state : State) (s : ℕ) (b : Bool) → nat_lt s (length state.slots) ≡ b → (if b then live_order state s else []) ≡ live_order state s
 past_end state s true below = refl
 past_end state s false above =
-    sym (ap (λ slot. if is_live slot then order_in state.orders s ∷ [] else []) (get_or_past state.slots s (Empty 0) (ltb-false s (length state.slots) above)))
+    sym (ap (λ slot. if is_live slot then order_at state.orders s ∷ [] else []) (get_or_past state.slots s (Empty 0) (ltb-false s (length state.slots) above)))
 
 -- after the last slot, each live slot's order was posted
 pub all_posted : (state : State) (s : ℕ) → order_below state (length state.slots) s ≡ live_order state s
@@ -63,7 +63,7 @@ all_posted state s = past_end state s (nat_lt s (length state.slots)) refl
 pub live_here : (state : State) (j : ℕ) (slot : Slot) (order : OrderParts) → slice_get state.slots j ≡ Some slot → is_live slot ≡ true → slice_get state.orders j ≡ Some order
     → live_order state j ≡ order ∷ []
 live_here state j slot order at live at_order =
-    ap (λ (b : Bool). if b then order_in state.orders j ∷ [] else []) (ap is_live (get_or_from_slice_get state.slots j slot (Empty 0) at) ∙ live)
+    ap (λ (b : Bool). if b then order_at state.orders j ∷ [] else []) (ap is_live (get_or_from_slice_get state.slots j slot (Empty 0) at) ∙ live)
     ∙ ap (λ (o : OrderParts). o ∷ []) (get_or_from_slice_get state.orders j order no_order at_order)
 
 pub empty_here : (state : State) (j : ℕ) (slot : Slot) → slice_get state.slots j ≡ Some slot → is_live slot ≡ false → is_live (slot_in state.slots j) ≡ false

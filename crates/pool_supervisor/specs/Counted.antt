@@ -2,14 +2,14 @@
 use Rattle.std.specs.Prelude.{◌≡◌, List, ◌++◌, count_by}
 use Rattle.pool_core.specs.declared.answer.Totals.{Totals}
 use Rattle.pool_core.specs.declared.event.Event.{Event}
-use Rattle.pool_core.specs.Machine.{first, Replays}
+use Rattle.pool_core.specs.Machine.{first, IsReplay}
 use Rattle.pool_core.specs.Laws.{is_grab, is_report}
 use Rattle.pool_core.specs.Book.{Book}
 
 -- Some earlier events and those of this chapter lead from the first state to the state, and the totals are the numbers of grabs and of
--- reports among them
+-- reports among them.
 pub record CountsItsEvents (book : Book) (totals : Totals) : Type 0 where
   pub earlier : List Event
-  pub replays : Replays book.rules (first book.rules) (earlier ++ book.events) book.state
+  pub replays : IsReplay book.settings (first book.settings) (earlier ++ book.events) book.state
   pub grabs : totals.grabbed ≡ count_by is_grab (earlier ++ book.events)
   pub reports : totals.reported ≡ count_by is_report (earlier ++ book.events)

@@ -2,9 +2,9 @@
 use Rattle.std.specs.Prelude.{ℕ, ◌-◌, ◌^◌, ◌++◌, List, [], Option, Some, None, codes, nat_lt, if◌then◌else◌}
 use Rattle.std.specs.Fmt.{decimal}
 use Rattle.refusal.specs.Label.{Label, label_words}
-use Rattle.gear_status.specs.Refusal.{line_of, status_label}
+use Rattle.gear_status.specs.StatusRefusals.{status_line_of, status_label}
 use Rattle.gear_status.specs.declared.error.StatusError.{StatusError}
-use Rattle.pool_core.specs.Refusal.{load_label, view_label, adopt_label}
+use Rattle.pool_core.specs.CallRefusals.{load_label, view_label, adopt_label}
 use Rattle.pool_core.specs.declared.answer.Ran.{Ran}
 use Rattle.pool_supervisor.specs.declared.attempt.PoolRefusal.{PoolRefusal}
 use Rattle.pool_supervisor.specs.declared.attempt.PoolRefusal.TheVariants as refusal
@@ -32,7 +32,7 @@ line_words (Some line) = codes " line " ++ decimal line
 
 -- why a status text was not taken, with its line where it is one line
 abbrev pub status_words : StatusError → List ℕ
-status_words error = codes "status " ++ label_words (status_label error) ++ line_words (line_of error)
+status_words error = codes "status " ++ label_words (status_label error) ++ line_words (status_line_of error)
 
 abbrev pub attempt_words : Attempt → List ℕ
 attempt_words (attempt.Backlog round backlog) = codes "round " ++ decimal round ++ codes " backlog " ++ decimal backlog

@@ -132,7 +132,7 @@ impl<'a, G: Ledger, D: Ledger, B: BoardId, C: Watch, R: Wait> SharedPort<'a, G, 
 
 impl<'a, G: Ledger, D: Ledger, B: BoardId, C: Watch, R: Wait> PoolPort
     for SharedPort<'a, G, D, B, C, R> {
-    ghost use Rattle.job_runner.specs.Book.{Book};
+    ghost use Rattle.job_runner.specs.Book.{Ledger};
 
     ghost book = { λ p. record {
       grabs = p.grabs;

@@ -1,7 +1,7 @@
 //! One session over the shared pool, and what it hands back.
 ghost use Rattle.std.specs.Prelude.{◌≡◌, ◌-◌, ◌<◌, ◌^◌, ℕ, List};
 ghost use Rattle.gear_status.specs.Sides.{and_then};
-ghost use Rattle.job_runner.specs.Book.{Book};
+ghost use Rattle.job_runner.specs.Book.{Ledger};
 ghost use Rattle.job_runner.specs.Loop.{duty_of};
 ghost use Rattle.job_runner.specs.Run.{Served};
 ghost use Rattle.pool_settings.specs.Slots.{slots};
@@ -87,7 +87,7 @@ pub fn run_worker<G: Ledger, D: Ledger, B: BoardId, L: Source + Sink, J: Jobs, C
     requires input { (L.input link.old).failures < 2 ^ 64 - 1 }
     requires grabbed { (grab_share.parts ≡ 1) × (grab_share.amount ≡ 0) }
     requires reported { (report_share.parts ≡ 1) × (report_share.amount ≡ 0) }
-    ensures served { (read bytes : List ℕ) × (book : Book)
+    ensures served { (read bytes : List ℕ) × (book : Ledger)
         × ((L.input link.new).given ≡ and_then (L.input link.old).given read)
         × ((L.output link.new).got ≡ and_then (L.output link.old).got bytes)
         × Served (duty_of (J.told site.now.jobs.now) site.now.settings.now pass) read bytes

@@ -1,7 +1,7 @@
 -- Commands by their files.
 use Rattle.std.proofs.Common.{◌≡◌, ℕ, List, inl, inr, refl}
 use Rattle.command_line.specs.Words.{Named, plan}
-use Rattle.devices.specs.Folder.{IsRead, Known}
+use Rattle.devices.specs.Folder.{IsReadFile, Known}
 use Rattle.devices.specs.declared.error.InputError.{InputError}
 use Rattle.gear_status.specs.Sides.{Input, Meets, Met, Output}
 use Rattle.plan_commands.proofs.Posing.{meets_nothing, nothing_from}
@@ -19,5 +19,5 @@ unread file command side out e exit ends not_read =
 
 -- the settings were read, and the plan was made
 pub planned : (file : List ℕ → Known) (s : List ℕ) (lost : List (List ℕ)) (text : List ℕ) (met : Met) (old new : Output) (exit : Exit)
-    → IsRead (file s) text → Plans text lost met old new exit → CarriesOut file (plan s lost) met old new exit
+    → IsReadFile (file s) text → Plans text lost met old new exit → CarriesOut file (plan s lost) met old new exit
 planned file s lost text met old new exit read plans = inl (text, read, plans)

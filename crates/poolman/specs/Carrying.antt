@@ -1,7 +1,7 @@
 -- What a command does, by the files that it names.
 use Rattle.std.specs.Prelude.{◌⊎◌, ℕ, List}
 use Rattle.command_line.specs.Words.{Named, plan, check, replay, show_settings, run}
-use Rattle.devices.specs.Folder.{IsRead, IsUnread, Known}
+use Rattle.devices.specs.Folder.{IsReadFile, IsUnreadFile, Known}
 use Rattle.devices.specs.Whole.{IsUntouched}
 use Rattle.devices.specs.declared.error.InputError.{InputError}
 use Rattle.gear_status.specs.Sides.{Met, Output}
@@ -17,30 +17,30 @@ use Rattle.settings_command.specs.Told.{TellsSettings}
 
 -- This keeps a file of the command from being read whole, and is the first that does: files are read in the order of the words.
 abbrev pub IsUnreadIn : (List ℕ → Known) → Named → InputError → Type 0
-IsUnreadIn file (plan s lost) e = IsUnread (file s) e
+IsUnreadIn file (plan s lost) e = IsUnreadFile (file s) e
 IsUnreadIn file (check s t lost) e =
-    IsUnread (file s) e ⊎ ((settings : List ℕ) × IsRead (file s) settings × IsUnread (file t) e)
-IsUnreadIn file (replay s) e = IsUnread (file s) e
-IsUnreadIn file (show_settings s) e = IsUnread (file s) e
-IsUnreadIn file (run s rounds) e = IsUnread (file s) e
+    IsUnreadFile (file s) e ⊎ ((settings_text : List ℕ) × IsReadFile (file s) settings_text × IsUnreadFile (file t) e)
+IsUnreadIn file (replay s) e = IsUnreadFile (file s) e
+IsUnreadIn file (show_settings s) e = IsUnreadFile (file s) e
+IsUnreadIn file (run s rounds) e = IsUnreadFile (file s) e
 
 -- The files of the command were read, and it does with their bytes what its call says. `settings` and a run take nothing from the
 -- input.
-abbrev pub Runs : (List ℕ → Known) → Named → Met → Output → Output → Exit → Type 0
-Runs file (plan s lost) met old new exit =
-    (settings : List ℕ) × IsRead (file s) settings × Plans settings lost met old new exit
-Runs file (check s t lost) met old new exit =
-    (settings : List ℕ) × (text : List ℕ) × IsRead (file s) settings × IsRead (file t) text
-    × Checks (problem settings lost (load_of text)) met old new exit
-Runs file (replay s) met old new exit =
-    (settings : List ℕ) × IsRead (file s) settings × Replays settings met old new exit
-Runs file (show_settings s) met old new exit =
-    (settings : List ℕ) × IsRead (file s) settings × IsUntouched met × TellsSettings settings old new exit
-Runs file (run s rounds) met old new exit =
-    (settings : List ℕ) × IsRead (file s) settings × IsUntouched met × Supervises settings rounds old new exit
+abbrev pub ActsOnFiles : (List ℕ → Known) → Named → Met → Output → Output → Exit → Type 0
+ActsOnFiles file (plan s lost) met old new exit =
+    (settings_text : List ℕ) × IsReadFile (file s) settings_text × Plans settings_text lost met old new exit
+ActsOnFiles file (check s t lost) met old new exit =
+    (settings_text : List ℕ) × (status_text : List ℕ) × IsReadFile (file s) settings_text × IsReadFile (file t) status_text
+    × Checks (problem settings_text lost (load_of status_text)) met old new exit
+ActsOnFiles file (replay s) met old new exit =
+    (settings_text : List ℕ) × IsReadFile (file s) settings_text × Replays settings_text met old new exit
+ActsOnFiles file (show_settings s) met old new exit =
+    (settings_text : List ℕ) × IsReadFile (file s) settings_text × IsUntouched met × TellsSettings settings_text old new exit
+ActsOnFiles file (run s rounds) met old new exit =
+    (settings_text : List ℕ) × IsReadFile (file s) settings_text × IsUntouched met × Supervises settings_text rounds old new exit
 
 -- The command ran. Or one of its files was not read, and nothing is taken from the input and nothing written.
 abbrev pub CarriesOut : (List ℕ → Known) → Named → Met → Output → Output → Exit → Type 0
 CarriesOut file command met old new exit =
-    Runs file command met old new exit
+    ActsOnFiles file command met old new exit
     ⊎ ((e : InputError) × IsUnreadIn file command e × IsUntouched met × Stops (input_fault e) old new exit)

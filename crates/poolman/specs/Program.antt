@@ -23,8 +23,8 @@ pub record Streams : Type 0 where
   pub errors : Output
 
 -- A sink has the text, or a front of it where a write failed.
-abbrev pub Says : List ℕ → Output → Output → Type 0
-Says text old new = HasText old text new ⊎ ((count : ℕ) × HasFront old text count new)
+abbrev pub SaysLine : List ℕ → Output → Output → Type 0
+SaysLine text old new = HasText old text new ⊎ ((count : ℕ) × HasFront old text count new)
 
 -- the line of a fault, as error output shows it
 abbrev pub fault_text : Fault → List ℕ
@@ -33,7 +33,7 @@ fault_text fault = codes "poolman: " ++ fault_line fault ++ 10 ∷ []
 -- Error output has the line of the fault, where there is one; or that of want of memory, where there is none for that line.
 abbrev pub Complains : Option Fault → Output → Output → Type 0
 Complains None old new = new ≡ old
-Complains (Some fault) old new = Says (fault_text fault) old new ⊎ Says (fault_text Memory) old new
+Complains (Some fault) old new = SaysLine (fault_text fault) old new ⊎ SaysLine (fault_text Memory) old new
 
 -- There is no memory, which is told.
 abbrev pub Lacks : Output → Output → ℕ → Type 0
@@ -41,7 +41,7 @@ Lacks old new status = Complains (Some Memory) old new × (status ≡ 4)
 
 -- Some text on error output says what is wrong with the words, or is the help that they ask for. Or there is no memory for it.
 abbrev pub Advises : Output → Output → ℕ → Type 0
-Advises old new status = (((text : List ℕ) × Says text old new) × (status ≡ 2)) ⊎ Lacks old new status
+Advises old new status = (((text : List ℕ) × SaysLine text old new) × (status ≡ 2)) ⊎ Lacks old new status
 
 -- The system gives no words, by an error of this kind: there is no memory, or one of them is no text.
 abbrev pub HasNoWords : ErrorKind → Output → Output → ℕ → Type 0

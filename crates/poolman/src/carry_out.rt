@@ -2,7 +2,7 @@
 
 ghost use Rattle.std.specs.Prelude.{◌-◌, ◌^◌, ◌<◌, ◌⊎◌, IfErr, IfOk, List, ℕ};
 ghost use Rattle.command_line.specs.Named.{named};
-ghost use Rattle.devices.specs.Folder.{IsRead, IsUnread};
+ghost use Rattle.devices.specs.Folder.{IsReadFile, IsUnreadFile};
 ghost use Rattle.gear_status.specs.Sides.{Meets, Met};
 ghost use Rattle.poolman.specs.Carrying.{CarriesOut};
 
@@ -66,10 +66,10 @@ fn read_both<F: Folder>(
     first: &str,
     second: &str,
 ) -> Result<(Vec<u8>, Vec<u8>), InputError>
-    ensures first { IfOk result (λ texts. IsRead (F.file files.now first.now) texts.0.items) }
-    ensures second { IfOk result (λ texts. IsRead (F.file files.now second.now) texts.1.items) }
-    ensures err { IfErr result (λ e. IsUnread (F.file files.now first.now) e
-        ⊎ ((text : List ℕ) × IsRead (F.file files.now first.now) text × IsUnread (F.file files.now second.now) e)) }
+    ensures first { IfOk result (λ texts. IsReadFile (F.file files.now first.now) texts.0.items) }
+    ensures second { IfOk result (λ texts. IsReadFile (F.file files.now second.now) texts.1.items) }
+    ensures err { IfErr result (λ e. IsUnreadFile (F.file files.now first.now) e
+        ⊎ ((text : List ℕ) × IsReadFile (F.file files.now first.now) text × IsUnreadFile (F.file files.now second.now) e)) }
 {
     let first = read_file(files, alloc, first)?;
     let second = read_file(files, alloc, second)?;

@@ -131,7 +131,7 @@ fn complain<E: Sink>(alloc: Global, fault: Fault, errors: &mut E)
 /// Writes a text, or a front of it where a write fails, which nobody can be told of.
 fn say<E: Sink>(errors: &mut E, text: &[u8])
     requires { (E.output errors.old).failures < 2 ^ 64 - 1 }
-    ensures { spec.Says text.now (E.output errors.old) (E.output errors.new) }
+    ensures { spec.SaysLine text.now (E.output errors.old) (E.output errors.new) }
 {
     let _ = give_all(errors, text);
 }

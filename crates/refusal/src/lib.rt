@@ -24,7 +24,7 @@
 //!
 //! ```text
 //! impl Refusal for JoinError {
-//!     ghost use Rattle.pool_core.specs.Refusal.{join_label, is_join_memory};
+//!     ghost use Rattle.pool_core.specs.CallRefusals.{join_label, is_join_memory};
 //!
 //!     ghost label = { join_label };
 //!

@@ -7,7 +7,7 @@ use Rattle.pool_replay.specs.Transcript.{IsRun}
 use Rattle.pool_replay.specs.declared.running.End.{End}
 use Rattle.pool_replay.specs.declared.running.End.TheVariants as end
 use Rattle.pool_replay.specs.declared.running.Outcome.{Outcome}
-use Rattle.pool_settings.specs.Profile.{Profile}
+use Rattle.pool_settings.specs.Settings.{Settings}
 use Rattle.pool_settings.specs.Reading.{reading}
 use Rattle.plan_commands.specs.Ending.{Delivers, Stops}
 use Rattle.plan_commands.specs.Fault.{answered, refused}
@@ -19,17 +19,17 @@ use Rattle.plan_commands.specs.declared.fault.Fault.TheVariants as fault
 -- The input was taken whole, and the output is that of a run of it: a transcript of the pool's machine on its lines, or on those
 -- before the one at which the run ended.
 abbrev pub Transcribes : List ℕ → Met → List ℕ → End → Type 0
-Transcribes settings met output how =
-    (p : Profile) × (reading settings ≡ Ok p) × IsWhole met × IsRun p met.bytes output how
+Transcribes settings_text met output how =
+    (settings : Settings) × (reading settings_text ≡ Ok settings) × IsWhole met × IsRun settings met.bytes output how
 
 -- The run of the input that was taken, or the first fault of settings and input. Nothing is taken where the settings are refused.
-abbrev pub Runs : List ℕ → Met → Result Outcome Fault → Type 0
-Runs settings met (Ok outcome) = Transcribes settings met (string_bytes outcome.output) outcome.end
-Runs settings met (Err (fault.Settings e)) = (reading settings ≡ Err e) × IsUntouched met
-Runs settings met (Err fault.TooLong) = HaveMeaning settings × IsNotWhole met input.TooLong
-Runs settings met (Err fault.ReadFault) = HaveMeaning settings × IsNotWhole met input.ReadFault
-Runs settings met (Err fault.Memory) = Undisturbed met
-Runs settings met (Err other) = ⊥
+abbrev pub GivesRun : List ℕ → Met → Result Outcome Fault → Type 0
+GivesRun settings_text met (Ok outcome) = Transcribes settings_text met (string_bytes outcome.output) outcome.end
+GivesRun settings_text met (Err (fault.Settings e)) = (reading settings_text ≡ Err e) × IsUntouched met
+GivesRun settings_text met (Err fault.TooLong) = HaveMeaning settings_text × IsNotWhole met input.TooLong
+GivesRun settings_text met (Err fault.ReadFault) = HaveMeaning settings_text × IsNotWhole met input.ReadFault
+GivesRun settings_text met (Err fault.Memory) = Undisturbed met
+GivesRun settings_text met (Err other) = ⊥
 
 -- how a command ends that ran its lines so, and wrote what they print
 abbrev pub exit_of : End → Exit
@@ -39,6 +39,6 @@ exit_of end.Memory = refused fault.Memory
 
 -- The lines are run, and what they print is written. Or they are not, by a fault of the settings or the input, and nothing is written.
 abbrev pub Replays : List ℕ → Met → Output → Output → Exit → Type 0
-Replays settings met old new exit =
-    ((output : List ℕ) × (how : End) × Transcribes settings met output how × Delivers output (exit_of how) old new exit)
-    ⊎ ((f : Fault) × Runs settings met (Err f) × Stops f old new exit)
+Replays settings_text met old new exit =
+    ((output : List ℕ) × (how : End) × Transcribes settings_text met output how × Delivers output (exit_of how) old new exit)
+    ⊎ ((f : Fault) × GivesRun settings_text met (Err f) × Stops f old new exit)

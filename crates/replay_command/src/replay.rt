@@ -13,11 +13,15 @@ use std::alloc::Global;
 
 /// Runs the command lines that the source gives, whole, on a pool of these settings. Faults are looked for in the settings
 /// and in the source.
-fn run_input<R: Source>(alloc: Global, settings: &[u8], source: &mut R) -> Result<Outcome, Fault>
+fn run_input<R: Source>(
+    alloc: Global,
+    settings_text: &[u8],
+    source: &mut R,
+) -> Result<Outcome, Fault>
     requires { (R.input source.old).failures < 2 ^ 64 - 1 }
-    ensures { (met : Met) × Meets (R.input source.old) met (R.input source.new) × spec.Runs settings.now met result }
+    ensures { (met : Met) × Meets (R.input source.old) met (R.input source.new) × spec.GivesRun settings_text.now met result }
 {
-    let settings = Settings::read(alloc, settings)?;
+    let settings = Settings::read(alloc, settings_text)?;
     let input = read_whole(alloc, source)?;
     Ok(run(alloc, &settings, &input))
 }
@@ -44,16 +48,16 @@ fn exit_of(end: End) -> Exit
 /// sink failed, a front of the transcript was written and not all of it.
 pub fn run_commands<R: Source, S: Sink>(
     alloc: Global,
-    settings: &[u8],
+    settings_text: &[u8],
     source: &mut R,
     sink: &mut S,
 ) -> Exit
     requires source { (R.input source.old).failures < 2 ^ 64 - 1 }
     requires sink { (S.output sink.old).failures < 2 ^ 64 - 1 }
     ensures replays { (met : Met) × Meets (R.input source.old) met (R.input source.new)
-        × spec.Replays settings.now met (S.output sink.old) (S.output sink.new) result }
+        × spec.Replays settings_text.now met (S.output sink.old) (S.output sink.new) result }
 {
-    match run_input(alloc, settings, source) {
+    match run_input(alloc, settings_text, source) {
         Ok(outcome) => deliver(sink, outcome.output.as_bytes(), exit_of(outcome.end)),
         Err(fault) => Exit::refused(fault),
     }

@@ -31,11 +31,11 @@ pub record SamePairs (old new : Tables) : Type 0 where
   pub order : new.order ≡ old.order
   pub staff : length new.owner.now ≡ length old.owner.now
 
--- The function that a number of the tables stands for: none where the worker is idle
+-- The function that a number of the tables stands for: none where the worker is idle.
 abbrev pub function_at : ℕ → ℕ → Option ℕ
 function_at functions f = if nat_lt f functions then Some f else None
 
--- Each worker by its slot, with its function
+-- Each worker by its slot, with its function.
 abbrev pub entries_of : ℕ → List ℕ → List ℕ → List (ℕ × Option ℕ)
 entries_of functions slots owner = map (λ w. (slice_index slots w, function_at functions (slice_index owner w))) (range_with_len 0 (length slots))
 

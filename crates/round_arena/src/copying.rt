@@ -1,3 +1,5 @@
+//! The plan of the tables, copied out of the arena.
+
 ghost use Rattle.std.specs.Prelude.{◌≡◌, ℕ, length, IfOk};
 ghost use Rattle.round_arena.specs.Round.{IsConsistent, entries_of, function_at, plan_of};
 

@@ -1,3 +1,5 @@
+//! The tables of a round.
+
 use bumpalo::Bump;
 use plan_model::{MachineId, SlotId};
 

@@ -40,14 +40,14 @@ status_after attempts = if list_any has_no_plan attempts then 1 else 0
 
 -- why a pool is not run, or not to its end: the settings are refused by their fault, or memory is refused
 abbrev pub IsKeptFrom : List ℕ → Fault → Type 0
-IsKeptFrom settings (fault.Settings e) = reading settings ≡ Err e
-IsKeptFrom settings fault.Memory = Unit {0}
-IsKeptFrom settings other = ⊥
+IsKeptFrom settings_text (fault.Settings e) = reading settings_text ≡ Err e
+IsKeptFrom settings_text fault.Memory = Unit {0}
+IsKeptFrom settings_text other = ⊥
 
 -- The settings mean something, a run by them ended after so many attempts, and what it came to is written. Or it is kept from that by a
 -- fault, and nothing is written.
 abbrev pub Supervises : List ℕ → ℕ → Output → Output → Exit → Type 0
-Supervises settings rounds old new exit =
-    (HaveMeaning settings × ((ended : RunEnd) × (length ended.lines.items ≡ rounds)
+Supervises settings_text rounds old new exit =
+    (HaveMeaning settings_text × ((ended : RunEnd) × (length ended.lines.items ≡ rounds)
     × Delivers (run_text ended) (answered (status_after ended.lines.items)) old new exit))
-    ⊎ ((f : Fault) × IsKeptFrom settings f × Stops f old new exit)
+    ⊎ ((f : Fault) × IsKeptFrom settings_text f × Stops f old new exit)

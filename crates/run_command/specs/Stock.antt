@@ -6,10 +6,10 @@ use Rattle.job_runner.specs.Told.{Told, complete}
 use Rattle.run_command.specs.declared.stock.StockJob.{StockJob}
 use Rattle.run_command.specs.declared.stock.StockJob.TheVariants.{Reverse, Length, Echo}
 
-abbrev pub name_of : StockJob → List ℕ
-name_of Reverse = codes "reverse"
-name_of Length = codes "length"
-name_of Echo = codes "echo"
+abbrev pub stock_name : StockJob → List ℕ
+stock_name Reverse = codes "reverse"
+stock_name Length = codes "length"
+stock_name Echo = codes "echo"
 
 -- the input's bytes from the last to the first, their number in decimal, or the input
 abbrev pub result_of : StockJob → List ℕ → List ℕ
@@ -18,9 +18,9 @@ result_of Length input = decimal (length input)
 result_of Echo input = input
 
 -- a job tells its result, and nothing before it
-abbrev pub told : StockJob → List ℕ → Told
-told job input = record { remarks = []; finish = complete (result_of job input) }
+abbrev pub told_by_job : StockJob → List ℕ → Told
+told_by_job job input = record { remarks = []; finish = complete (result_of job input) }
 
 -- what the job of a name tells for an input, and none where no job has the name
 abbrev pub told_by_name : List ℕ → List ℕ → Option Told
-told_by_name = told_by name_of told (Reverse ∷ Length ∷ Echo ∷ [])
+told_by_name = told_by stock_name told_by_job (Reverse ∷ Length ∷ Echo ∷ [])

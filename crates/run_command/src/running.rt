@@ -42,13 +42,18 @@ struct Told {
 }
 
 /// Runs the pool of these settings.
-fn run_told<H: Host>(host: &H, alloc: Global, settings: &[u8], rounds: u32) -> Result<Told, Fault>
-    ensures meant { IfOk result (λ _. HaveMeaning settings.now) }
+fn run_told<H: Host>(
+    host: &H,
+    alloc: Global,
+    settings_text: &[u8],
+    rounds: u32,
+) -> Result<Told, Fault>
+    ensures meant { IfOk result (λ _. HaveMeaning settings_text.now) }
     ensures lines { IfOk result (λ told. length told.ended.lines.items ≡ rounds) }
     ensures text { IfOk result (λ told. string_bytes told.text ≡ spec.run_text told.ended) }
-    ensures kept { IfErr result (spec.IsKeptFrom settings.now) }
+    ensures kept { IfErr result (spec.IsKeptFrom settings_text.now) }
 {
-    let settings = Settings::read(alloc, settings)?;
+    let settings = Settings::read(alloc, settings_text)?;
     let ended = run_stock(host, alloc, settings, rounds)?;
     let text = run_text(alloc, &ended)?;
     Ok(Told { ended, text })
@@ -68,14 +73,14 @@ fn run_told<H: Host>(host: &H, alloc: Global, settings: &[u8], rounds: u32) -> R
 pub fn run_rounds<H: Host, S: Sink>(
     host: &H,
     alloc: Global,
-    settings: &[u8],
+    settings_text: &[u8],
     rounds: u32,
     sink: &mut S,
 ) -> Exit
     requires sink { (S.output sink.old).failures < 2 ^ 64 - 1 }
-    ensures supervises { spec.Supervises settings.now rounds (S.output sink.old) (S.output sink.new) result }
+    ensures supervises { spec.Supervises settings_text.now rounds (S.output sink.old) (S.output sink.new) result }
 {
-    match run_told(host, alloc, settings, rounds) {
+    match run_told(host, alloc, settings_text, rounds) {
         Ok(told) => {
             let done = Exit::answered(status_after(&told.ended.lines));
             deliver(sink, told.text.as_bytes(), done)

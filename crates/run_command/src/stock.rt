@@ -20,7 +20,7 @@ pub enum StockJob {
 impl StockJob {
     /// The function by which clients ask for it.
     pub fn name(self) -> &'static str
-        ensures { result.now ≡ spec.name_of self }
+        ensures { result.now ≡ spec.stock_name self }
     {
         match self {
             StockJob::Reverse => "reverse",
@@ -46,9 +46,9 @@ impl StockJob {
 }
 
 impl Job for StockJob {
-    ghost use Rattle.run_command.specs.Stock.{told};
+    ghost use Rattle.run_command.specs.Stock.{told_by_job};
 
-    ghost meaning = { told };
+    ghost meaning = { told_by_job };
 
     fn run(&self, alloc: Global, input: &[u8]) -> Result<Outcome, AllocError> {
         let result = self.result(alloc, input)?;
@@ -61,7 +61,7 @@ impl Job for StockJob {
 
 /// A job with its name.
 fn named(alloc: Global, job: StockJob) -> Result<(Vec<u8>, StockJob), AllocError>
-    ensures name { IfOk result (λ entry. entry.0.items ≡ spec.name_of job) }
+    ensures name { IfOk result (λ entry. entry.0.items ≡ spec.stock_name job) }
     ensures job { IfOk result (λ entry. entry.1 ≡ job) }
 {
     Ok((Vec::from_slice(alloc, job.name().as_bytes())?, job))

@@ -1,4 +1,4 @@
-// A text cut at one byte.
+//! A text cut at one byte.
 
 ghost use Rattle.std.specs.Prelude.{◌≡◌, ◌<◌, ℕ, List, IfSome, length, option_map};
 ghost use Rattle.text_pieces.specs.Cuts as spec;

@@ -9,17 +9,17 @@ abbrev pub no_order : OrderParts
 no_order = record { generation = 0; round = 0; what = Idle }
 
 -- the function, if there is one, is below 1,024
-abbrev pub IsWithin : What → Type 0
-IsWithin Idle = Unit {0}
-IsWithin (Work function) = function < 1024
-IsWithin Stop = Unit {0}
+abbrev pub IsTaskWithin : What → Type 0
+IsTaskWithin Idle = Unit {0}
+IsTaskWithin (Work function) = function < 1024
+IsTaskWithin Stop = Unit {0}
 
--- The ranges of an order: a generation of at most 262,143, and a function below 1,024
+-- The ranges of an order: a generation of at most 262,143, and a function below 1,024.
 pub record IsOrder (order : OrderParts) : Type 0 where
   pub generation : order.generation ≤ max_generation
-  pub function : IsWithin order.what
+  pub function : IsTaskWithin order.what
 
--- Each order that a program holds is in these ranges, and its round is one that a pool counts. Exactly these have a word
+-- Each order that a program holds is in these ranges, and its round is one that a pool counts. Exactly these have a word.
 pub record HasWord (order : OrderParts) : Type 0 where
   pub ranges : IsOrder order
   pub round : order.round ≤ max_rounds

@@ -9,7 +9,7 @@ use Rattle.gear_packets.specs.Text.{is_name, register}
 abbrev pub seen_name : Option (Bor (List ℕ)) → Option (List ℕ)
 seen_name name = option_map (λ n. n.now) name
 
--- CANT_DO of the old function and then CAN_DO of the new one, each where it is needed
+-- CANT_DO of the old function and then CAN_DO of the new one, each where it is needed.
 abbrev pub change_of : Option (List ℕ) → Option (List ℕ) → List (Option Packet)
 change_of None None = None ∷ None ∷ []
 change_of None (Some to) = None ∷ Some (can_do to) ∷ []
@@ -27,5 +27,5 @@ abbrev pub LeadsBy : List (List ℕ) → List (Option Packet) → List (List ℕ
 LeadsBy names [] wanted = names ≡ wanted
 LeadsBy names (p ∷ ps) wanted = (length (registered_after names p) ≤ 1) × LeadsBy (registered_after names p) ps wanted
 
-abbrev pub LeadsTo : Option (List ℕ) → List (Option Packet) → Option (List ℕ) → Type 0
-LeadsTo from ps to = LeadsBy (option_to_list from) ps (option_to_list to)
+abbrev pub RegistersTo : Option (List ℕ) → List (Option Packet) → Option (List ℕ) → Type 0
+RegistersTo from ps to = LeadsBy (option_to_list from) ps (option_to_list to)

@@ -1,3 +1,5 @@
+//! Why workers are lost.
+
 ghost use Rattle.std.specs.Prelude.{◌≡◌};
 ghost use Rattle.worker_state.specs.Causes.{cause_named};
 

@@ -1,3 +1,5 @@
+//! Jobs by ticket, and how they stand.
+
 ghost use Rattle.std.specs.Prelude.{◌≡◌};
 ghost use Rattle.worker_state.specs.Slots as spec;
 

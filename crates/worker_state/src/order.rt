@@ -1,5 +1,7 @@
+//! Orders to workers, and the words of 64 bits that hold them.
+
 ghost use Rattle.std.specs.Prelude.{◌≡◌, ◌<◌, IfSome, IfNone};
-ghost use Rattle.worker_state.specs.Orders.{task_number, IsWithin};
+ghost use Rattle.worker_state.specs.Orders.{task_number, IsTaskWithin};
 
 use crate::limits::MAX_GENERATION;
 use plan_model::FuncId;
@@ -103,7 +105,7 @@ fn number_of(what: What) -> u64
 
 /// The task of a number in a word. No task has a number above 1,025.
 fn task_of(number: u32) -> Option<What>
-    ensures some { IfSome result (λ what. (task_number what ≡ number) × IsWithin what) }
+    ensures some { IfSome result (λ what. (task_number what ≡ number) × IsTaskWithin what) }
     ensures none { IfNone result (1025 < number) }
 {
     match number {

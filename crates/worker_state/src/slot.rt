@@ -1,3 +1,5 @@
+//! Slots, and the workers that they hold.
+
 ghost use Rattle.std.specs.Prelude.{◌≡◌};
 ghost use Rattle.worker_state.specs.Slots as spec;
 

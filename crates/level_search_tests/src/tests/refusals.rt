@@ -1,3 +1,5 @@
+//! Rounds whose memory is refused in turn.
+
 use super::{input_of, line_of};
 use bumpalo::Bump;
 use level_search::solve;

@@ -1,3 +1,5 @@
+//! Rounds with answers that were worked out by hand.
+
 use super::{input_of, line_of, plan_of};
 use bumpalo::Bump;
 use level_search::solve;

@@ -1,3 +1,5 @@
+//! The tables of a round, served or short.
+
 use super::{bounded_input_of, plan_of};
 use augment::{Served, serve};
 use bumpalo::Bump;

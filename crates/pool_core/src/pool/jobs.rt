@@ -133,7 +133,7 @@ impl Pool {
 
     /// Whether the worker goes on after one more run.
     fn stays(&self, worker: &WorkerName) -> bool
-        ensures stays { result ≡ nat_lt (run_count (slot_in self.now.state.slots worker.now.slot) + 1) self.now.rules.max_runs }
+        ensures stays { result ≡ nat_lt (run_count (slot_in self.now.state.slots worker.now.slot) + 1) self.now.settings.max_runs }
         ensures fits { run_count (slot_in self.now.state.slots worker.now.slot) + 1 < 2 ^ 32 }
     {
         let max_runs = self.settings.max_runs();

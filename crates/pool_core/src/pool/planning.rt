@@ -46,8 +46,8 @@ impl Pool {
 
     /// What a round has to plan for now.
     fn input(&self, load: &Load) -> Result<Input, AllocError>
-        ensures input { IfOk result (λ input. input ≡ input_of self.now.rules self.now.state load.now) }
-        ensures valid { OnOk result (IsInstance (input_of self.now.rules self.now.state load.now)) }
+        ensures input { IfOk result (λ input. input ≡ input_of self.now.settings self.now.state load.now) }
+        ensures valid { OnOk result (IsInstance (input_of self.now.settings self.now.state load.now)) }
     {
         let live = rounds::live_marks(self.alloc, &self.slots)?;
         let waiting = rounds::waiting_jobs(self.alloc, &self.settings, load)?;
@@ -75,10 +75,10 @@ impl Pool {
 
     /// The best answer for the input of now. All tables of the search lie in one arena, which is given up here.
     fn solution(&self, load: &Load) -> Result<Answer, AllocError>
-        ensures valid { OnOk result (IsInstance (input_of self.now.rules self.now.state load.now)) }
-        ensures shown { IfOk result (λ answer. Shown (input_of self.now.rules self.now.state load.now) answer) }
+        ensures valid { OnOk result (IsInstance (input_of self.now.settings self.now.state load.now)) }
+        ensures shown { IfOk result (λ answer. Shown (input_of self.now.settings self.now.state load.now) answer) }
         ensures steady { IfOk result (λ answer. IfSome self.now.state.previous (λ plan.
-            IsSteady (input_of self.now.rules self.now.state load.now) plan answer)) }
+            IsSteady (input_of self.now.settings self.now.state load.now) plan answer)) }
     {
         let input = self.input(load)?;
         let bump = Bump::new(self.alloc);
@@ -108,7 +108,7 @@ impl Pool {
     }
 
     fn is_input(&self, load: &Load, input: &Input) -> bool
-        ensures same { IsTrue result ↔ (input.now ≡ input_of self.now.rules self.now.state load.now) }
+        ensures same { IsTrue result ↔ (input.now ≡ input_of self.now.settings self.now.state load.now) }
         ensures valid { IsInstance input.now }
     {
         // The clause `valid` is one of any input.
@@ -136,7 +136,7 @@ impl Pool {
     }
 
     fn record(&mut self, answer: Answer) -> Result<Ran, AllocError>
-        requires possible { IsPossible self.old.rules (event.Round answer) self.old.state }
+        requires possible { IsPossible self.old.settings (event.Round answer) self.old.state }
         requires room { IsTrue (has_room self.old 1) }
         requires number { self.old.state.rounds < max_rounds }
         ensures step { OnOk result (IsStep (event.Round answer) self.old self.new) }
@@ -160,7 +160,7 @@ impl Pool {
         backlog: u64,
         short: Option<FuncSet>,
     ) -> Result<Ran, AllocError>
-        requires possible { IsPossible self.old.rules (event.Round (Planned plan backlog short)) self.old.state }
+        requires possible { IsPossible self.old.settings (event.Round (Planned plan backlog short)) self.old.state }
         requires room { IsTrue (has_room self.old 1) }
         requires number { self.old.state.rounds < max_rounds }
         ensures step { OnOk result (IsStep (event.Round (Planned plan backlog short)) self.old self.new) }
@@ -200,7 +200,7 @@ impl Pool {
     }
 
     fn record_no_plan(&mut self, short: FuncSet) -> Result<Ran, AllocError>
-        requires possible { IsPossible self.old.rules (event.Round (NoPlan short)) self.old.state }
+        requires possible { IsPossible self.old.settings (event.Round (NoPlan short)) self.old.state }
         requires room { IsTrue (has_room self.old 1) }
         requires number { self.old.state.rounds < max_rounds }
         ensures step { OnOk result (IsStep (event.Round (NoPlan short)) self.old self.new) }

@@ -1,3 +1,5 @@
+//! Reports of worked examples, and what becomes of changed ones.
+
 ghost use Rattle.std.specs.Prelude.{◌≡◌, IfOk};
 
 use gear_status::Script;

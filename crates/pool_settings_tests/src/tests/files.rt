@@ -1,4 +1,4 @@
-// Whole files: their refusals, and what the settings that they make say.
+//! Whole files: their refusals, and what the settings that they make say.
 
 use plan_model::{FuncId, MachineId, SlotId};
 use pool_settings::{Settings, SettingsError};

@@ -1,4 +1,4 @@
-// Where the first fault of a file is, for each refusal, and which keys a file gives.
+//! Where the first fault of a file is, for each refusal, and which keys a file gives.
 
 use pool_settings::{Counted, Fault, Given, Place, Section, SettingsError};
 use std::alloc::Global;

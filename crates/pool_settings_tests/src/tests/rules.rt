@@ -1,4 +1,4 @@
-// The rules of a settings file, each by texts just inside it and just outside.
+//! The rules of a settings file, each by texts just inside it and just outside.
 
 use pool_settings::{Settings, SettingsError};
 use std::alloc::{AllocError, Global};

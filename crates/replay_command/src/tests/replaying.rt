@@ -63,16 +63,16 @@ functions = [\"x\", \"y\"]
 ";
 
 /// Whether `replay` of these lines writes these answers and ends with this exit.
-fn ends(alloc: Global, settings: &[u8], lines: &[u8], answers: &[u8], exit: Exit) -> bool {
+fn ends(alloc: Global, settings_text: &[u8], lines: &[u8], answers: &[u8], exit: Exit) -> bool {
     let mut source = SliceSource::new(lines);
     let mut sink = Script::new(alloc);
-    let found = run_commands(alloc, settings, &mut source, &mut sink);
+    let found = run_commands(alloc, settings_text, &mut source, &mut sink);
     found == exit && sink.output() == answers
 }
 
 /// Whether each of these lines is a command, with these answers.
-fn prints(alloc: Global, settings: &[u8], lines: &[u8], answers: &[u8]) -> bool {
-    ends(alloc, settings, lines, answers, Exit::answered(0))
+fn prints(alloc: Global, settings_text: &[u8], lines: &[u8], answers: &[u8]) -> bool {
+    ends(alloc, settings_text, lines, answers, Exit::answered(0))
 }
 
 const ROUNDS: &[u8] = b"join a/0
@@ -449,11 +449,11 @@ fn lines_with_numbers_out_of_range(rt: HostRuntime) {
 }
 
 /// Whether `replay`, whose first read fails, meets this fault and writes nothing.
-fn meets(alloc: Global, settings: &[u8], fault: Fault) -> bool {
+fn meets(alloc: Global, settings_text: &[u8], fault: Fault) -> bool {
     let mut source = Script::new(alloc);
     source.fail_take(1);
     let mut sink = Script::new(alloc);
-    let exit = run_commands(alloc, settings, &mut source, &mut sink);
+    let exit = run_commands(alloc, settings_text, &mut source, &mut sink);
     exit == Exit::refused(fault) && sink.output().is_empty()
 }
 

@@ -1,7 +1,7 @@
 //! A change of function, as gearmand was seen to take it, and the words of orders.
 ghost use Rattle.std.specs.Prelude.{◌≤◌};
 ghost use Rattle.worker_state.specs.Limits.{max_generation};
-ghost use Rattle.worker_state.specs.Orders.{IsWithin};
+ghost use Rattle.worker_state.specs.Orders.{IsTaskWithin};
 
 use crate::{Cause, MAX_GENERATION, MAX_ROUNDS, Order, What, change};
 use gear_packets::encode;
@@ -32,7 +32,7 @@ fn numbers_and_names(rt: HostRuntime) {
 }
 
 fn order(generation: u32, round: u32, what: What) -> Order
-    requires { (generation ≤ max_generation) × IsWithin what }
+    requires { (generation ≤ max_generation) × IsTaskWithin what }
 {
     Order {
         generation,

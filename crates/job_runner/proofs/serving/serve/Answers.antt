@@ -2,7 +2,7 @@ use Rattle.std.proofs.Common.{ℕ, ◌+◌, [], Result, Err, refl, ap, ◌∙◌
 use Rattle.gear_status.specs.Sides.{Input}
 use Rattle.job_runner.specs.declared.end.EndCause.{EndCause}
 use Rattle.job_runner.specs.declared.end.EndCause.TheVariants.{TurnsUsed}
-use Rattle.job_runner.specs.Book.{Book}
+use Rattle.job_runner.specs.Book.{Ledger}
 use Rattle.job_runner.specs.Run.{Link}
 use Rattle.job_runner.specs.Loop.{duty_of}
 use Rattle.job_runner.proofs.Told.{then_nothing}
@@ -37,7 +37,7 @@ loop-made-init g c =
       stands = ([], ap (λ (i : Input). i.given) c.begin.ensures.input ∙ then_nothing start, omega arith, begun_stands duty before _ c.new-reader.result c.begin.new.state _ c.new-reader.ensures (c.in-Ok.ensures.acts told));
       read_failures = ap (λ (i : Input). i.failures) c.begin.ensures.input;
       write_failures = c.in-Ok.ensures.no_failure;
-      losses = c.begin.ensures.losses ∙ ap (λ (b : Book). b.losses) c.requires.fresh;
+      losses = c.begin.ensures.losses ∙ ap (λ (b : Ledger). b.losses) c.requires.fresh;
     }
 
 pub loop-made-preserved : goal.loop-made-preserved

@@ -9,7 +9,7 @@ use Rattle.plan_commands.proofs.check.examine.Goals as goal
 pub returns-in_err-problem : goal.returns-in_err-problem
 returns-in_err-problem g c =
     let side = g.R.Device.input c.args.source.now in
-    let posed = problem c.args.settings.now (map (λ w. w.now) c.args.lost.now) (load_of c.args.status.now) in
+    let posed = problem c.args.settings_text.now (map (λ w. w.now) c.args.lost.now) (load_of c.args.status_text.now) in
     let p = err_from_is_err_and c.from_residual.result c.from_residual.ensures.1 in (
       nothing_from side,
       meets_nothing side,
@@ -18,7 +18,7 @@ returns-in_err-problem g c =
 
 pub returns-in_err-report : goal.returns-in_err-report
 returns-in_err-report g c =
-    let posed = problem c.args.settings.now (map (λ w. w.now) c.args.lost.now) (load_of c.args.status.now) in
+    let posed = problem c.args.settings_text.now (map (λ w. w.now) c.args.lost.now) (load_of c.args.status_text.now) in
     let told = c.in_err-report.ensures.whole in
     let p = err_from_is_err_and c.from_residual-in_err-report.result c.from_residual-in_err-report.ensures.1 in (
       told.0,
@@ -28,7 +28,7 @@ returns-in_err-report g c =
 
 pub returns : goal.returns
 returns g c =
-    let posed = problem c.args.settings.now (map (λ w. w.now) c.args.lost.now) (load_of c.args.status.now) in
+    let posed = problem c.args.settings_text.now (map (λ w. w.now) c.args.lost.now) (load_of c.args.status_text.now) in
     let told = c.in_ok-report.ensures.whole in (
       told.0,
       told.1,

@@ -9,7 +9,7 @@ returns-in_err-settings-clause-posed g c =
     let p = err_from_is_err_and c.from_residual.result c.from_residual.ensures.1 in (
       nothing_from side,
       meets_nothing side,
-      rw (p.1, p.2) (settings_refused c.args.settings.now (map (λ w. w.now) c.args.lost.now) side c.in_err-settings.field-0.0 c.in_err-settings.ensures.refused),
+      rw (p.1, p.2) (settings_refused c.args.settings_text.now (map (λ w. w.now) c.args.lost.now) side c.in_err-settings.field-0.0 c.in_err-settings.ensures.refused),
     )
 
 pub returns-in_err-live-clause-posed : goal.returns-in_err-live-clause-posed
@@ -18,7 +18,7 @@ returns-in_err-live-clause-posed g c =
     let p = err_from_is_err_and c.from_residual-in_err-live.result c.from_residual-in_err-live.ensures.1 in (
       nothing_from side,
       meets_nothing side,
-      rw (p.1, p.2) (lost_refused c.args.settings.now (map (λ w. w.now) c.args.lost.now) side c.in_ok-settings.settings c.in_err-live.field-0.0
+      rw (p.1, p.2) (lost_refused c.args.settings_text.now (map (λ w. w.now) c.args.lost.now) side c.in_ok-settings.settings c.in_err-live.field-0.0
           c.in_ok-settings.ensures.ok c.in_err-live.ensures.unknown),
     )
 

@@ -1,6 +1,6 @@
 use Rattle.std.proofs.Common.{sym, ap, subst, List, [], ◌∷◌, ◌++◌, ◌∙◌, inl, inr, append_assoc, append-nil}
 use Rattle.pool_core.specs.declared.event.Event.{Event}
-use Rattle.pool_core.specs.Machine.{State, Replays, after}
+use Rattle.pool_core.specs.Machine.{State, IsReplay, after}
 use Rattle.pool_core.specs.Book.{Book, IsStep, next_chapter}
 use Rattle.pool_core.specs.Laws.{Called, Outcome, Leaves, AllCalled, CallsReplay, last_of, all_handed_out}
 use Rattle.pool_core.proofs.Steps.{replays_more}
@@ -8,14 +8,14 @@ use Rattle.pool_core.proofs.laws.calls_replay.Goals as goal
 
 -- the events that were handed out, and those that are there, replay to the state
 record Leads (base : State) (out : List Event) (book : Book) : Type 0 where
-  all : Replays book.rules base (out ++ book.events) book.state
+  all : IsReplay book.settings base (out ++ book.events) book.state
 
 step_leads : (base : State) (out : List Event) (e : Event) (old new : Book) → Leads base out old → IsStep e old new → Leads base out new
 step_leads base out e old new h s =
     record {
-      all = rw (s.rules, s.events, s.state) (
-          subst (λ (es : List Event). Replays old.rules base es (after old.rules e old.state)) (append_assoc out old.events (e ∷ []))
-          (replays_more old.rules base (out ++ old.events) old.state e h.all s.possible));
+      all = rw (s.settings, s.events, s.state) (
+          subst (λ (es : List Event). IsReplay old.settings base es (after old.settings e old.state)) (append_assoc out old.events (e ∷ []))
+          (replays_more old.settings base (out ++ old.events) old.state e h.all s.possible));
     }
 
 called_leads : (base : State) (out : List Event) (old new : Book) → Leads base out old → Called old new → Leads base out new
@@ -24,7 +24,7 @@ called_leads base out old new h c =
 
 chapter_leads : (base : State) (out : List Event) (old : Book) → Leads base out old → Leads base (out ++ old.events) (next_chapter old)
 chapter_leads base out old h =
-    record { all = subst (λ (es : List Event). Replays old.rules base es old.state) (sym (append-nil (out ++ old.events))) h.all }
+    record { all = subst (λ (es : List Event). IsReplay old.settings base es old.state) (sym (append-nil (out ++ old.events))) h.all }
 
 call_leads : (base : State) (out : List Event) (old : Book) (new : Outcome) → Leads base out old → Leaves old new → Leads base (out ++ new.handed_out) new.book
 call_leads base out old new h c =

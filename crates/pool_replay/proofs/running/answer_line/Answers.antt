@@ -6,6 +6,6 @@ use Rattle.pool_replay.proofs.running.answer_line.Goals as goal
 
 pub execute-requires : goal.execute-requires
 execute-requires c =
-    let within = subst (λ o. IfSome o (grammar.IsWithin (slots c.args.settings.now))) c.in-Some.is c.in_ok-command.ensures.within in
-    subst (λ n. grammar.IsWithin n c.in-Some.command)
+    let within = subst (λ o. IfSome o (grammar.IsCommandWithin (slots c.args.settings.now))) c.in-Some.is c.in_ok-command.ensures.within in
+    subst (λ n. grammar.IsCommandWithin n c.in-Some.command)
     (sym (slots_of_chapter _ _ _ _ c.history-history.ensures.replays ∙ ap slots c.requires)) within

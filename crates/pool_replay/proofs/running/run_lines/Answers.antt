@@ -6,7 +6,7 @@ use Rattle.pool_replay.proofs.running.run_lines.Goals as goal
 
 pub loop-line-init : goal.loop-line-init
 loop-line-init c = record {
-  rules = ap (λ d. d.pool.rules) c.requires.first;
+  settings = ap (λ d. d.pool.settings) c.requires.first;
   within = omega arith;
   transcript = starts c.args.settings.now (lines_of c.args.input.now) (string_bytes c.args.output.now) c.args.desk.now c.requires.first c.requires.empty;
 }
@@ -35,7 +35,7 @@ loop-line-preserved c =
     let p = c.args.settings.now in
     let l = c.loop-line in
     record {
-      rules = c.in-Ok.ensures.rules;
+      settings = c.in-Ok.ensures.settings;
       within = omega (arith, l.invariant.within, c.in-Some.ensures.1);
       transcript = goes_on p (lines_of c.args.input.now) (string_bytes l.output) (string_bytes c.answer_line.new.output) l.number l.desk c.answer_line.new.desk
           (lines_of l.rest.now) c.in-Some.line.now (lines_of c.in-Some.tail.now) l.invariant.transcript c.in-Some.ensures.0 c.in-Ok.ensures.answer;

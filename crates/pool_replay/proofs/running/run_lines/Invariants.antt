@@ -6,7 +6,7 @@ use Rattle.pool_replay.proofs.running.run_lines.Given as goal
 -- a transcript of the lines that are left, behind what was printed, is a transcript of all lines
 abbrev pub invariant-loop-line : goal.invariant-loop-line
 invariant-loop-line l = record {
-  rules : l.desk.pool.rules ≡ l.settings;
+  settings : l.desk.pool.settings ≡ l.settings;
   within : l.number + length l.rest ≤ length l.input + 1;
   transcript : LeadsOn l.settings (lines_of l.input) (string_bytes l.output) l.number l.desk (lines_of l.rest);
 }

@@ -6,6 +6,6 @@ use Rattle.pool_settings.proofs.fault.characters.Given as goal
 -- those so far, and those that are left
 abbrev pub invariant-loop-byte : goal.invariant-loop-byte
 invariant-loop-byte l = record {
-  all : l.count + length (filter begins_character (drop l.byte-index l.bytes)) ≡ length (filter begins_character l.bytes);
+  all : l.count + length (filter begins_character (drop l.byte-index l.settings_text)) ≡ length (filter begins_character l.settings_text);
   few : l.count ≤ l.byte-index;
 }

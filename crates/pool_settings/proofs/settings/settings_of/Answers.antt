@@ -4,10 +4,10 @@ use Rattle.std.proofs.lemmas.List.{length-map}
 use Rattle.toml.specs.View.{table_view}
 use Rattle.pool_settings.specs.Entries.{table_entries}
 use Rattle.pool_settings.specs.Names.{IsInByteOrder}
-use Rattle.pool_settings.specs.Profile.{Profile}
+use Rattle.pool_settings.specs.Settings.{Settings}
 use Rattle.pool_settings.specs.Reading as spec
 use Rattle.pool_settings.specs.Tree.{Entry, entries_at}
-use Rattle.pool_settings.proofs.Passing.{IsProfile-profile_of, keeps, passes, room_of}
+use Rattle.pool_settings.proofs.Passing.{AreSettings-settings_of, keeps, passes, room_of}
 use Rattle.pool_settings.proofs.settings.settings_of.Goals as goal
 
 pub read_rows-requires : goal.read_rows-requires
@@ -49,7 +49,7 @@ most_read c =
     ∙ ap (spec.counts_of spec.most_key (sum (spec.workers_in tree))) c.requires.functions
 
 -- what is made
-abbrev made : goal.After-unwrap_or-6 → Profile
+abbrev made : goal.After-unwrap_or-6 → Settings
 made c = record {
   server = string_bytes c.in_ok-server.server;
   job_timeout_ms = c.unwrap_or-2.result;
@@ -65,7 +65,7 @@ made c = record {
   may = map (λ row. row.items) c.in_ok-may.may.items;
 }
 
-is_meant : (c : goal.After-unwrap_or-6) → made c ≡ spec.profile_of (table_view c.args.tree.now)
+is_meant : (c : goal.After-unwrap_or-6) → made c ≡ spec.settings_of (table_view c.args.tree.now)
 is_meant c = search (rules, most_read c)
 
 pub invariant_of-result : goal.invariant_of-result
@@ -73,7 +73,7 @@ invariant_of-result c =
     let tree = table_view c.args.tree.now in
     let functions = subst IsInByteOrder (c.in_ok-names.ensures.keys ∙ ap spec.names_of c.requires.functions) c.in_ok-names.ensures.ordered in
     let machines = subst IsInByteOrder (c.in_ok-machine_names.ensures.keys ∙ ap spec.names_of c.requires.machines) c.in_ok-machine_names.ensures.ordered in
-    keeps (made c) tree (is_meant c) (IsProfile-profile_of tree c.requires.passes functions machines)
+    keeps (made c) tree (is_meant c) (AreSettings-settings_of tree c.requires.passes functions machines)
 
 pub returns : goal.returns
 returns c = is_meant c

@@ -1,7 +1,7 @@
 use Rattle.std.proofs.Common.{inl, map, refl, subst, sym, ap, ◌∙◌}
 use Rattle.plan_commands.proofs.Posing.{meets_nothing, nothing_from}
 use Rattle.command_line.specs.Named.{named}
-use Rattle.devices.specs.Folder.{IsRead}
+use Rattle.devices.specs.Folder.{IsReadFile}
 use Rattle.plan_commands.specs.Fault.{refused}
 use Rattle.plan_commands.specs.Plan.{Plans}
 use Rattle.poolman.specs.Carrying.{CarriesOut}
@@ -40,8 +40,8 @@ returns-in-Ok-read_both g c =
         rw (c.in-Check.is, ← c.deref-in-Ok-read_both-3.ensures.value) (inl (
           c.deref-in-Ok-read_both.result.now,
           c.deref-in-Ok-read_both-2.result.now,
-          subst (IsRead (file c.in-Check.settings.now)) (sym c.deref-in-Ok-read_both.ensures.value) read.ensures.first,
-          subst (IsRead (file c.in-Check.status.now)) (sym c.deref-in-Ok-read_both-2.ensures.value) read.ensures.second,
+          subst (IsReadFile (file c.in-Check.settings.now)) (sym c.deref-in-Ok-read_both.ensures.value) read.ensures.first,
+          subst (IsReadFile (file c.in-Check.status.now)) (sym c.deref-in-Ok-read_both-2.ensures.value) read.ensures.second,
           told.2,
         )),
       );
@@ -55,7 +55,7 @@ returns-in-Ok-read_file g c =
         told.1,
         rw c.in-Replay.is (inl (
           c.deref-in-Ok-read_file.result.now,
-          subst (IsRead (g.F.Folder.file c.args.files.now c.in-Replay.settings.now)) (sym c.deref-in-Ok-read_file.ensures.value)
+          subst (IsReadFile (g.F.Folder.file c.args.files.now c.in-Replay.settings.now)) (sym c.deref-in-Ok-read_file.ensures.value)
               c.in-Ok-read_file.ensures.whole,
           told.2,
         )),
@@ -68,7 +68,7 @@ returns-in-Ok g c =
     let file = g.F.Folder.file c.args.files.now in
     let old = g.S.Device.output c.args.sink.now in
     let new = g.S.Device.output c.plan_text.new.sink in
-    let read = subst (IsRead (file c.in-Plan.settings.now)) (sym c.deref.ensures.value) c.in-Ok.ensures.whole in
+    let read = subst (IsReadFile (file c.in-Plan.settings.now)) (sym c.deref.ensures.value) c.in-Ok.ensures.whole in
     let plans = subst (λ lost. Plans c.deref.result.now (map (λ w. w.now) lost) told.0 old new c.plan_text.result) c.deref-in-Ok.ensures.value told.2 in record {
       carries_out = (
         told.0,
@@ -94,7 +94,7 @@ returns-in-Ok-read_file-2 g c =
         meets_nothing side,
         rw c.in-Settings.is (inl (
           c.deref-in-Ok-read_file-2.result.now,
-          subst (IsRead (g.F.Folder.file c.args.files.now c.in-Settings.settings.now)) (sym c.deref-in-Ok-read_file-2.ensures.value)
+          subst (IsReadFile (g.F.Folder.file c.args.files.now c.in-Settings.settings.now)) (sym c.deref-in-Ok-read_file-2.ensures.value)
               c.in-Ok-read_file-2.ensures.whole,
           (refl, refl, refl),
           c.settings_text.ensures.tells,
@@ -118,7 +118,7 @@ returns-in-Ok-read_file-3 g c =
         meets_nothing side,
         rw c.in-Run.is (inl (
           c.deref-in-Ok-read_file-3.result.now,
-          subst (IsRead (g.F.Folder.file c.args.files.now c.in-Run.settings.now)) (sym c.deref-in-Ok-read_file-3.ensures.value)
+          subst (IsReadFile (g.F.Folder.file c.args.files.now c.in-Run.settings.now)) (sym c.deref-in-Ok-read_file-3.ensures.value)
               c.in-Ok-read_file-3.ensures.whole,
           (refl, refl, refl),
           c.run_rounds.ensures.supervises,

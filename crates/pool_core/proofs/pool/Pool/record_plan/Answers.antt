@@ -17,7 +17,7 @@ pub orders_after-requires-clause-ranges : goal.orders_after-requires-clause-rang
 orders_after-requires-clause-ranges c =
     let p = c.self.inside in
     let answer = answers.Planned c.args.plan c.args.backlog c.args.short in
-    let possible = subst (λ (b : Book). IsPossible b.rules (event.Round answer) b.state) (sym c.self.view_is) c.requires.possible in
+    let possible = subst (λ (b : Book). IsPossible b.settings (event.Round answer) b.state) (sym c.self.view_is) c.requires.possible in
     λ s. subst (λ (orders : List Order). IsOrder (slice_index_or orders s no_order))
     (sym (orders_same c.args.plan c.args.plan (p.rounds + 1) p.slots.items _ p.orders.items _ refl c.as_slice.ensures.value c.as_slice-2.ensures.value))
     ((sound_round p.settings answer (state_of p) c.self.invariant.in_range c.self.invariant.sound possible).ranges s)
@@ -36,7 +36,7 @@ invariant_of-self-2 c =
     let room : length p.events.items + owed (state_of p) + 1 ≤ p.settings.history = leb-true _ _ (ap (λ (b : Book). has_room b 1) c.self.view_is ∙ c.requires.room) in
     kept_plan p.settings p.chapters p.events.items (state_of p) p.owed p.reported p.lost _ c.self.invariant
     c.args.plan c.args.backlog c.args.short
-    (subst (λ (b : Book). IsPossible b.rules (event.Round (answers.Planned c.args.plan c.args.backlog c.args.short)) b.state) (sym c.self.view_is) c.requires.possible) room
+    (subst (λ (b : Book). IsPossible b.settings (event.Round (answers.Planned c.args.plan c.args.backlog c.args.short)) b.state) (sym c.self.view_is) c.requires.possible) room
     c.push_reserved.new.self.items (c.push_reserved.ensures.items ∙ ap (λ (es : List Event). es ++ event.Round (answers.Planned c.args.plan c.args.backlog c.args.short) ∷ []) c.in_ok-reserve.ensures.items)
     c.in_ok-orders.orders.items (c.in_ok-orders.ensures ∙ orders_same c.args.plan c.args.plan (p.rounds + 1) p.slots.items _ p.orders.items _ refl c.as_slice.ensures.value c.as_slice-2.ensures.value)
     c.in_ok-noted.noted c.in_ok-noted.ensures

@@ -12,22 +12,22 @@ use Rattle.pool_settings.proofs.settings.Settings.read.Goals as goal
 
 pub returns-in-Ok-clause-ok : goal.returns-in-Ok-clause-ok
 returns-in-Ok-clause-ok c =
-    let same = taken_tree c.args.bytes.now (table_view c.in-Ok.tree) c.in-Ok.ensures.ok.0 c.in-Ok.ensures.ok.1 in
+    let same = taken_tree c.args.settings_text.now (table_view c.in-Ok.tree) c.in-Ok.ensures.ok.0 c.in-Ok.ensures.ok.1 in
     subst (λ r. IfOk c.read_tree.result (λ s. r ≡ Ok s)) (sym same) c.read_tree.ensures.ok
 
 pub returns-in-Ok-clause-refused : goal.returns-in-Ok-clause-refused
 returns-in-Ok-clause-refused c =
-    let same = taken_tree c.args.bytes.now (table_view c.in-Ok.tree) c.in-Ok.ensures.ok.0 c.in-Ok.ensures.ok.1 in
+    let same = taken_tree c.args.settings_text.now (table_view c.in-Ok.tree) c.in-Ok.ensures.ok.0 c.in-Ok.ensures.ok.1 in
     subst (λ r. IfErr c.read_tree.result (λ f. f ≢ Memory → r ≡ Err f)) (sym same) c.read_tree.ensures.refused
 
 pub returns-else-is_memory-clause-refused : goal.returns-else-is_memory-clause-refused
 returns-else-is_memory-clause-refused c _ =
-    no_tree c.args.bytes.now
+    no_tree c.args.settings_text.now
     (c.in-Err.ensures.refused (λ m. false≢true (sym c.if-is_memory.false ∙ c.is_memory.ensures.1 m)))
 
 pub returns-in-Ok-clause-memory : goal.returns-in-Ok-clause-memory
 returns-in-Ok-clause-memory c =
     let tree = table_view c.in-Ok.tree in
-    IfErr-weaker c.read_tree.result (λ f. f ≡ Memory → first_fault tree ≡ None) (λ f. f ≡ Memory → ¬ IsBlank c.args.bytes.now)
-    (λ f none is blank. none-some (Version, Key version_key) (sym (none is) ∙ blank_fault c.args.bytes.now tree blank c.in-Ok.ensures.ok.1))
+    IfErr-weaker c.read_tree.result (λ f. f ≡ Memory → first_fault tree ≡ None) (λ f. f ≡ Memory → ¬ IsBlank c.args.settings_text.now)
+    (λ f none is blank. none-some (Version, Key version_key) (sym (none is) ∙ blank_fault c.args.settings_text.now tree blank c.in-Ok.ensures.ok.1))
     c.read_tree.ensures.memory

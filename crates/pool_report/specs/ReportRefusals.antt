@@ -15,8 +15,8 @@ is_read_memory fault.Memory = true
 is_read_memory _ = false
 
 -- the line that is refused, where it is one line
-abbrev pub line_of : ReadError → Option ℕ
-line_of (fault.BadLine n) = Some n
-line_of (fault.UnknownName n) = Some n
-line_of fault.Truncated = None
-line_of fault.Memory = None
+abbrev pub report_line_of : ReadError → Option ℕ
+report_line_of (fault.BadLine n) = Some n
+report_line_of (fault.UnknownName n) = Some n
+report_line_of fault.Truncated = None
+report_line_of fault.Memory = None

@@ -18,11 +18,11 @@ is_status_memory fault.Memory = true
 is_status_memory _ = false
 
 -- the line that is refused, where it is one line
-abbrev pub line_of : StatusError → Option ℕ
-line_of (fault.BadLine n) = Some n
-line_of (fault.BadNumber n) = Some n
-line_of (fault.LineTooLong n) = Some n
-line_of fault.TooManyLines = None
-line_of fault.Truncated = None
-line_of fault.ReadFault = None
-line_of fault.Memory = None
+abbrev pub status_line_of : StatusError → Option ℕ
+status_line_of (fault.BadLine n) = Some n
+status_line_of (fault.BadNumber n) = Some n
+status_line_of (fault.LineTooLong n) = Some n
+status_line_of fault.TooManyLines = None
+status_line_of fault.Truncated = None
+status_line_of fault.ReadFault = None
+status_line_of fault.Memory = None
