@@ -36,7 +36,7 @@ const CHECK: Help = Help {
 const REPLAY: Help = Help {
     about: "Reads command lines and prints what each answers, on a pool in which nothing has happened yet",
     usage: "poolman replay SETTINGS < COMMANDS",
-    example: "Example: printf 'join a/0\nload x 6 0\nround\norder a/0\n' | poolman replay settings.toml",
+    example: "Example: printf 'join a/0\\nload x 6 0\\nround\\norder a/0\\n' | poolman replay settings.toml",
 };
 
 const SETTINGS: Help = Help {

@@ -8,6 +8,12 @@ use crate::{Load, StatusError};
 use std::alloc::Global;
 use std::marker::Model;
 
+/// The bytes of the longest line, without its line feed.
+const MAX_LINE: usize = 4096;
+
+/// The most lines before the period line.
+const MAX_LINES: u32 = 65536;
+
 /// What has come of a status text: the lines so far, and the start of the next.
 #[derive(Drop)]
 pub struct Unfinished {
@@ -47,7 +53,7 @@ impl Unfinished {
         if is_period(self.line.as_slice()) {
             return Ok(true);
         }
-        if self.number > 65536 {
+        if self.number > MAX_LINES {
             return Err(StatusError::TooManyLines);
         }
         let (name, counts) = line_meaning(self.number, without_return(self.line.as_slice()))?;
@@ -68,7 +74,7 @@ impl Unfinished {
         if byte == b'\n' {
             return self.end_line();
         }
-        if self.line.len() == 4096 {
+        if self.line.len() == MAX_LINE {
             return Err(StatusError::LineTooLong(self.number));
         }
         self.line.push(byte)?;

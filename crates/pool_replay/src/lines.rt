@@ -3,7 +3,7 @@
 ghost use Rattle.std.specs.Prelude.{◌≡◌, IfOk, string_bytes};
 ghost use Rattle.pool_replay.specs.Lines as spec;
 
-use plan_model::{Answer, Certified};
+use plan_model::{Answer, Certified, UNSERVED};
 use pool_core::{
     Chapter, ChapterError, GrabError, JoinError, Pass, Ran, ReportError, StayOrRetire, Totals,
     ViewError,
@@ -110,10 +110,10 @@ fn backlog_words(alloc: Global, backlog: Option<u64>) -> Result<String, AllocErr
     match backlog {
         None => String::from_str(alloc, "noplan"),
         Some(backlog) => {
-            if backlog < 4_294_967_296 {
+            if backlog < UNSERVED {
                 format!(in alloc; "backlog {backlog}")
             } else {
-                let unserved = backlog - 4_294_967_296;
+                let unserved = backlog - UNSERVED;
                 format!(in alloc; "unserved {unserved}")
             }
         }

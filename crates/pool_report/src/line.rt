@@ -1,11 +1,11 @@
 //! One line of a report, as it is read.
 
 ghost use Rattle.std.specs.Prelude.{◌≡◌, option_map};
-ghost use Rattle.std.specs.List.{list_all};
-ghost use Rattle.pool_settings.specs.Names.{is_machine_name, is_machine_name_byte, is_name, is_name_byte};
 ghost use Rattle.pool_report.specs.Lines as spec;
 ghost use Rattle.pool_report.specs.Told.{line_view};
 
+use plan_model::UNSERVED;
+use pool_settings::{is_machine_name, is_name};
 use text_pieces::{cut_last, is_plain, plain_number_u32, plain_number_u64};
 
 /// What a line tells, less the numbers that an answer does not hold.
@@ -26,54 +26,6 @@ fn after<'t>(word: &[u8], line: &'t [u8]) -> Option<&'t [u8]>
     ensures { option_map (λ t. t.now) result ≡ spec.after word.now line.now }
 {
     line.strip_prefix(word)
-}
-
-fn is_name(name: &[u8]) -> bool
-    ensures { result ≡ is_name name.now }
-{
-    if name.is_empty() {
-        return false;
-    }
-    if name.len() > 64 {
-        return false;
-    }
-    are_name_bytes(name)
-}
-
-fn are_name_bytes(name: &[u8]) -> bool
-    ensures { result ≡ list_all is_name_byte name.now }
-{
-    name.iter().all(|byte| is_name_byte(*byte))
-}
-
-fn is_name_byte(byte: u8) -> bool
-    ensures { result ≡ is_name_byte byte }
-{
-    33 <= byte && byte <= 126
-}
-
-fn is_machine_name(name: &[u8]) -> bool
-    ensures { result ≡ is_machine_name name.now }
-{
-    if name.is_empty() {
-        return false;
-    }
-    if name.len() > 64 {
-        return false;
-    }
-    are_machine_name_bytes(name)
-}
-
-fn are_machine_name_bytes(name: &[u8]) -> bool
-    ensures { result ≡ list_all is_machine_name_byte name.now }
-{
-    name.iter().all(|byte| is_machine_name_byte(*byte))
-}
-
-fn is_machine_name_byte(byte: u8) -> bool
-    ensures { result ≡ is_machine_name_byte byte }
-{
-    is_name_byte(byte) && byte != b'/' && byte != b'#'
 }
 
 /// Whether a text has the shape of a worker's name, `machine/number`.
@@ -98,7 +50,7 @@ fn read_unserved(rest: &[u8]) -> Option<Line<'_>>
 {
     let waiting = plain_number_u32(rest)?;
     if waiting > 0 {
-        Some(Line::Backlog(4_294_967_296 + u64::from(waiting)))
+        Some(Line::Backlog(UNSERVED + u64::from(waiting)))
     } else {
         None
     }

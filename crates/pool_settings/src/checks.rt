@@ -6,7 +6,6 @@ ghost use Rattle.std.specs.List.{list_all};
 ghost use Rattle.toml.specs.Data.{as_str};
 ghost use Rattle.toml.specs.View.{array_view, table_view, view};
 ghost use Rattle.pool_settings.specs.Entries.{Finds, entries_if, shown};
-ghost use Rattle.pool_settings.specs.Names as names;
 ghost use Rattle.pool_settings.specs.Place as places;
 ghost use Rattle.pool_settings.specs.Reading as spec;
 ghost use Rattle.pool_settings.specs.Tree.{Entry, values_of};
@@ -15,6 +14,7 @@ ghost use Rattle.std.specs.Prelude.{Option};
 use crate::bounds::MAX_WORKERS;
 use crate::keys::bad_limit;
 use crate::place::{Place, Section};
+use crate::spelling::{is_machine_name, is_name};
 use crate::tree::{number_between, table_at, value_at};
 use toml::{Table, Value};
 
@@ -184,47 +184,14 @@ pub fn missing_key(tree: &Table) -> Option<Place<&str>>
 
 // ---- names
 
-fn is_name_byte(byte: u8) -> bool
-    ensures { result ≡ names.is_name_byte byte }
-{
-    byte >= b'!' && byte <= b'~'
-}
-
-fn is_name(name: &str) -> bool
-    ensures { result ≡ names.is_name name.now }
-{
-    name.len() >= 1 && name.len() <= 64 && has_name_bytes(name.as_bytes())
-}
-
-fn has_name_bytes(name: &[u8]) -> bool
-    ensures { result ≡ list_all names.is_name_byte name.now }
-{
-    name.iter().all(|byte| is_name_byte(*byte))
-}
-
-fn is_machine_name(name: &str) -> bool
-    ensures { result ≡ names.is_machine_name name.now }
-{
-    name.len() >= 1 && name.len() <= 64 && has_machine_name_bytes(name.as_bytes())
-}
-
-fn is_machine_name_byte(byte: u8) -> bool
-    ensures { result ≡ names.is_machine_name_byte byte }
-{
-    is_name_byte(byte) && byte != b'/' && byte != b'#'
-}
-
-fn has_machine_name_bytes(name: &[u8]) -> bool
-    ensures { result ≡ list_all names.is_machine_name_byte name.now }
-{
-    name.iter().all(|byte| is_machine_name_byte(*byte))
-}
-
 fn bad_function_name(table: Option<&Table>) -> Option<Place<&str>>
     ensures { shown result ≡ spec.bad_function_name (entries_if table.entry) }
 {
     first_in(table, |name, _value| {
-        unless(is_name(name), Place::Entry(Section::Functions, name))
+        unless(
+            is_name(name.as_bytes()),
+            Place::Entry(Section::Functions, name),
+        )
     })
 }
 
@@ -232,7 +199,10 @@ fn bad_machine_name(table: Option<&Table>) -> Option<Place<&str>>
     ensures { shown result ≡ spec.bad_machine_name (entries_if table.entry) }
 {
     first_in(table, |name, _value| {
-        unless(is_machine_name(name), Place::Entry(Section::Machines, name))
+        unless(
+            is_machine_name(name.as_bytes()),
+            Place::Entry(Section::Machines, name),
+        )
     })
 }
 

@@ -15,6 +15,7 @@ mod place;
 mod planning;
 mod settings;
 mod slots;
+mod spelling;
 mod tree;
 
 pub use error::SettingsError;
@@ -23,3 +24,4 @@ pub use given::Given;
 pub use law::names_are_one_to_one;
 pub use place::{Counted, Place, Section};
 pub use settings::Settings;
+pub use spelling::{is_machine_name, is_name};

@@ -3,13 +3,11 @@ ghost use Rattle.std.specs.Prelude.{◌≡◌, IfOk, string_bytes};
 ghost use Rattle.pool_supervisor.specs.Lines.{attempt_of, attempt_words, attempt_line, status_words};
 
 use gear_status::StatusError;
+use plan_model::UNSERVED;
 use pool_core::{AdoptError, LoadError, Ran, ViewError};
 use refusal::{Label, Labelled};
 use std::alloc::{AllocError, Global};
 use std::fmt::Write;
-
-/// Backlogs from here on say that jobs wait for a function that nobody serves.
-const UNSERVED: u64 = 4_294_967_296;
 
 /// A refusal of the pool in a round.
 #[derive(Clone, Copy, Debug, PartialEq, Eq)]

@@ -9,10 +9,10 @@ returns-then-is_period-clause-ok c rest =
     let period = subst (λ t. is_period t ≡ true) c.as_slice.ensures.value (sym c.if-is_period.ensures) in
     rw (← c.self.view_is) (feed_period c.self.inside.number c.self.inside.line.items rest c.self.inside.load c.self.invariant.open_line c.self.invariant.short period)
 
-pub returns-then-self-gt65536-clause-err : goal.returns-then-self-gt65536-clause-err
-returns-then-self-gt65536-clause-err c _ rest =
+pub returns-then-self-gt-MAX_LINES-clause-err : goal.returns-then-self-gt-MAX_LINES-clause-err
+returns-then-self-gt-MAX_LINES-clause-err c _ rest =
     let period = subst (λ t. is_period t ≡ false) c.as_slice.ensures.value (sym c.if-is_period.ensures) in
-    rw (← c.self.view_is) (feed_many c.self.inside.number c.self.inside.line.items rest c.self.inside.load c.self.invariant.open_line c.self.invariant.short period c.if-self-gt65536.true)
+    rw (← c.self.view_is) (feed_many c.self.inside.number c.self.inside.line.items rest c.self.inside.load c.self.invariant.open_line c.self.invariant.short period c.if-self-gt-MAX_LINES.true)
 
 pub returns-in_err-name-clause-err : goal.returns-in_err-name-clause-err
 returns-in_err-name-clause-err c =
@@ -22,7 +22,7 @@ returns-in_err-name-clause-err c =
     let told = subst (λ t. line_meaning c.self.inside.number t ≡ Err c.in_err-name.field-0.0) bare c.in_err-name.ensures.err in
     rw (p.1, p.2) (λ _ rest. rw (← c.self.view_is)
     (feed_fault c.self.inside.number c.self.inside.line.items rest c.self.inside.load c.self.invariant.open_line c.self.invariant.short
-    c.in_err-name.field-0.0 period c.if-self-gt65536.false told))
+    c.in_err-name.field-0.0 period c.if-self-gt-MAX_LINES.false told))
 
 pub returns-clause-ok : goal.returns-clause-ok
 returns-clause-ok c =
@@ -31,6 +31,6 @@ returns-clause-ok c =
     let told = subst (λ t. line_meaning c.self.inside.number t ≡ Ok (c.in_ok-name.name.now, c.in_ok-name.counts)) bare c.in_ok-name.ensures.ok in (
       λ rest. rw (← c.self.view_is, c.clear.ensures.items, c.in_ok-set.ensures.ok)
           (feed_line c.self.inside.number c.self.inside.line.items rest c.self.inside.load c.self.invariant.open_line c.self.invariant.short
-          (c.in_ok-name.name.now, c.in_ok-name.counts) period c.if-self-gt65536.false told),
-      rw (← c.self.view_is, c.clear.ensures.items) (more_room c.self.inside.number c.self.inside.line.items c.if-self-gt65536.false c.self.invariant.short),
+          (c.in_ok-name.name.now, c.in_ok-name.counts) period c.if-self-gt-MAX_LINES.false told),
+      rw (← c.self.view_is, c.clear.ensures.items) (more_room c.self.inside.number c.self.inside.line.items c.if-self-gt-MAX_LINES.false c.self.invariant.short),
     )
