@@ -1,13 +1,7 @@
-//! The greatest numbers that a settings file may give.
+//! The greatest numbers that a settings file may give, where planning problems do not say them.
 
 /// The most workers in all, and of a machine or on a function.
-pub const MAX_WORKERS: u32 = 4096;
-
-/// The most functions.
-pub const MAX_FUNCTIONS: usize = 1024;
-
-/// The most machines.
-pub const MAX_MACHINES: usize = 256;
+pub const MAX_WORKERS: u32 = plan_model::MAX_WORKERS as u32;
 
 /// The longest pause, in milliseconds: an hour.
 pub const MAX_PAUSE_MS: u32 = 3_600_000;

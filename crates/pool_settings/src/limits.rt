@@ -8,11 +8,12 @@ ghost use Rattle.pool_settings.specs.Entries.{entries_if, shown, table_entries};
 ghost use Rattle.pool_settings.specs.Reading as spec;
 ghost use Rattle.pool_settings.specs.Tree.{values_of};
 
-use crate::bounds::{MAX_FUNCTIONS, MAX_MACHINES, MAX_WORKERS};
+use crate::bounds::MAX_WORKERS;
 use crate::build::{count_at, listed_in};
 use crate::checks::{first_in, unless};
 use crate::place::{Counted, Place};
 use crate::tree::{table_at, value_at};
+use plan_model::{MAX_FUNCTIONS, MAX_MACHINES};
 use toml::{Table, Value};
 
 fn is_function(tree: &Table, name: &str) -> bool
