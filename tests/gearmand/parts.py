@@ -1,5 +1,6 @@
 """The parts of the test against a real gearmand. Each takes the program, and gives what it found in short."""
 
+import ctypes.util
 import random
 import select
 import signal
@@ -376,6 +377,7 @@ def lose_the_server(server):
 
 def half_open(program):
     """Links whose other side is gone, in a name space of its own: sleeping workers stay on them, and with keepalive they are replaced."""
+    held(ctypes.util.find_library("keepalive"), "Debian's libkeepalive0 is not installed")
     subprocess.run(["ip", "link", "set", "lo", "up"], check=True)
     for environment in ({}, KEEPALIVE):
         server = Gearmand()
