@@ -45,7 +45,7 @@ impl fmt::Display for Key<'_> {
 }
 
 /// Adds a key or a name as TOML writes a key.
-fn push_key(out: &mut String, key: &str) -> Result<(), AllocError>
+pub(crate) fn push_key(out: &mut String, key: &str) -> Result<(), AllocError>
     ensures { OnOk result (string_bytes out.new ≡ string_bytes out.old ++ key_text key.now) }
 {
     write!(out, "{}", Key { text: key })

@@ -3,21 +3,33 @@
 ghost use Rattle.std.specs.Prelude.{◌≡◌, ◌-◌, ◌^◌, ◌<◌, Err, IfOk, string_bytes};
 ghost use Rattle.pool_settings.specs.Reading.{reading};
 ghost use Rattle.settings_command.specs.Told as spec;
+ghost use Rattle.toml.specs.View.{table_view};
 
 use crate::meaning::meaning_text;
 use crate::place::place_text;
 use gear_status::Sink;
 use plan_commands::{Exit, Fault, deliver};
-use pool_settings::{Settings, SettingsError};
+use pool_settings::{Given, Settings, SettingsError};
 use std::alloc::{AllocError, Global};
 
-/// Writes what the settings mean.
-fn explain<S: Sink>(alloc: Global, settings: &Settings, sink: &mut S) -> Exit
+/// Writes what the settings mean, of which a file gives these keys.
+fn write_meaning<S: Sink>(alloc: Global, settings: &Settings, given: &Given, sink: &mut S) -> Exit
     requires { (S.output sink.old).failures < 2 ^ 64 - 1 }
-    ensures { spec.Explains settings.now (S.output sink.old) (S.output sink.new) result }
+    ensures { spec.Means (table_view given.now.tree) settings.now (S.output sink.old) (S.output sink.new) result }
 {
-    match meaning_text(alloc, settings) {
+    match meaning_text(alloc, settings, given) {
         Ok(text) => deliver(sink, text.as_bytes(), Exit::answered(0)),
+        Err(_) => Exit::refused(Fault::Memory),
+    }
+}
+
+/// Writes what the settings of a file mean.
+fn explain<S: Sink>(alloc: Global, settings_text: &[u8], settings: &Settings, sink: &mut S) -> Exit
+    requires { (S.output sink.old).failures < 2 ^ 64 - 1 }
+    ensures { spec.Explains settings_text.now settings.now (S.output sink.old) (S.output sink.new) result }
+{
+    match Given::read(alloc, settings_text) {
+        Ok(given) => write_meaning(alloc, settings, &given, sink),
         Err(_) => Exit::refused(Fault::Memory),
     }
 }
@@ -54,7 +66,7 @@ pub fn settings_text<S: Sink>(alloc: Global, settings_text: &[u8], sink: &mut S)
     ensures tells { spec.TellsSettings settings_text.now (S.output sink.old) (S.output sink.new) result }
 {
     match Settings::read(alloc, settings_text) {
-        Ok(settings) => explain(alloc, &settings, sink),
+        Ok(settings) => explain(alloc, settings_text, &settings, sink),
         Err(SettingsError::Memory) => Exit::refused(Fault::Memory),
         Err(error) => locate(alloc, settings_text, error, sink),
     }

@@ -25,16 +25,16 @@ workers = 3
 functions = [\"resize\", \"resize\"]
 ";
 
-const BARE_MEANING: &[u8] = b"server 127.0.0.1:4730
-job_timeout_ms 60000
-max_runs 4294967295
-round_ms 1000
-lull_ms 100
-history 1048576
-function resize least 0
-function resize most 3
-function thumbnail least 0
-function thumbnail most 3
+const BARE_MEANING: &[u8] = b"server 127.0.0.1:4730 (default)
+job_timeout_ms 60000 (default)
+max_runs 4294967295 (default)
+round_ms 1000 (default)
+lull_ms 100 (default)
+history 1048576 (default)
+function resize least 0 (default)
+function resize most 3 (default)
+function thumbnail least 0 (default)
+function thumbnail most 3 (default)
 machine alpha workers 3
 may alpha resize
 machine beta workers 0
@@ -75,6 +75,32 @@ fn settings_that_are_taken(rt: HostRuntime) {
     let alloc = rt.alloc();
     assert!(rt; prints(alloc, BARE, Exit::answered(0), BARE_MEANING));
     assert!(rt; prints(alloc, FULL, Exit::answered(0), FULL_MEANING));
+}
+
+/// One default of each kind, and a server that a line cannot hold.
+const SOME: &[u8] = b"version = 2
+server = \"jobs a\\n\"
+round_ms = 1000
+[functions.x]
+most = 2
+[machines]
+";
+
+const SOME_MEANING: &[u8] = b"server \"jobs a\\n\"
+job_timeout_ms 60000 (default)
+max_runs 4294967295 (default)
+round_ms 1000
+lull_ms 100 (default)
+history 1048576 (default)
+function x least 0 (default)
+function x most 2
+remark no machine lists function x
+";
+
+#[test]
+fn defaults_and_given_values(rt: HostRuntime) {
+    let alloc = rt.alloc();
+    assert!(rt; prints(alloc, SOME, Exit::answered(0), SOME_MEANING));
 }
 
 /// Whether the file is refused so, and this line tells where.
@@ -205,7 +231,7 @@ fn settings_that_are_too_large(rt: HostRuntime) {
     let workers =
         b"version = 1\n[functions]\n[machines.a]\nworkers = 4096\nfunctions = []\n[machines.b]\nworkers = 1\nfunctions = []\n";
     assert!(rt; refuses(alloc, workers, SettingsError::TooMany, b"at workers\n"));
-    let functions = many_functions(alloc, 1_025).unwrap();
+    let functions = many_functions(alloc, 1_025).expect(&rt, "memory");
     assert!(rt;
         refuses(
             alloc,
@@ -214,7 +240,7 @@ fn settings_that_are_too_large(rt: HostRuntime) {
             b"at functions\n"
         )
     );
-    let machines = many_machines(alloc, 257).unwrap();
+    let machines = many_machines(alloc, 257).expect(&rt, "memory");
     assert!(rt;
         refuses(
             alloc,
