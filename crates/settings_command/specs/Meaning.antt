@@ -1,5 +1,5 @@
 -- What settings mean, as lines of one fact each.
-use Rattle.std.specs.Prelude.{ℕ, List, [], ◌∷◌, ◌++◌, codes, ◌==◌, length, slice_index, slice_index_or, Bool, if◌then◌else◌}
+use Rattle.std.specs.Prelude.{ℕ, List, [], ◌∷◌, ◌++◌, codes, ◌==◌, length, slice_index, slice_index_or, unwrap_or, Bool, if◌then◌else◌}
 use Rattle.std.specs.List.{flat_map, list_all, list_any, range_with_len}
 use Rattle.std.specs.Char.{is_ascii_graphic}
 use Rattle.std.specs.Fmt.{decimal}
@@ -7,7 +7,7 @@ use Rattle.toml.specs.Data.{Members}
 use Rattle.toml_writer.specs.Text.{key_text}
 use Rattle.pool_settings.specs.Names.{name_at}
 use Rattle.pool_settings.specs.Settings.{Settings}
-use Rattle.pool_settings.specs.Reading.{function_has_key, has_key, history_key, job_timeout_key, least_key, lull_key, max_runs_key, most_key, round_key, server_key}
+use Rattle.pool_settings.specs.Reading.{function_has_key, has_key, history_key, job_timeout_key, least_key, lull_key, max_runs_key, most_key, round_key, server_key, version_in, version_key}
 use Rattle.pool_settings.specs.Rows.{may_do}
 
 abbrev pub ended : List ℕ → List ℕ
@@ -33,6 +33,10 @@ key_line tree key number = ended (key ++ codes " " ++ decimal number ++ mark (ha
 abbrev pub bound_line : Members → List ℕ → List ℕ → ℕ → List ℕ
 bound_line tree function key number =
     ended (codes "function " ++ function ++ codes " " ++ key ++ codes " " ++ decimal number ++ mark (function_has_key function key tree))
+
+-- the version of the file, which is 1 or 2 where its settings are taken
+abbrev pub version_line : Members → List ℕ
+version_line tree = number_line version_key (unwrap_or (version_in tree) 0)
 
 -- the job server, and what a worker may take and do
 abbrev pub server_lines : Members → Settings → List ℕ
@@ -93,5 +97,5 @@ remarks settings = flat_map (unlisted_remark settings) (functions settings) ++ f
 -- what settings mean, of which the file gives the keys of this tree
 abbrev pub meaning : Members → Settings → List ℕ
 meaning tree settings =
-    server_lines tree settings ++ round_lines tree settings ++ flat_map (function_lines tree settings) (functions settings)
+    version_line tree ++ server_lines tree settings ++ round_lines tree settings ++ flat_map (function_lines tree settings) (functions settings)
     ++ flat_map (machine_lines settings) (machines settings) ++ remarks settings

@@ -70,6 +70,14 @@ fn push_bound(
     write!(out, "function {function} {key} {number}{mark}\n")
 }
 
+/// The version of the file.
+fn push_version(out: &mut String, given: &Given) -> Result<(), AllocError>
+    ensures { OnOk result (string_bytes out.new ≡ string_bytes out.old ++ spec.version_line (table_view given.now.tree)) }
+{
+    let version = given.version().unwrap_or(0);
+    write!(out, "version {version}\n")
+}
+
 /// The job server, and what a worker may take and do.
 fn push_server(out: &mut String, settings: &Settings, given: &Given) -> Result<(), AllocError>
     ensures { OnOk result (string_bytes out.new ≡ string_bytes out.old ++ spec.server_lines (table_view given.now.tree) settings.now) }
@@ -148,13 +156,14 @@ fn push_machines(out: &mut String, settings: &Settings) -> Result<(), AllocError
     Ok(())
 }
 
-/// What settings mean: a line for each single key, two for each function, one for each machine and behind it one for each function
+/// What settings mean: a line for the version and each single key, two for each function, one for each machine and behind it one for each function
 /// that its workers may do, all in the order of [`Settings`]; and then the remarks, one for each function that no machine lists and
 /// one for each machine that lists none. A value that the file does not give is marked `(default)`. The only error is want of memory.
 pub fn meaning_text(alloc: Global, settings: &Settings, given: &Given) -> Result<String, AllocError>
     ensures { IfOk result (λ text. string_bytes text ≡ spec.meaning (table_view given.now.tree) settings.now) }
 {
     let mut out = String::new(alloc);
+    push_version(&mut out, given)?;
     push_server(&mut out, settings, given)?;
     push_rounds(&mut out, settings, given)?;
     push_functions(&mut out, settings, given)?;

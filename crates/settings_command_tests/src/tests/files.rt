@@ -25,7 +25,8 @@ workers = 3
 functions = [\"resize\", \"resize\"]
 ";
 
-const BARE_MEANING: &[u8] = b"server 127.0.0.1:4730 (default)
+const BARE_MEANING: &[u8] = b"version 1
+server 127.0.0.1:4730 (default)
 job_timeout_ms 60000 (default)
 max_runs 4294967295 (default)
 round_ms 1000 (default)
@@ -58,7 +59,8 @@ workers = 2
 functions = [\"x\"]
 ";
 
-const FULL_MEANING: &[u8] = b"server jobs.example:4731
+const FULL_MEANING: &[u8] = b"version 2
+server jobs.example:4731
 job_timeout_ms 1
 max_runs 2
 round_ms 3
@@ -86,7 +88,8 @@ most = 2
 [machines]
 ";
 
-const SOME_MEANING: &[u8] = b"server \"jobs a\\n\"
+const SOME_MEANING: &[u8] = b"version 2
+server \"jobs a\\n\"
 job_timeout_ms 60000 (default)
 max_runs 4294967295 (default)
 round_ms 1000
