@@ -41,7 +41,7 @@ where
     None
 }
 
-fn version_in(tree: &Table) -> Option<u32>
+pub fn version_in(tree: &Table) -> Option<u32>
     ensures { result ≡ spec.version_in (table_view tree.now) }
 {
     match value_at(tree, "version") {

@@ -6,7 +6,7 @@ ghost use Rattle.toml.specs.View.{table_view};
 ghost use Rattle.pool_settings.specs.Reading as spec;
 
 use crate::SettingsError;
-use crate::checks::has_key;
+use crate::checks::{has_key, version_in};
 use crate::tree::table_at;
 use std::alloc::Global;
 use toml::Table;
@@ -35,6 +35,13 @@ impl Given {
                 Err(SettingsError::Text)
             }
         }
+    }
+
+    /// The version of the file, where it is 1 or 2.
+    pub fn version(&self) -> Option<u32>
+        ensures { result ≡ spec.version_in (table_view self.now.tree) }
+    {
+        version_in(&self.tree)
     }
 
     /// Whether the top table has a key.

@@ -1,28 +1,53 @@
 -- What settings mean, as lines of one fact each.
-use Rattle.std.specs.Prelude.{ℕ, List, [], ◌∷◌, ◌++◌, codes, ◌==◌, length, slice_index, slice_index_or, Bool, if◌then◌else◌}
-use Rattle.std.specs.List.{flat_map, list_any, range_with_len}
+use Rattle.std.specs.Prelude.{ℕ, List, [], ◌∷◌, ◌++◌, codes, ◌==◌, length, slice_index, slice_index_or, unwrap_or, Bool, if◌then◌else◌}
+use Rattle.std.specs.List.{flat_map, list_all, list_any, range_with_len}
+use Rattle.std.specs.Char.{is_ascii_graphic}
 use Rattle.std.specs.Fmt.{decimal}
+use Rattle.toml.specs.Data.{Members}
+use Rattle.toml_writer.specs.Text.{key_text}
 use Rattle.pool_settings.specs.Names.{name_at}
 use Rattle.pool_settings.specs.Settings.{Settings}
-use Rattle.pool_settings.specs.Reading.{history_key, job_timeout_key, lull_key, max_runs_key, round_key}
+use Rattle.pool_settings.specs.Reading.{function_has_key, has_key, history_key, job_timeout_key, least_key, lull_key, max_runs_key, most_key, round_key, server_key, version_in, version_key}
 use Rattle.pool_settings.specs.Rows.{may_do}
 
 abbrev pub ended : List ℕ → List ℕ
 ended line = line ++ 10 ∷ []
 
+-- a value that the file does not give is a default
+abbrev pub mark : Bool → List ℕ
+mark is_given = if is_given then [] else codes " (default)"
+
 abbrev pub number_line : List ℕ → ℕ → List ℕ
 number_line key number = ended (key ++ codes " " ++ decimal number)
 
+-- the server, and in quotes, as TOML writes a key, where a byte is not printable
+unfoldable pub server_words : List ℕ → List ℕ
+server_words server = if list_all is_ascii_graphic server then server else key_text server
+
+abbrev pub server_line : Bool → List ℕ → List ℕ
+server_line is_given server = ended (codes "server " ++ server_words server ++ mark is_given)
+
+abbrev pub key_line : Members → List ℕ → ℕ → List ℕ
+key_line tree key number = ended (key ++ codes " " ++ decimal number ++ mark (has_key key tree))
+
+abbrev pub bound_line : Members → List ℕ → List ℕ → ℕ → List ℕ
+bound_line tree function key number =
+    ended (codes "function " ++ function ++ codes " " ++ key ++ codes " " ++ decimal number ++ mark (function_has_key function key tree))
+
+-- the version of the file, which is 1 or 2 where its settings are taken
+abbrev pub version_line : Members → List ℕ
+version_line tree = number_line version_key (unwrap_or (version_in tree) 0)
+
 -- the job server, and what a worker may take and do
-abbrev pub server_lines : Settings → List ℕ
-server_lines settings =
-    ended (codes "server " ++ settings.server) ++ number_line job_timeout_key settings.job_timeout_ms
-    ++ number_line max_runs_key settings.max_runs
+abbrev pub server_lines : Members → Settings → List ℕ
+server_lines tree settings =
+    server_line (has_key server_key tree) settings.server ++ key_line tree job_timeout_key settings.job_timeout_ms
+    ++ key_line tree max_runs_key settings.max_runs
 
 -- the times of a round, and how much is kept
-abbrev pub round_lines : Settings → List ℕ
-round_lines settings =
-    number_line round_key settings.round_ms ++ number_line lull_key settings.lull_ms ++ number_line history_key settings.history
+abbrev pub round_lines : Members → Settings → List ℕ
+round_lines tree settings =
+    key_line tree round_key settings.round_ms ++ key_line tree lull_key settings.lull_ms ++ key_line tree history_key settings.history
 
 abbrev pub functions : Settings → List ℕ
 functions settings = range_with_len 0 (length settings.functions)
@@ -34,10 +59,10 @@ machines settings = range_with_len 0 (length settings.machines)
 abbrev pub listed : Settings → ℕ → List ℕ
 listed settings machine = slice_index_or settings.may machine []
 
-abbrev pub function_lines : Settings → ℕ → List ℕ
-function_lines settings f =
-    number_line (codes "function " ++ name_at settings.functions f ++ codes " least") (slice_index settings.least f)
-    ++ number_line (codes "function " ++ name_at settings.functions f ++ codes " most") (slice_index settings.most f)
+abbrev pub function_lines : Members → Settings → ℕ → List ℕ
+function_lines tree settings f =
+    bound_line tree (name_at settings.functions f) least_key (slice_index settings.least f)
+    ++ bound_line tree (name_at settings.functions f) most_key (slice_index settings.most f)
 
 abbrev pub may_line : Settings → ℕ → ℕ → List ℕ
 may_line settings machine f = ended (codes "may " ++ name_at settings.machines machine ++ codes " " ++ name_at settings.functions f)
@@ -69,7 +94,8 @@ remarks settings = flat_map (unlisted_remark settings) (functions settings) ++ f
 
 -- ---- the whole text
 
-abbrev pub meaning : Settings → List ℕ
-meaning settings =
-    server_lines settings ++ round_lines settings ++ flat_map (function_lines settings) (functions settings)
+-- what settings mean, of which the file gives the keys of this tree
+abbrev pub meaning : Members → Settings → List ℕ
+meaning tree settings =
+    version_line tree ++ server_lines tree settings ++ round_lines tree settings ++ flat_map (function_lines tree settings) (functions settings)
     ++ flat_map (machine_lines settings) (machines settings) ++ remarks settings

@@ -1,9 +1,11 @@
-//! The command `settings` as a call over a text and a device: what a settings file means.
+//! The command `settings` as a call over a text and a device: what a settings file means, or where its first fault is.
 #![tactic(auto)]
 
 mod meaning;
+mod place;
 mod remarks;
 mod settings;
 
 pub use meaning::meaning_text;
+pub use place::place_text;
 pub use settings::settings_text;

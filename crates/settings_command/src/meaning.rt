@@ -1,59 +1,122 @@
 //! What settings mean, as lines of one fact each.
 
 ghost use Rattle.std.specs.Prelude.{◌≡◌, ◌++◌, ◌<◌, IfOk, OnOk, length, string_bytes};
-ghost use Rattle.std.specs.List.{flat_map};
+ghost use Rattle.std.specs.Char.{is_ascii_graphic};
+ghost use Rattle.std.specs.List.{flat_map, list_all};
+ghost use Rattle.toml.specs.View.{table_view};
 ghost use Rattle.settings_command.specs.Meaning as spec;
 
+use crate::place::push_key;
 use crate::remarks::push_remarks;
 use plan_model::{FuncId, MachineId};
-use pool_settings::Settings;
+use pool_settings::{Given, Settings};
 use std::alloc::{AllocError, Global};
 use std::fmt::Write;
 
-/// The line of a key and its number.
-fn push_number(out: &mut String, key: &str, number: u32) -> Result<(), AllocError>
-    ensures { OnOk result (string_bytes out.new ≡ string_bytes out.old ++ spec.number_line key.now number) }
+/// What marks a value that the file does not give.
+fn mark(is_given: bool) -> &'static str
+    ensures { result.now ≡ spec.mark is_given }
 {
-    write!(out, "{key} {number}\n")
+    if is_given { "" } else { " (default)" }
+}
+
+/// The line of a key and its number.
+fn push_number(out: &mut String, key: &str, number: u32, given: &Given) -> Result<(), AllocError>
+    ensures { OnOk result (string_bytes out.new ≡ string_bytes out.old ++ spec.key_line (table_view given.now.tree) key.now number) }
+{
+    let mark = mark(given.has_key(key));
+    write!(out, "{key} {number}{mark}\n")
+}
+
+fn is_printable(text: &str) -> bool
+    ensures { result ≡ list_all is_ascii_graphic text.now }
+{
+    text.as_bytes().iter().all(|byte| byte.is_ascii_graphic())
+}
+
+/// The server, and in quotes, as TOML writes a key, where a byte is not printable.
+#[tactic(auto, unfolding(crate::specs::Meaning::server_words))]
+fn push_server_words(out: &mut String, server: &str) -> Result<(), AllocError>
+    ensures { OnOk result (string_bytes out.new ≡ string_bytes out.old ++ spec.server_words server.now) }
+{
+    if is_printable(server) {
+        out.push_str(server)
+    } else {
+        push_key(out, server)
+    }
+}
+
+fn push_server_line(out: &mut String, server: &str, is_given: bool) -> Result<(), AllocError>
+    ensures { OnOk result (string_bytes out.new ≡ string_bytes out.old ++ spec.server_line is_given server.now) }
+{
+    out.push_str("server ")?;
+    push_server_words(out, server)?;
+    out.push_str(mark(is_given))?;
+    out.push_str("\n")
+}
+
+/// A bound of a function.
+fn push_bound(
+    out: &mut String,
+    function: &str,
+    key: &str,
+    number: u32,
+    given: &Given,
+) -> Result<(), AllocError>
+    ensures { OnOk result (string_bytes out.new ≡ string_bytes out.old
+        ++ spec.bound_line (table_view given.now.tree) function.now key.now number) }
+{
+    let mark = mark(given.function_has_key(function, key));
+    write!(out, "function {function} {key} {number}{mark}\n")
+}
+
+/// The version of the file.
+fn push_version(out: &mut String, given: &Given) -> Result<(), AllocError>
+    ensures { OnOk result (string_bytes out.new ≡ string_bytes out.old ++ spec.version_line (table_view given.now.tree)) }
+{
+    let version = given.version().unwrap_or(0);
+    write!(out, "version {version}\n")
 }
 
 /// The job server, and what a worker may take and do.
-fn push_server(out: &mut String, settings: &Settings) -> Result<(), AllocError>
-    ensures { OnOk result (string_bytes out.new ≡ string_bytes out.old ++ spec.server_lines settings.now) }
+fn push_server(out: &mut String, settings: &Settings, given: &Given) -> Result<(), AllocError>
+    ensures { OnOk result (string_bytes out.new ≡ string_bytes out.old ++ spec.server_lines (table_view given.now.tree) settings.now) }
 {
-    let server = settings.server();
-    write!(out, "server {server}\n")?;
-    push_number(out, "job_timeout_ms", settings.job_timeout_ms())?;
-    push_number(out, "max_runs", settings.max_runs())
+    push_server_line(out, settings.server(), given.has_key("server"))?;
+    push_number(out, "job_timeout_ms", settings.job_timeout_ms(), given)?;
+    push_number(out, "max_runs", settings.max_runs(), given)
 }
 
 /// The times of a round, and how much is kept.
-fn push_rounds(out: &mut String, settings: &Settings) -> Result<(), AllocError>
-    ensures { OnOk result (string_bytes out.new ≡ string_bytes out.old ++ spec.round_lines settings.now) }
+fn push_rounds(out: &mut String, settings: &Settings, given: &Given) -> Result<(), AllocError>
+    ensures { OnOk result (string_bytes out.new ≡ string_bytes out.old ++ spec.round_lines (table_view given.now.tree) settings.now) }
 {
-    push_number(out, "round_ms", settings.round_ms())?;
-    push_number(out, "lull_ms", settings.lull_ms())?;
-    push_number(out, "history", settings.history())
+    push_number(out, "round_ms", settings.round_ms(), given)?;
+    push_number(out, "lull_ms", settings.lull_ms(), given)?;
+    push_number(out, "history", settings.history(), given)
 }
 
 /// A function, with its least and its greatest number.
-fn push_function(out: &mut String, settings: &Settings, function: FuncId) -> Result<(), AllocError>
+fn push_function(
+    out: &mut String,
+    settings: &Settings,
+    given: &Given,
+    function: FuncId,
+) -> Result<(), AllocError>
     requires { function < length settings.now.functions }
-    ensures { OnOk result (string_bytes out.new ≡ string_bytes out.old ++ spec.function_lines settings.now function) }
+    ensures { OnOk result (string_bytes out.new ≡ string_bytes out.old ++ spec.function_lines (table_view given.now.tree) settings.now function) }
 {
     let name = settings.function_name(function);
-    let least = settings.least(function);
-    let most = settings.most(function);
-    write!(out, "function {name} least {least}\n")?;
-    write!(out, "function {name} most {most}\n")
+    push_bound(out, name, "least", settings.least(function), given)?;
+    push_bound(out, name, "most", settings.most(function), given)
 }
 
-fn push_functions(out: &mut String, settings: &Settings) -> Result<(), AllocError>
+fn push_functions(out: &mut String, settings: &Settings, given: &Given) -> Result<(), AllocError>
     ensures { OnOk result (string_bytes out.new ≡ string_bytes out.old
-        ++ flat_map (spec.function_lines settings.now) (spec.functions settings.now)) }
+        ++ flat_map (spec.function_lines (table_view given.now.tree) settings.now) (spec.functions settings.now)) }
 {
     for number in 0..settings.functions() {
-        push_function(out, settings, FuncId::new(number))?;
+        push_function(out, settings, given, FuncId::new(number))?;
     }
     Ok(())
 }
@@ -93,16 +156,17 @@ fn push_machines(out: &mut String, settings: &Settings) -> Result<(), AllocError
     Ok(())
 }
 
-/// What settings mean: a line for each single key, two for each function, one for each machine and behind it one for each function
+/// What settings mean: a line for the version and each single key, two for each function, one for each machine and behind it one for each function
 /// that its workers may do, all in the order of [`Settings`]; and then the remarks, one for each function that no machine lists and
-/// one for each machine that lists none. The only error is want of memory.
-pub fn meaning_text(alloc: Global, settings: &Settings) -> Result<String, AllocError>
-    ensures { IfOk result (λ text. string_bytes text ≡ spec.meaning settings.now) }
+/// one for each machine that lists none. A value that the file does not give is marked `(default)`. The only error is want of memory.
+pub fn meaning_text(alloc: Global, settings: &Settings, given: &Given) -> Result<String, AllocError>
+    ensures { IfOk result (λ text. string_bytes text ≡ spec.meaning (table_view given.now.tree) settings.now) }
 {
     let mut out = String::new(alloc);
-    push_server(&mut out, settings)?;
-    push_rounds(&mut out, settings)?;
-    push_functions(&mut out, settings)?;
+    push_version(&mut out, given)?;
+    push_server(&mut out, settings, given)?;
+    push_rounds(&mut out, settings, given)?;
+    push_functions(&mut out, settings, given)?;
     push_machines(&mut out, settings)?;
     push_remarks(&mut out, settings)?;
     Ok(out)

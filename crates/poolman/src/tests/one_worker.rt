@@ -17,14 +17,15 @@ end
 ";
 
 /// What the settings mean.
-pub const MEANING: &[u8] = b"server 127.0.0.1:4730
-job_timeout_ms 60000
-max_runs 4294967295
-round_ms 1000
-lull_ms 100
-history 1048576
-function x least 0
-function x most 1
+pub const MEANING: &[u8] = b"version 1
+server 127.0.0.1:4730 (default)
+job_timeout_ms 60000 (default)
+max_runs 4294967295 (default)
+round_ms 1000 (default)
+lull_ms 100 (default)
+history 1048576 (default)
+function x least 0 (default)
+function x most 1 (default)
 machine a workers 1
 may a x
 ";

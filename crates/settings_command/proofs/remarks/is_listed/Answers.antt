@@ -1,7 +1,6 @@
 use Rattle.std.proofs.Common.{◌≡◌, ◌∙◌, ◌+◌, ◌-◌, ℕ, ◌||◌, Bool, true, false, ap, arith, length, rules, sym}
 use Rattle.std.specs.List.{list_any, range_with_len}
 use Rattle.pool_settings.specs.Rows.{may_do}
-use Rattle.settings_command.specs.Meaning as spec
 use Rattle.settings_command.proofs.Numbered.{any_more}
 use Rattle.settings_command.proofs.remarks.is_listed.Goals as goal
 

@@ -1,5 +1,4 @@
-use Rattle.std.proofs.Common.{◌++◌, arith, length, string_bytes}
-use Rattle.std.specs.List.{flat_map}
+use Rattle.std.proofs.Common.{arith, length, string_bytes}
 use Rattle.settings_command.specs.Meaning as spec
 use Rattle.settings_command.proofs.Numbered.{one_written}
 use Rattle.settings_command.proofs.remarks.push_bare.Goals as goal
