@@ -4,7 +4,9 @@ use Rattle.std.specs.List.{slice_split}
 use Rattle.std.proofs.lemmas.Bool.{and_parts, false≢true}
 use Rattle.std.proofs.lemmas.Bool.Decides.{nat_tests}
 use Rattle.gear_status.specs.Sides.{Met, Undisturbed}
-use Rattle.gear_status.specs.Status.{Line, at_end, is_line_feed, is_period, is_too_long, line_meaning, meaning_from, put, status, without_return}
+use Rattle.gear_status.specs.Status.{Line, at_end, is_period, is_too_long, line_meaning, meaning_from, put, status, without_return}
+use Rattle.text_pieces.specs.Lines.{is_line_feed}
+use Rattle.text_pieces.proofs.Lines.{first_part}
 use Rattle.gear_status.specs.Stream.{AnswersStatus, EndsWithPiece, IsPart, Part, is_open, is_verdict, meaning_with}
 use Rattle.gear_status.specs.declared.error.StatusError.{StatusError}
 use Rattle.gear_status.specs.declared.error.StatusError.TheVariants.{BadLine, BadNumber, LineTooLong, Memory, ReadFault, TooManyLines, Truncated}
@@ -16,16 +18,6 @@ not_true true h = sym h
 nothing_after : (xs : List ℕ) → xs ++ [] ≡ xs
 nothing_after [] = refl
 nothing_after (x ∷ xs) = ap (λ t. x ∷ t) (nothing_after xs)
-
--- a text has a first part
-pub first_part : (ys : List ℕ) → (head : List ℕ) × (tail : List (List ℕ)) × (slice_split is_line_feed ys ≡ head ∷ tail)
-first_part [] = ([], [], refl)
-first_part (y ∷ ys) = by (is_line_feed y) refl (first_part ys)
-  where
-    by : (b : Bool) → is_line_feed y ≡ b → ((head : List ℕ) × (tail : List (List ℕ)) × (slice_split is_line_feed ys ≡ head ∷ tail))
-        → (head : List ℕ) × (tail : List (List ℕ)) × (slice_split is_line_feed (y ∷ ys) ≡ head ∷ tail)
-    by true feed rest = ([], slice_split is_line_feed ys, rw feed)
-    by false other rest = (y ∷ rest.0, rest.1, rw (other, rest.2))
 
 -- bytes with no line feed go before the first part
 pub open_front : (xs ys head : List ℕ) (tail : List (List ℕ)) → is_open xs ≡ true → slice_split is_line_feed ys ≡ head ∷ tail

@@ -8,6 +8,7 @@ use Rattle.text_pieces.specs.Numbers.{number_below}
 use Rattle.gear_status.specs.declared.load.Counts.{Counts}
 use Rattle.gear_status.specs.declared.error.StatusError.{StatusError}
 use Rattle.gear_status.specs.declared.error.StatusError.TheVariants as fault
+use Rattle.text_pieces.specs.Lines.{is_line_feed}
 
 -- a function's name with its counts
 abbrev pub Line : Type 0
@@ -63,9 +64,6 @@ abbrev pub line_meaning : ℕ → List ℕ → Result Line StatusError
 line_meaning n line = option_map_or (line_of_fields n) (fields_of line) (Err (fault.BadLine n))
 
 -- ---- the text
-
-abbrev pub is_line_feed : ℕ → Bool
-is_line_feed b = b == 10
 
 -- a line without the carriage return at its end
 abbrev pub without_return : List ℕ → List ℕ

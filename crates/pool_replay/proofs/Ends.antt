@@ -7,7 +7,8 @@ use Rattle.pool_replay.specs.declared.desk.Desk.{Desk}
 use Rattle.pool_replay.specs.declared.running.End.{End}
 use Rattle.pool_replay.specs.declared.running.End.TheVariants as end
 use Rattle.pool_replay.specs.Step.{StepOf}
-use Rattle.pool_replay.specs.Transcript.{IsTranscript, AnswersLine, ended, first_desk}
+use Rattle.pool_replay.specs.Transcript.{IsTranscript, AnswersLine, first_desk}
+use Rattle.text_pieces.specs.Lines.{ended}
 
 -- a run may end at any line for want of memory
 pub gives_up : (p : Settings) (number : ℕ) (desk : Desk) (lines : List (List ℕ)) (line : List ℕ) (rest : List (List ℕ))

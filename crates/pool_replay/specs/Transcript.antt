@@ -1,5 +1,5 @@
 -- What a run prints, and how it ends.
-use Rattle.std.specs.Prelude.{ℕ, ◌≡◌, ◌+◌, ◌==◌, List, [], ◌∷◌, ◌++◌, Bool, Some, None, ◌⊎◌}
+use Rattle.std.specs.Prelude.{ℕ, ◌≡◌, ◌+◌, List, [], ◌∷◌, ◌++◌, Some, None, ◌⊎◌}
 use Rattle.std.specs.List.{slice_split}
 use Rattle.std.specs.FinSet as set
 use Rattle.pool_settings.specs.Settings.{Settings}
@@ -10,13 +10,7 @@ use Rattle.pool_replay.specs.declared.desk.Desk.{Desk}
 use Rattle.pool_replay.specs.declared.running.End.{End}
 use Rattle.pool_replay.specs.declared.running.End.TheVariants as end
 use Rattle.pool_replay.specs.Step.{StepOf}
-
--- the line and its line feed
-abbrev pub ended : List ℕ → List ℕ
-ended line = line ++ 10 ∷ []
-
-abbrev pub is_line_feed : ℕ → Bool
-is_line_feed b = b == 10
+use Rattle.text_pieces.specs.Lines.{ended, is_line_feed}
 
 -- what stands behind the last line feed is a line where it holds a byte
 abbrev pub last_line : List ℕ → List (List ℕ)

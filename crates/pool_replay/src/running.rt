@@ -9,6 +9,7 @@ use crate::desk::Desk;
 use pool_commands::command_in;
 use pool_settings::Settings;
 use std::alloc::{AllocError, Global};
+use text_pieces::cut_first;
 
 /// How a run ended.
 #[derive(Clone, Copy, Debug, PartialEq, Eq)]
@@ -58,12 +59,10 @@ fn cut_line(text: &[u8]) -> Option<(&[u8], &[u8])>
     if text.is_empty() {
         return None;
     }
-    for at in 0..text.len() {
-        if text[at] == b'\n' {
-            return Some((&text[..at], &text[at + 1..]));
-        }
+    match cut_first(b'\n', text) {
+        Some(cut) => Some(cut),
+        None => Some((text, &[])),
     }
-    Some((text, &[]))
 }
 
 /// Runs one line, and appends what it prints. Where it is not run, or there is no memory for what it prints, nothing is

@@ -17,8 +17,9 @@ use Rattle.pool_settings.proofs.SlotSums.{machine_found}
 use Rattle.pool_report.specs.Grammar.{AreEntries, AreLeft, AreNeeded, AreTextsReports, IsFunctionOrNone, IsReportOf, IsSet, IsSetOrNone, listed_worker}
 use Rattle.pool_report.specs.Law.{Spells}
 use Rattle.pool_report.specs.Lines.{ReportLine, backlog, head, last, line_of, needed, no_plan, short, stranded, task}
-use Rattle.pool_report.specs.Reading.{Draft, is_complete, is_line_feed, meaning, meaning_from, place, place_function, start}
-use Rattle.pool_report.specs.Report.{Needed, Short, Stranded, Worker, backlog_line, ended, needed_line, planned, report, short_if, short_line, short_lines, stranded_line, task_line, finding_lines, worker_line, name_of_worker}
+use Rattle.pool_report.specs.Reading.{Draft, is_complete, meaning, meaning_from, place, place_function, start}
+use Rattle.text_pieces.specs.Lines.{ended, is_line_feed}
+use Rattle.pool_report.specs.Report.{Needed, Short, Stranded, backlog_line, needed_line, planned, report, short_if, short_line, short_lines, stranded_line, task_line, worker_line, name_of_worker}
 use Rattle.pool_report.specs.Report as report_specs
 use Rattle.pool_report.specs.declared.stage.Misread.{Misread}
 use Rattle.pool_report.specs.declared.stage.Misread.TheVariants as misread
@@ -26,7 +27,7 @@ use Rattle.pool_report.specs.declared.stage.Stage.{Stage}
 use Rattle.pool_report.specs.declared.stage.Stage.TheVariants as stage
 use Rattle.pool_report.proofs.Found.{function_found}
 use Rattle.pool_report.proofs.Spelled.{lines_spelled}
-use Rattle.pool_report.proofs.Splits.{first_part}
+use Rattle.text_pieces.proofs.Lines.{first_part}
 use Rattle.pool_report.proofs.Walks.{Leads, at, leads_line, leads_none, leads_on}
 use Rattle.pool_report.proofs.Whole.{Below, worker_read}
 use Rattle.pool_report.proofs.Written.{lines_read}

@@ -10,17 +10,11 @@ use Rattle.std.proofs.lemmas.Slice.Eq.{bytes_eq-Decides}
 use Rattle.pool_settings.specs.Names.{is_name}
 use Rattle.pool_report.specs.Law.{Spells}
 use Rattle.pool_report.specs.Lines.{ReportLine, after, backlog, backlog_in, count_after, head, idle_in, is_worker, keyed, last, line_of, needed, needed_in, no_plan, short, short_in, stranded, stranded_in, task, unserved_in, work_in}
-use Rattle.pool_report.specs.Report.{ended}
+use Rattle.text_pieces.specs.Lines.{ended}
 use Rattle.text_pieces.specs.Cuts.{cut_last}
 use Rattle.text_pieces.specs.Numbers.{plain_number_below}
-use Rattle.text_pieces.proofs.Cutting.{parts_of_last}
+use Rattle.text_pieces.proofs.Cutting.{never, parts_of_last, same}
 use Rattle.text_pieces.proofs.Digits.{plain_spelled}
-
-same : {A : Type 0} (x y : A) → Some x ≡ Some y → x ≡ y
-same x y e = cc
-
-never : {A : Type 0} (x : A) → None ≡ Some x → ⊥
-never x e = absurd cc
 
 -- ---- parts
 

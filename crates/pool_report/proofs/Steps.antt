@@ -1,11 +1,12 @@
 -- One line more of a text.
 use Rattle.std.proofs.Common.{◌≡◌, ℕ, ◌+◌, List, ◌∷◌, Ok, Err}
 use Rattle.std.specs.List.{slice_split}
-use Rattle.pool_report.specs.Reading.{Draft, is_line_feed, meaning_from, place_line}
+use Rattle.pool_report.specs.Reading.{Draft, meaning_from, place_line}
+use Rattle.text_pieces.specs.Lines.{is_line_feed}
 use Rattle.pool_settings.specs.Settings.{Settings}
 use Rattle.pool_report.specs.declared.stage.Misread.TheVariants as misread
 use Rattle.pool_report.specs.declared.error.ReadError.TheVariants as error
-use Rattle.pool_report.proofs.Splits.{first_part}
+use Rattle.text_pieces.proofs.Lines.{first_part}
 
 module _ (p : Settings) (n : ℕ) (d : Draft) (line tail : List ℕ) where
   pub bad_line : place_line p d line ≡ Err misread.Bad → meaning_from p n d (line ∷ slice_split is_line_feed tail) ≡ Err (error.BadLine n)

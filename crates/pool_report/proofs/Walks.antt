@@ -10,7 +10,8 @@ use Rattle.pool_settings.specs.Slots.{slot_named}
 use Rattle.pool_report.specs.Answered.{needed_at, stranded_at, reported_worker}
 use Rattle.pool_report.specs.Law.{IsNamed, TellsLine, is_one_line}
 use Rattle.pool_report.specs.Lines.{ReportLine}
-use Rattle.pool_report.specs.Reading.{Draft, is_complete, is_line_feed, meaning_from, place, place_function, place_line, with_entry}
+use Rattle.pool_report.specs.Reading.{Draft, is_complete, meaning_from, place, place_function, place_line, with_entry}
+use Rattle.text_pieces.specs.Lines.{is_line_feed}
 use Rattle.pool_report.specs.Report.{needed_line, stranded_line, worker_line, name_of_worker}
 use Rattle.pool_report.specs.declared.stage.Stage.{Stage}
 use Rattle.pool_report.specs.declared.stage.Stage.TheVariants as stage

@@ -21,8 +21,9 @@ use Rattle.pool_settings.proofs.SlotSums.{IsAt, length-owners_from, owner_at, su
 use Rattle.pool_report.specs.Answered.{report_text, short_at, stranded_all, stranded_at, reported_worker}
 use Rattle.pool_report.specs.Law.{HasName, IsOf, listed_plan, retold}
 use Rattle.pool_report.specs.Lines.{backlog, head, last, no_plan, short}
-use Rattle.pool_report.specs.Reading.{Draft, answer_of, is_complete, is_line_feed, meaning, meaning_from, place_function, start, with_entry}
-use Rattle.pool_report.specs.Report.{backlog_line, ended, needed_line, short_line, short_lines, stranded_line, worker_line}
+use Rattle.pool_report.specs.Reading.{Draft, answer_of, is_complete, meaning, meaning_from, place_function, start, with_entry}
+use Rattle.text_pieces.specs.Lines.{ended, is_line_feed}
+use Rattle.pool_report.specs.Report.{backlog_line, needed_line, short_line, short_lines, stranded_line, worker_line}
 use Rattle.pool_report.specs.declared.stage.Stage.{Stage}
 use Rattle.pool_report.specs.declared.stage.Stage.TheVariants as stage
 use Rattle.pool_report.proofs.Bounds.{backlog_other, have_few, need_few, sum_few, waiting_few}

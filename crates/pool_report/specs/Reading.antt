@@ -14,6 +14,7 @@ use Rattle.pool_report.specs.declared.stage.Misread.{Misread}
 use Rattle.pool_report.specs.declared.stage.Misread.TheVariants as misread
 use Rattle.pool_report.specs.declared.error.ReadError.{ReadError}
 use Rattle.pool_report.specs.declared.error.ReadError.TheVariants as error
+use Rattle.text_pieces.specs.Lines.{is_line_feed}
 
 -- what the lines so far have told
 pub record Draft : Type 0 where
@@ -124,9 +125,6 @@ place_line settings d line = option_map_or (place settings d) (line_of line) (Er
 
 abbrev pub answer_of : Draft → Answer
 answer_of d = option_map_or (λ k. Planned d.entries k d.set) d.backlog (NoPlan (unwrap_or d.set []))
-
-abbrev pub is_line_feed : ℕ → Bool
-is_line_feed b = b == 10
 
 -- the fault of line n, or what the lines behind it tell
 abbrev pub and_read_on : ℕ → Result Draft Misread → (Draft → Result Answer ReadError) → Result Answer ReadError

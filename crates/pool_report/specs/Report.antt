@@ -1,7 +1,8 @@
 -- The text of a report: its lines in order, each ended by a line feed.
-use Rattle.std.specs.Prelude.{ℕ, ◌-◌, ◌^◌, List, [], ◌∷◌, ◌++◌, Option, Some, None, nat_lt, codes, if◌then◌else◌}
+use Rattle.std.specs.Prelude.{ℕ, ◌-◌, ◌^◌, List, [], ◌++◌, Option, Some, None, nat_lt, codes, if◌then◌else◌}
 use Rattle.std.specs.List.{flat_map}
 use Rattle.std.specs.Fmt.{decimal}
+use Rattle.text_pieces.specs.Lines.{ended}
 
 -- what a report tells, with names in the place of numbers
 pub record Worker : Type 0 where
@@ -26,9 +27,6 @@ pub record Stranded : Type 0 where
 pub data Finding : Type 0 where
   planned : ℕ → List Worker → Option Short → Finding
   no_plan : Short → Finding
-
-abbrev pub ended : List ℕ → List ℕ
-ended line = line ++ 10 ∷ []
 
 -- a backlog above all numbers of jobs counts what nobody serves
 abbrev pub backlog_line : ℕ → List ℕ

@@ -2,7 +2,8 @@
 
 ghost use Rattle.std.specs.Prelude.{◌≡◌, ◌≢◌, ◌∷◌, ◌+◌, ◌<◌, [], IfOk, IfErr, MatchOption, Ok, Err, length};
 ghost use Rattle.std.specs.List.{slice_split};
-ghost use Rattle.pool_report.specs.Reading.{is_line_feed, meaning};
+ghost use Rattle.pool_report.specs.Reading.{meaning};
+ghost use Rattle.text_pieces.specs.Lines.{is_line_feed};
 
 use crate::draft::Draft;
 use crate::error::ReadError;

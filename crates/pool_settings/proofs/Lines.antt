@@ -3,7 +3,7 @@ use Rattle.std.proofs.Common.{◌≡◌, ℕ, ◌-◌, ◌<◌, ◌≤◌, List,
 use Rattle.std.specs.List.{after_last, suffix_len}
 use Rattle.std.proofs.lemmas.Bool.Decides.{nat_tests}
 use Rattle.std.proofs.lemmas.List.Sums.{suffix_len_is}
-use Rattle.pool_settings.specs.Fault.{is_line_feed}
+use Rattle.text_pieces.specs.Lines.{is_line_feed}
 
 -- behind a line feed that no other follows
 pub line_here : (text : List ℕ) (i : ℕ) → i ≤ length text → ((k : ℕ) → i ≤ k → k < length text → is_line_feed (get_or text k 0) ≡ false)

@@ -11,17 +11,11 @@ use Rattle.pool_settings.specs.Names.{IsInByteOrder, name_at, place_of}
 use Rattle.pool_settings.specs.Settings.{AreSettings, Settings}
 use Rattle.pool_settings.specs.Slots.{first_slot, machine_of, parts_of, slot_at, slot_named, slots, worker_name}
 use Rattle.text_pieces.specs.Numbers.{plain_number_below}
-use Rattle.text_pieces.proofs.Cutting.{parts_of_last}
+use Rattle.text_pieces.proofs.Cutting.{never, parts_of_last, same}
 use Rattle.text_pieces.proofs.Digits.{plain_spelled}
 use Rattle.pool_settings.proofs.Searches.{place_is}
 use Rattle.pool_settings.proofs.SlotSums.{IsAt, machine_found, sum-room}
 use Rattle.pool_settings.proofs.WorkerNames as workers
-
-same : {A : Type 0} (x y : A) → Some x ≡ Some y → x ≡ y
-same x y e = cc
-
-never : {A : Type 0} (x : A) → None ≡ Some x → ⊥
-never x e = absurd cc
 
 -- ---- functions and machines
 

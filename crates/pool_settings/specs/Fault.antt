@@ -1,5 +1,5 @@
 -- The first fault of a settings file, and where it is.
-use Rattle.std.specs.Prelude.{◌≡◌, ℕ, ◌+◌, ◌≤◌, List, length, take, filter, Bool, false, ◌||◌, ◌==◌, nat_le, nat_lt, Option, Some, None, string_bytes}
+use Rattle.std.specs.Prelude.{◌≡◌, ℕ, ◌+◌, ◌≤◌, List, length, take, filter, Bool, false, ◌||◌, nat_le, nat_lt, Option, Some, None, string_bytes}
 use Rattle.std.specs.List.{after_last}
 use Rattle.std.specs.Str.{is_utf8}
 use Rattle.std.specs.Str.Lossy.{utf8_valid_len}
@@ -9,13 +9,11 @@ use Rattle.pool_settings.specs.Reading as reading
 use Rattle.pool_settings.specs.declared.error.SettingsError.TheVariants as fault
 use Rattle.pool_settings.specs.declared.fault.Fault.{Fault}
 use Rattle.pool_settings.specs.declared.place.Place.TheVariants as place
+use Rattle.text_pieces.specs.Lines.{is_line_feed}
 
 -- a fault that is handed out, apart from how its texts are held
 abbrev pub fault_view : Fault → reading.Fault
 fault_view f = (f.error, place_view string_bytes f.place)
-
-abbrev pub is_line_feed : ℕ → Bool
-is_line_feed byte = byte == 10
 
 -- the first byte of a character of UTF-8
 abbrev pub begins_character : ℕ → Bool

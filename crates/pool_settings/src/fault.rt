@@ -4,6 +4,7 @@ ghost use Rattle.std.specs.Prelude.{◌≡◌, ◌≤◌, IfOk, filter, Some, le
 ghost use Rattle.std.specs.List.{after_last};
 ghost use Rattle.toml.specs.View.{table_view};
 ghost use Rattle.pool_settings.specs.Fault as spec;
+ghost use Rattle.text_pieces.specs.Lines.{is_line_feed};
 ghost use Rattle.pool_settings.specs.Reading.{first_fault};
 
 use crate::SettingsError;
@@ -70,7 +71,7 @@ fn text_fault(before: &[u8]) -> Fault
 
 /// How many line feeds there are.
 fn line_feeds(settings_text: &[u8]) -> usize
-    ensures all { result ≡ length (filter spec.is_line_feed settings_text.now) }
+    ensures all { result ≡ length (filter is_line_feed settings_text.now) }
     ensures few { result ≤ length settings_text.now }
 {
     settings_text.iter().filter(|byte| **byte == b'\n').count()
@@ -98,7 +99,7 @@ fn begins_character(byte: u8) -> bool
 
 /// What stands behind the last line feed.
 fn last_line(text: &[u8]) -> &[u8]
-    ensures { result.now ≡ after_last spec.is_line_feed text.now }
+    ensures { result.now ≡ after_last is_line_feed text.now }
 {
     let mut start = text.len();
     while start > 0 {

@@ -1,5 +1,5 @@
 -- What settings mean, as lines of one fact each.
-use Rattle.std.specs.Prelude.{ℕ, List, [], ◌∷◌, ◌++◌, codes, ◌==◌, length, slice_index, slice_index_or, unwrap_or, Bool, if◌then◌else◌}
+use Rattle.std.specs.Prelude.{ℕ, List, [], ◌++◌, codes, ◌==◌, length, slice_index, slice_index_or, unwrap_or, Bool, if◌then◌else◌}
 use Rattle.std.specs.List.{flat_map, list_all, list_any, range_with_len}
 use Rattle.std.specs.Char.{is_ascii_graphic}
 use Rattle.std.specs.Fmt.{decimal}
@@ -9,9 +9,7 @@ use Rattle.pool_settings.specs.Names.{name_at}
 use Rattle.pool_settings.specs.Settings.{Settings}
 use Rattle.pool_settings.specs.Reading.{function_has_key, has_key, history_key, job_timeout_key, least_key, lull_key, max_runs_key, most_key, round_key, server_key, version_in, version_key}
 use Rattle.pool_settings.specs.Rows.{may_do}
-
-abbrev pub ended : List ℕ → List ℕ
-ended line = line ++ 10 ∷ []
+use Rattle.text_pieces.specs.Lines.{ended}
 
 -- a value that the file does not give is a default
 abbrev pub mark : Bool → List ℕ

@@ -16,10 +16,12 @@ or_parts : (a b : Bool) → (a || b) ≡ false → (a ≡ false) × (b ≡ false
 or_parts true b h = absurd cc
 or_parts false b h = (refl, h)
 
-same : {A : Type 0} (x y : A) → Some x ≡ Some y → x ≡ y
+-- ---- values that are there, and that are not
+
+pub same : {A : Type 0} (x y : A) → Some x ≡ Some y → x ≡ y
 same x y e = cc
 
-never : {A : Type 0} (x : A) → None ≡ Some x → ⊥
+pub never : {A : Type 0} (x : A) → None ≡ Some x → ⊥
 never x e = absurd cc
 
 -- ---- the first

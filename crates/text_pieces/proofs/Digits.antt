@@ -13,16 +13,10 @@ use Rattle.std.proofs.lemmas.Str.Parse.{IsNumeralModel, numerals_by_value, tells
 use Rattle.text_pieces.specs.Cuts.{cut_last}
 use Rattle.text_pieces.specs.Laws.{AreNumbersReadBack, has_byte}
 use Rattle.text_pieces.specs.Numbers.{are_digits, is_plain, number_below, plain_number_below}
-use Rattle.text_pieces.proofs.Cutting.{last_nowhere, none_in}
+use Rattle.text_pieces.proofs.Cutting.{last_nowhere, never, none_in, same}
 
 pub own : IsNumeralModel (λ ds. all_ascii_digits ds ≡ true) (digits_value 10)
 own = numerals_by_value _ tells_all_ascii_digits
-
-same : {A : Type 0} (x y : A) → Some x ≡ Some y → x ≡ y
-same x y e = cc
-
-never : {A : Type 0} (x : A) → None ≡ Some x → ⊥
-never x e = absurd cc
 
 pub digits_same : (bs : List ℕ) → list_all is_ascii_digit bs ≡ all_ascii_digits bs
 digits_same [] = refl

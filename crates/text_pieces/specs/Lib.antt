@@ -1,3 +1,4 @@
 pub mod Cuts
 pub mod Numbers
 pub mod Laws
+pub mod Lines

@@ -1,22 +1,18 @@
-use Rattle.std.proofs.Common.{◌≡◌, ◌+◌, ◌<◌, ◌∷◌, length, length-drop, take, drop, suc, arith, sym, subst, true}
+use Rattle.std.proofs.Common.{◌<◌, None, Some, length, arith}
 use Rattle.std.proofs.lemmas.Bool.Decides.{nat_tests}
-use Rattle.std.proofs.lemmas.List.{take_all}
-use Rattle.pool_replay.specs.Transcript.{lines_of}
-use Rattle.pool_replay.proofs.Cuts.{is_one_line, cut_line, last_one, rest_taken}
+use Rattle.text_pieces.proofs.Lines.{line_cut}
+use Rattle.pool_replay.proofs.Cuts.{last_one, line_before}
 use Rattle.pool_replay.proofs.running.cut_line.Goals as goal
 
-pub returns-then-text-at-eq10 : goal.returns-then-text-at-eq10
-returns-then-text-at-eq10 c =
-    let i = c.loop-at.at in
+pub returns-in-Some : goal.returns-in-Some
+returns-in-Some c =
     let text = c.args.text.now in
-    let next : suc i ≡ i + 1 = omega arith in
-    let cut = cut_line text i (omega arith) c.loop-at.invariant c.if-text-at-eq10.true in
-    let here = subst (λ k. lines_of text ≡ take i text ∷ lines_of (drop k text)) next cut in
-    subst (λ t. (lines_of text ≡ take i text ∷ lines_of t) × (length t < length text))
-    (sym (rest_taken (i + 1) text)) (here, omega (arith, length-drop (i + 1) text))
+    let cut = c.in-Some.cut in
+    let parts = line_cut text (Some cut) c.in-Some.ensures.parts c.in-Some.ensures.shorter in
+    (line_before text cut.0.now cut.1.now parts.0, parts.1)
 
-pub returns : goal.returns
-returns c =
+pub returns-in-None : goal.returns-in-None
+returns-in-None c =
     let text = c.args.text.now in
     let some : 0 < length text = grind (arith, nat_tests, c.is_empty.ensures, c.if-is_empty.false) in
-    (last_one text some (subst (λ t. is_one_line t ≡ true) (take_all c.loop-at.at text (omega arith)) c.loop-at.invariant), some)
+    (last_one text some (line_cut text None c.in-None.ensures.parts c.in-None.ensures.shorter), some)

@@ -1,6 +1,7 @@
 use Rattle.std.proofs.Common.{◌≡◌, ◌+◌, ◌≤◌, length}
 use Rattle.std.specs.List.{slice_split}
-use Rattle.pool_report.specs.Reading.{is_line_feed, meaning, meaning_from}
+use Rattle.pool_report.specs.Reading.{meaning, meaning_from}
+use Rattle.text_pieces.specs.Lines.{is_line_feed}
 use Rattle.pool_report.proofs.reader.read.Given as goal
 
 -- the lines that are left tell what the text tells

@@ -1,5 +1,5 @@
 use Rattle.std.proofs.Common.{◌≡◌, ◌≤◌, ◌<◌, ℕ, false, length, get_or}
-use Rattle.pool_settings.specs.Fault.{is_line_feed}
+use Rattle.text_pieces.specs.Lines.{is_line_feed}
 use Rattle.pool_settings.proofs.fault.last_line.Given as goal
 
 -- no line feed stands from here on
