@@ -11,10 +11,9 @@ use Rattle.gear_packets.specs.Request.{can_do, cant_do, set_client_id, has_nul}
 use Rattle.gear_packets.specs.Text.{is_name}
 use Rattle.pool_settings.specs.Names.{name_at, is_name_byte, is_machine_name_byte}
 use Rattle.pool_settings.specs.Settings.{Settings, AreSettings}
-use Rattle.pool_settings.specs.Slots.{machine_of, worker_number, slots}
+use Rattle.pool_settings.specs.Slots.{machine_of, worker_number, worker_text, slots}
 use Rattle.worker_state.specs.declared.slot.WorkerName.{WorkerName}
 use Rattle.job_runner.specs.Course.{IsAccepted, IsFunctionName, name_of, obeying}
-use Rattle.job_runner.specs.Loop.{worker_text}
 
 and_parts : (a b : Bool) → (a && b) ≡ true → (a ≡ true) × (b ≡ true)
 and_parts true b h = (refl, h)
@@ -98,7 +97,7 @@ known_named functions None h = tt
 known_named functions (Some f) h = at_named functions f h
 
 -- the text that names a worker
-pub worker_accepted : (settings : Settings) (worker : WorkerName) → AreSettings settings → worker.slot < slots settings → machine_of settings worker.slot < length settings.machines → worker.generation < 2 ^ 32 → IsAccepted (set_client_id (worker_text settings worker))
+pub worker_accepted : (settings : Settings) (worker : WorkerName) → AreSettings settings → worker.slot < slots settings → machine_of settings worker.slot < length settings.machines → worker.generation < 2 ^ 32 → IsAccepted (set_client_id (worker_text settings worker.slot worker.generation))
 worker_accepted settings worker valid slot there small =
     let name = name_at settings.machines (machine_of settings worker.slot) in
     let number = decimal (worker_number settings worker.slot) in
@@ -109,6 +108,6 @@ worker_accepted settings worker valid slot there small =
     let few : worker_number settings worker.slot < 10 ^ 10 = omega (arith, slot, valid.workers_few) in
     let a = length-decimal-le 10 (worker_number settings worker.slot) (omega arith) few (omega (arith, few)) in
     let b = length-decimal-le 10 worker.generation (omega arith) (omega (arith, small)) (omega (arith, small)) in
-    id_accepted (worker_text settings worker)
+    id_accepted (worker_text settings worker.slot worker.generation)
     (omega (arith, short, a, b, length-append name (47 ∷ number), length-append (name ++ 47 ∷ number) (35 ∷ generation)))
     (nul_append (name ++ 47 ∷ number) (35 ∷ generation) (nul_append name (47 ∷ number) (machine_bytes name p.1) (decimal_named (worker_number settings worker.slot) (omega (arith, few)))) (decimal_named worker.generation (omega (arith, small))))

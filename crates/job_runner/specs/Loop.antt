@@ -1,13 +1,12 @@
 -- A session between its reads.
-use Rattle.std.specs.Prelude.{◌≡◌, ◌≢◌, ℕ, ◌<◌, ◌⊎◌, List, [], ◌∷◌, ◌++◌, length, Option, None}
+use Rattle.std.specs.Prelude.{◌≡◌, ◌≢◌, ℕ, ◌<◌, ◌⊎◌, List, [], ◌∷◌, length, Option, None}
 use Rattle.gear_packets.specs.Response.{Message, server_error}
 use Rattle.gear_packets.specs.Text.{Reading, reading, assignments_in, assignments}
 use Rattle.gear_packets.specs.Reading.{fault_of}
 use Rattle.gear_status.specs.Sides.{and_then}
 use Rattle.worker_state.specs.declared.slot.WorkerName.{WorkerName}
 use Rattle.pool_settings.specs.Settings.{Settings}
-use Rattle.pool_settings.specs.Slots.{worker_name}
-use Rattle.std.specs.Fmt.{decimal}
+use Rattle.pool_settings.specs.Slots.{worker_text}
 use Rattle.job_runner.specs.declared.end.EndCause.{EndCause}
 use Rattle.job_runner.specs.declared.end.EndCause.TheVariants as cause
 use Rattle.job_runner.specs.declared.order.Phase.TheVariants.{Idle}
@@ -22,13 +21,9 @@ use Rattle.job_runner.specs.Run.{Rests, HasError}
 abbrev pub first_state : State
 first_state = record { registered = None; phase = Idle; tally = record { grabbed = 0; answered = 0; reported = 0 } }
 
--- the name of a worker: `machine/number#generation`
-abbrev pub worker_text : Settings → WorkerName → List ℕ
-worker_text settings worker = worker_name settings worker.slot ++ 35 ∷ decimal worker.generation
-
 abbrev pub duty_of : (List ℕ → List ℕ → Option Told) → Settings → WorkerName → Duty
 duty_of told settings worker =
-    record { told = told; worker = worker_text settings worker; generation = worker.generation; functions = settings.functions }
+    record { told = told; worker = worker_text settings worker.slot worker.generation; generation = worker.generation; functions = settings.functions }
 
 -- the ends that sending one packet may have
 abbrev pub IsSendFault : EndCause → Type 0

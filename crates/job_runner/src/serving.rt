@@ -1,14 +1,14 @@
 //! A whole session: from its worker's name to its end.
 
-ghost use Rattle.std.specs.Prelude.{◌≡◌, ◌+◌, ◌-◌, ◌<◌, ◌≤◌, ◌^◌, ◌++◌, [], ◌∷◌, ℕ, List, length, IfErr, IfOk, OnOk, Option, decimal, string_bytes};
+ghost use Rattle.std.specs.Prelude.{◌≡◌, ◌+◌, ◌-◌, ◌<◌, ◌≤◌, ◌^◌, [], ℕ, List, length, IfErr, IfOk, OnOk, Option, string_bytes};
 ghost use Rattle.gear_packets.specs.Request.{set_client_id};
 ghost use Rattle.gear_status.specs.Sides.{and_then};
-ghost use Rattle.pool_settings.specs.Slots.{slots};
+ghost use Rattle.pool_settings.specs.Slots.{slots, worker_text};
 ghost use Rattle.job_runner.specs.Told.{Told};
 ghost use Rattle.job_runner.specs.Book.{no_calls};
 ghost use Rattle.job_runner.specs.Course.{GoesOnOrEnds, IsAccepted, PortReason};
 ghost use Rattle.job_runner.specs.Run.{Acts, Reason, Served};
-ghost use Rattle.job_runner.specs.Loop.{first_state, duty_of, worker_text, Stands, Halts, ReadReason};
+ghost use Rattle.job_runner.specs.Loop.{first_state, duty_of, Stands, Halts, ReadReason};
 
 use crate::end::{EndCause, SessionEnd};
 use crate::listen::{Heard, hear};
@@ -26,31 +26,16 @@ use pool_core::Pass;
 use pool_settings::Settings;
 use std::alloc::{AllocError, Global};
 
-/// The text `machine/number#generation`. Both numbers have 32 bits.
-fn spell_name(
-    alloc: Global,
-    machine: &str,
-    number: u32,
-    generation: u32,
-) -> Result<String, AllocError>
-    ensures text { IfOk result (λ text. string_bytes text ≡ (machine.now ++ 47 ∷ decimal number) ++ 35 ∷ decimal generation) }
-    ensures small { generation < 2 ^ 32 }
-{
-    let text = format!(in alloc; "{machine}/{number}#{generation}")?;
-    Ok(text)
-}
-
 /// The name by which the server's lists show a worker.
 fn spell_worker<J>(worker: &Worker<'_, J>) -> Result<String, AllocError>
     requires slot { worker.now.pass.now.slot < slots worker.now.settings.now }
-    ensures text { IfOk result (λ text. string_bytes text ≡ worker_text worker.now.settings.now worker.now.pass.now) }
-    ensures accepted { IsAccepted (set_client_id (worker_text worker.now.settings.now worker.now.pass.now)) }
+    ensures text { IfOk result (λ text. string_bytes text ≡ worker_text worker.now.settings.now worker.now.pass.now.slot worker.now.pass.now.generation) }
+    ensures accepted { IsAccepted (set_client_id (worker_text worker.now.settings.now worker.now.pass.now.slot worker.now.pass.now.generation)) }
 {
     let name = worker.pass.name();
-    let settings = worker.settings;
-    let machine = settings.machine_name(settings.machine_of(name.slot));
-    let number = settings.worker_number(name.slot);
-    spell_name(worker.alloc, machine, number, name.generation)
+    worker
+        .settings
+        .worker_text(worker.alloc, name.slot, name.generation)
 }
 
 /// Gives the worker's name, and obeys the first order.

@@ -9,7 +9,7 @@ ghost use Rattle.plan_commands.specs.Problem as spec;
 use crate::fault::Fault;
 use devices::LIMIT;
 use gear_status::{Load, Source, load_of, read_status_within};
-use plan_model::{FuncId, Input};
+use plan_model::Input;
 use pool_settings::Settings;
 use std::alloc::{AllocError, Global};
 
@@ -37,18 +37,6 @@ fn live_marks(alloc: Global, settings: &Settings, lost: &[&str]) -> Result<Vec<b
     Ok(marks)
 }
 
-/// By function, the jobs that wait for it.
-fn waiting_of(alloc: Global, settings: &Settings, load: &Load) -> Result<Vec<u32>, AllocError>
-    ensures { IfOk result (λ waiting. waiting.items ≡ waiting_of settings.now load.now) }
-{
-    let mut waiting = Vec::new(alloc);
-    for number in 0..settings.functions() {
-        let name = settings.function_name(FuncId::new(number));
-        waiting.push(load.waiting(name.as_bytes()))?;
-    }
-    Ok(waiting)
-}
-
 /// Reads a status text of no more than `LIMIT` bytes, up to the piece that decides.
 fn read_load<S: Source>(alloc: Global, source: &mut S) -> Result<Load, Fault>
     requires { (S.input source.old).failures < 2 ^ 64 - 1 }
@@ -69,7 +57,7 @@ fn input_of(
 ) -> Result<Input, AllocError>
     ensures { IfOk result (λ input. input ≡ instance_of settings.now live.now (waiting_of settings.now load.now)) }
 {
-    let waiting = waiting_of(alloc, settings, load)?;
+    let waiting = settings.waiting_jobs(alloc, load)?;
     settings.input(alloc, live, &waiting)
 }
 

@@ -1,16 +1,11 @@
 -- What is printed of a worker and of a cause is read as that worker and that cause.
-use Rattle.std.specs.Prelude.{◌≡◌, ℕ, ◌<◌, ◌≤◌, List, ◌∷◌, ◌++◌, Some}
-use Rattle.std.specs.Fmt.{decimal}
+use Rattle.std.specs.Prelude.{◌≡◌, ℕ, ◌<◌, ◌≤◌, Some}
 use Rattle.pool_settings.specs.Settings.{AreSettings, Settings}
-use Rattle.pool_settings.specs.Slots.{slots, worker_name}
+use Rattle.pool_settings.specs.Slots.{slots, worker_text}
 use Rattle.worker_state.specs.Causes.{cause_label, cause_named}
 use Rattle.worker_state.specs.Limits.{max_generation}
 use Rattle.worker_state.specs.declared.cause.Cause.{Cause}
 use Rattle.pool_commands.specs.Words.{worker_in}
-
--- the name of the slot, a hash sign and the generation in decimal
-abbrev pub worker_text : Settings → ℕ → ℕ → List ℕ
-worker_text settings slot generation = worker_name settings slot ++ 35 ∷ decimal generation
 
 abbrev pub AreWorkersReadBack : Type 0
 AreWorkersReadBack = (settings : Settings) → AreSettings settings → (slot generation : ℕ) → slot < slots settings → 1 ≤ generation

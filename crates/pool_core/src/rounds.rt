@@ -1,9 +1,7 @@
 //! What a round reads and writes.
 ghost use Rattle.std.specs.Prelude.{◌≡◌, ◌↔◌, ◌<◌, ◌≤◌, ℕ, IsTrue, slice_index_or, IfOk, Some, length, map, slice_get};
-ghost use Rattle.plan_model.specs.Planning.{assigned};
 ghost use Rattle.worker_state.specs.Slots.{is_live};
 ghost use Rattle.worker_state.specs.Orders.{no_order, IsOrder};
-ghost use Rattle.pool_settings.specs.Settings.{AreSettings};
 ghost use Rattle.pool_settings.specs.Slots.{slots as slot_count, owners};
 ghost use Rattle.pool_settings.specs.Planning.{instance_of, waiting_of};
 ghost use Rattle.pool_core.specs.Machine.{what_of, same_what, ordered, orders_from};
@@ -26,18 +24,6 @@ pub fn live_marks(alloc: Global, slots: &[Slot]) -> Result<Vec<bool>, AllocError
         marks.push(slot.is_live())?;
     }
     Ok(marks)
-}
-
-/// For each function the jobs that wait for it.
-pub fn waiting_jobs(alloc: Global, settings: &Settings, load: &Load) -> Result<Vec<u32>, AllocError>
-    ensures { IfOk result (λ waiting. waiting.items ≡ waiting_of settings.now load.now) }
-{
-    let mut waiting = Vec::new(alloc);
-    for number in 0..settings.functions() {
-        let name = settings.function_name(FuncId::new(number));
-        waiting.push(load.waiting(name.as_bytes()))?;
-    }
-    Ok(waiting)
 }
 
 /// Whether the list has this worker at the place.

@@ -6,8 +6,7 @@ use Rattle.plan_model.specs.declared.answer.Answer.{Answer}
 use Rattle.plan_model.specs.declared.answer.Answer.TheVariants as answers
 use Rattle.pool_settings.specs.Names.{name_at}
 use Rattle.pool_settings.specs.Settings.{Settings}
-use Rattle.pool_settings.specs.Slots.{slots}
-use Rattle.pool_commands.specs.Law.{worker_text}
+use Rattle.pool_settings.specs.Slots.{slots, worker_text}
 use Rattle.worker_state.specs.Causes.{cause_label}
 use Rattle.worker_state.specs.declared.slot.WorkerName.{WorkerName}
 use Rattle.worker_state.specs.declared.job.EndKind.TheVariants as end

@@ -39,14 +39,11 @@ pub fn worker_words(
 ) -> Result<String, AllocError>
     ensures { IfOk result (λ s. string_bytes s ≡ spec.worker_words settings.now worker.now) }
 {
-    let mut text = String::new(alloc);
     if worker.slot.number() < settings.slots() {
-        let machine = settings.machine_name(settings.machine_of(worker.slot));
-        let number = settings.worker_number(worker.slot);
-        let generation = worker.generation;
-        write!(text, "{machine}/{number}#{generation}")?;
+        settings.worker_text(alloc, worker.slot, worker.generation)
+    } else {
+        Ok(String::new(alloc))
     }
-    Ok(text)
 }
 
 pub fn join_line(

@@ -2,7 +2,6 @@ pub mod Tables
 pub mod Trees
 pub mod Found
 pub mod Searches
-pub mod Marks
 pub mod SlotSums
 pub mod Ranges
 pub mod Passing

@@ -22,16 +22,17 @@ use Rattle.std.proofs.lemmas.List.Sorted.{searchable_from_sorted}
 use Rattle.std.proofs.lemmas.List.Sums.{position_or_len_is}
 use Rattle.pool_settings.specs.Names.{IsInByteOrder, place_of}
 
-abbrev cmp : List ℕ → List ℕ → Ordering
+-- names in byte order
+abbrev pub cmp : List ℕ → List ℕ → Ordering
 cmp = slice_cmp nat_cmp
 
-equal_names : (a b : List ℕ) → cmp a b ≡ Equal → bytes_eq a b ≡ true
+pub equal_names : (a b : List ℕ) → cmp a b ≡ Equal → bytes_eq a b ≡ true
 equal_names a b e = sym (is_eq-slice_cmp a b) ∙ ap is_eq e
 
-lesser_name : (a b : List ℕ) → cmp a b ≡ Less → bytes_eq a b ≡ false
+pub lesser_name : (a b : List ℕ) → cmp a b ≡ Less → bytes_eq a b ≡ false
 lesser_name a b e = sym (is_eq-slice_cmp a b) ∙ ap is_eq e
 
-greater_name : (a b : List ℕ) → cmp a b ≡ Greater → bytes_eq a b ≡ false
+pub greater_name : (a b : List ℕ) → cmp a b ≡ Greater → bytes_eq a b ≡ false
 greater_name a b e = sym (is_eq-slice_cmp a b) ∙ ap is_eq e
 
 same_name : (a b : List ℕ) → a ≡ b → bytes_eq a b ≡ true

@@ -66,6 +66,10 @@ slot_named settings name = option_and_then (slot_of_parts settings) (parts_of na
 abbrev pub worker_name : Settings → ℕ → List ℕ
 worker_name settings slot = name_at settings.machines (machine_of settings slot) ++ 47 ∷ decimal (worker_number settings slot)
 
+-- the text that names it in one of its lives: its name, a hash sign and the generation in decimal
+abbrev pub worker_text : Settings → ℕ → ℕ → List ℕ
+worker_text settings slot generation = worker_name settings slot ++ 35 ∷ decimal generation
+
 -- ---- live workers
 
 -- all workers, as slot and machine

@@ -1,12 +1,12 @@
 //! The settings of a pool.
 
-ghost use Rattle.std.specs.Prelude.{◌≡◌, ◌≢◌, ◌<◌, ◌≤◌, ◌+◌, ◌^◌, Err, IfErr, IfOk, IfSome, None, Ok, Some, length, map, slice_index, slice_index_or, []};
+ghost use Rattle.std.specs.Prelude.{◌≡◌, ◌≢◌, ◌<◌, ◌≤◌, ◌+◌, Err, IfErr, IfOk, IfSome, None, Ok, Some, length, map, slice_index, slice_index_or, string_bytes, []};
 ghost use Rattle.std.specs.List.Sorted.{IsStrictlyIncreasing};
 ghost use Rattle.toml.specs.Errors.{IsBlank};
 ghost use Rattle.toml.specs.View.{table_view};
 ghost use Rattle.pool_settings.specs.Entries.{table_entries, told};
 ghost use Rattle.pool_settings.specs.Names as names;
-ghost use Rattle.pool_settings.specs.Planning.{instance_of};
+ghost use Rattle.pool_settings.specs.Planning.{instance_of, waiting_of};
 ghost use Rattle.pool_settings.specs.Settings.{AreSettings};
 ghost use Rattle.pool_settings.specs.Reading as spec;
 ghost use Rattle.pool_settings.specs.Rows.{may_do};
@@ -23,6 +23,7 @@ use crate::place::Place;
 use crate::planning::live_workers;
 use crate::slots::SlotTable;
 use crate::tree::table_at;
+use gear_status::Load;
 use plan_model::{FuncId, Input, InputError, MachineId, SlotId};
 use std::alloc::{AllocError, Global};
 use std::marker::Model;
@@ -398,6 +399,24 @@ impl Settings {
         slot.number() - self.first_slot(self.machine_of(slot))
     }
 
+    /// The text that names a slot's worker in one of its lives: its name, a hash sign and the generation in decimal, as `a/0#1`. The
+    /// only error is want of memory.
+    pub fn worker_text(
+        &self,
+        alloc: Global,
+        slot: SlotId,
+        generation: u32,
+    ) -> Result<String, AllocError>
+        requires slot { slot < slots.slots self.now }
+        ensures text { IfOk result (λ text. string_bytes text ≡ slots.worker_text self.now slot generation) }
+        ensures valid { AreSettings self.now }
+    {
+        let machine = self.machine_name(self.machine_of(slot));
+        let number = self.worker_number(slot);
+        let text = format!(in alloc; "{machine}/{number}#{generation}")?;
+        Ok(text)
+    }
+
     /// The slot of a worker's name, `machine/number`. The number is exact: `a/00` names no slot.
     pub fn slot_named(&self, name: &[u8]) -> Option<SlotId>
         ensures all { result ≡ slots.slot_named self.now name.now }
@@ -427,6 +446,18 @@ impl Settings {
 
 /// What there is to plan for.
 impl Settings {
+    /// The jobs that wait for each function, by its number. The only error is want of memory.
+    pub fn waiting_jobs(&self, alloc: Global, load: &Load) -> Result<Vec<u32>, AllocError>
+        ensures waiting { IfOk result (λ waiting. waiting.items ≡ waiting_of self.now load.now) }
+    {
+        let mut waiting = Vec::new(alloc);
+        for number in 0..self.functions() {
+            let name = self.function_name(FuncId::new(number));
+            waiting.push(load.waiting(name.as_bytes()))?;
+        }
+        Ok(waiting)
+    }
+
     /// The planning problem where the slots that are marked are live, and these jobs wait for each function, by its number. A slot
     /// without a mark, behind the last of `live`, is not live, and a mark behind the last slot counts for nothing. The only error
     /// is want of memory.

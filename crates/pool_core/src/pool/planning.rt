@@ -50,7 +50,7 @@ impl Pool {
         ensures valid { OnOk result (IsInstance (input_of self.now.settings self.now.state load.now)) }
     {
         let live = rounds::live_marks(self.alloc, &self.slots)?;
-        let waiting = rounds::waiting_jobs(self.alloc, &self.settings, load)?;
+        let waiting = self.settings.waiting_jobs(self.alloc, load)?;
         let input = self.settings.input(self.alloc, &live, &waiting)?;
         // The clause `valid` is one of any input.
         let _live = input.live();

@@ -5,7 +5,7 @@ use Rattle.job_runner.specs.declared.end.EndCause.TheVariants.{TurnsUsed}
 use Rattle.job_runner.specs.Book.{Ledger}
 use Rattle.job_runner.specs.Run.{Link}
 use Rattle.job_runner.specs.Loop.{duty_of}
-use Rattle.job_runner.proofs.Told.{then_nothing}
+use Rattle.gear_status.proofs.Devices.{told_nothing}
 use Rattle.job_runner.proofs.Turning.{outer_reason, read_reason, begun_halts, begun_stands, reason_from, stands_halts}
 use Rattle.job_runner.proofs.serving.serve.Goals as goal
 
@@ -17,7 +17,7 @@ returns-in-Err-clause-ran g c =
     let old : Link = record { input = g.L.Device.input c.args.link.now; output = g.L.Device.output c.args.link.now } in
     let new : Link = record { input = g.L.Device.input c.begin.new.link; output = g.L.Device.output c.begin.new.link } in (
       [],
-      ap (λ (i : Input). i.given) c.begin.ensures.input ∙ then_nothing old.input.given,
+      ap (λ (i : Input). i.given) c.begin.ensures.input ∙ told_nothing old.input.given,
       (
         begun_halts duty _ _ _ _ c.in-Err.cause left,
         outer_reason c.args.worker.now.pass.now.generation [] c.begin.new.state.tally.grabbed old new _ c.in-Err.cause (read_reason c.args.worker.now.pass.now.generation [] c.begin.new.state.tally.grabbed _ c.in-Err.cause c.in-Err.ensures.reason)
@@ -34,7 +34,7 @@ loop-made-init g c =
     record {
       within = omega arith;
       buffer = refl;
-      stands = ([], ap (λ (i : Input). i.given) c.begin.ensures.input ∙ then_nothing start, omega arith, begun_stands duty before _ c.new-reader.result c.begin.new.state _ c.new-reader.ensures (c.in-Ok.ensures.acts told));
+      stands = ([], ap (λ (i : Input). i.given) c.begin.ensures.input ∙ told_nothing start, omega arith, begun_stands duty before _ c.new-reader.result c.begin.new.state _ c.new-reader.ensures (c.in-Ok.ensures.acts told));
       read_failures = ap (λ (i : Input). i.failures) c.begin.ensures.input;
       write_failures = c.in-Ok.ensures.no_failure;
       losses = c.begin.ensures.losses ∙ ap (λ (b : Ledger). b.losses) c.requires.fresh;
