@@ -1,10 +1,9 @@
 -- Entries in order of their names: one that is named differs from all others, and is found by binary search.
-use Rattle.std.proofs.Common.{◌≡◌, ℕ, zero, suc, ◌+◌, ◌<◌, ◌≤◌, Bool, true, false, true≢false, ◌||◌, List, [], ◌∷◌, Option, Some, None, Result, Ok, Err, length, get_or, map, cond, refl, sym, ap, ◌∙◌, subst, inl, inr, arith}
+use Rattle.std.proofs.Common.{◌≡◌, ℕ, zero, suc, ◌+◌, ◌<◌, Bool, true, false, true≢false, ◌||◌, List, [], ◌∷◌, Option, Some, None, Err, length, get_or, map, cond, refl, sym, ap, ◌∙◌, inl, inr, arith}
 use Rattle.std.specs.Prelude.{slice_get, Contains}
-use Rattle.std.specs.List.{list_any, find, AllByRecursion, IsDistinct, IsAllAdjacentAnswer}
-use Rattle.std.specs.List.Sorted.{IsStrictlySortedBy, IsPermutation, IsSortedBy, IsBinarySearchResult, IsSearchInRange}
-use Rattle.std.specs.Cmp.Lexicographic.{slice_cmp}
-use Rattle.std.specs.Ordering.{nat_cmp, is_eq, is_lt, ordering_reverse}
+use Rattle.std.specs.List.{find, AllByRecursion, IsDistinct, IsAllAdjacentAnswer}
+use Rattle.std.specs.List.Sorted.{IsPermutation, IsSortedBy, IsBinarySearchResult}
+use Rattle.std.specs.Ordering.{is_lt, ordering_reverse}
 use Rattle.std.specs.declared.cmp.Ordering.{Ordering}
 use Rattle.std.specs.declared.cmp.Ordering.TheVariants.{Equal, Greater, Less}
 use Rattle.std.specs.Str.{bytes_eq}
@@ -14,16 +13,12 @@ use Rattle.std.proofs.lemmas.Slice.Eq.{bytes_eq-Decides}
 use Rattle.std.proofs.lemmas.Bool.{cases_lt}
 use Rattle.std.proofs.lemmas.Cmp.{nat_list_cmp_total}
 use Rattle.std.proofs.lemmas.Map.Keys.{Less-from_sorted, IsDistinct-from_apart, IsDistinct-IsPermutation, IsDistinct-head, IsDistinct-tail, IsDistinct-cons, apart_from_distinct, sorted_from_all_adjacent}
-use Rattle.std.proofs.lemmas.Map.Lookups.{exact_bytes}
-use Rattle.std.proofs.lemmas.Map.Text.{is_eq-slice_cmp}
 use Rattle.std.proofs.lemmas.List.Sorted.{searchable_from_sorted, IsPermutation-map, IsPermutation-sym, Contains-permutation}
 use Rattle.std.proofs.lemmas.List.Sums.{position_or_len_is}
 use Rattle.std.proofs.lemmas.List.Folds.{find_at}
 use Rattle.std.proofs.lemmas.Option.{none-some}
+use Rattle.pool_settings.proofs.Searches.{cmp, equal_names, greater_name, lesser_name}
 use Rattle.job_runner.specs.Table.{is_named, is_named_twice, RiseByName}
-
-abbrev cmp : List ℕ → List ℕ → Ordering
-cmp = slice_cmp nat_cmp
 
 both_ways : (s t : Bool) → (s ≡ true → t ≡ true) → (t ≡ true → s ≡ true) → s ≡ t
 both_ways true t f g = sym (f refl)
@@ -32,15 +27,6 @@ both_ways false false f g = refl
 
 same_back : (a b : List ℕ) → bytes_eq a b ≡ bytes_eq b a
 same_back a b = both_ways (bytes_eq a b) (bytes_eq b a) (λ e. (bytes_eq-Decides b a).1 (sym ((bytes_eq-Decides a b).0 e))) (λ e. (bytes_eq-Decides a b).1 (sym ((bytes_eq-Decides b a).0 e)))
-
-equal_names : (a b : List ℕ) → cmp a b ≡ Equal → bytes_eq a b ≡ true
-equal_names a b e = sym (is_eq-slice_cmp a b) ∙ ap is_eq e
-
-lesser_name : (a b : List ℕ) → cmp a b ≡ Less → bytes_eq a b ≡ false
-lesser_name a b e = sym (is_eq-slice_cmp a b) ∙ ap is_eq e
-
-greater_name : (a b : List ℕ) → cmp a b ≡ Greater → bytes_eq a b ≡ false
-greater_name a b e = sym (is_eq-slice_cmp a b) ∙ ap is_eq e
 
 or_parts : (a b : Bool) → (a || b) ≡ false → (a ≡ false) × (b ≡ false)
 or_parts false b h = (refl, h)

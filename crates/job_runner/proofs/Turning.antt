@@ -23,7 +23,7 @@ use Rattle.job_runner.specs.Listening.{SaysFirst, IsReadEnd}
 use Rattle.job_runner.specs.Run.{Holds, Acts, Link, Reason}
 use Rattle.job_runner.specs.Loop.{first_state, IsSendFault, StepReason, ReadReason, Stands, Halts}
 use Rattle.gear_status.specs.Sides.{and_then}
-use Rattle.job_runner.proofs.Told.{then_nothing}
+use Rattle.gear_status.proofs.Devices.{told_nothing}
 use Rattle.job_runner.proofs.Steps.{Leads, left_over}
 use Rattle.job_runner.proofs.Exits.{Left}
 use Rattle.job_runner.proofs.Orders.{even_chain, ends_at_rest, sent_whole, sent_part}
@@ -204,7 +204,7 @@ not_introduced duty old new b WriteFault sends fresh =
     )
 not_introduced duty old new b Memory sends fresh = (
   [],
-  sends ∙ then_nothing old,
+  sends ∙ told_nothing old,
   record {
     answered = [];
     begun = [];
