@@ -9,8 +9,10 @@ mod refusals;
 mod rows;
 mod tables;
 
+use bumpalo::Bump;
+use level_search::solve;
 use plan_model::{
-    Answer, FuncId, FuncSet, Input, MachineId, Plan, SlotId, TOP_LEVEL, count_neighbours,
+    Answer, FuncId, FuncSet, Input, MachineId, Plan, SlotId, TOP_LEVEL, check, count_neighbours,
 };
 use std::alloc::{AllocError, Global};
 
@@ -92,6 +94,19 @@ pub fn workers_on(plan: &Plan, function: u32) -> u32 {
         }
     }
     count
+}
+
+/// The answer of `solve` to an input as a line, where the input was taken and the answer is shown.
+pub fn solved_line(alloc: Global, input: Option<Input>) -> Result<String, AllocError> {
+    let Some(input) = input else {
+        return String::from_str(alloc, "refused");
+    };
+    let bump = Bump::new(alloc);
+    let solved = solve(alloc, &bump, &input, None)?;
+    match check(&input, &solved.answer) {
+        Ok(()) => line_of(alloc, &input, &solved.answer),
+        Err(_) => String::from_str(alloc, "not shown"),
+    }
 }
 
 /// The answer as a line: how many workers each function has, the backlog, and what the set needs

@@ -1,9 +1,9 @@
 //! Greatest numbers of workers.
 
-use super::{bounded_input_of, line_of, plan_of};
+use super::{bounded_input_of, plan_of, solved_line};
 use bumpalo::Bump;
 use level_search::solve;
-use plan_model::{Answer, Input, Plan, SlotId, check};
+use plan_model::{Answer, Input, Plan, SlotId};
 use std::alloc::{AllocError, Global};
 use std::test::Fail;
 
@@ -11,15 +11,8 @@ use std::test::Fail;
 /// answer as a line.
 fn nine_jobs(alloc: Global, least: u32, most: u32) -> Result<String, AllocError> {
     let live = [(0, 0), (1, 0)];
-    let Some(input) = bounded_input_of(alloc, &live, &[&[0]], &[least], &[most], &[9])? else {
-        return String::from_str(alloc, "refused");
-    };
-    let bump = Bump::new(alloc);
-    let solved = solve(alloc, &bump, &input, None)?;
-    match check(&input, &solved.answer) {
-        Ok(()) => line_of(alloc, &input, &solved.answer),
-        Err(_) => String::from_str(alloc, "not shown"),
-    }
+    let input = bounded_input_of(alloc, &live, &[&[0]], &[least], &[most], &[9])?;
+    solved_line(alloc, input)
 }
 
 #[test]

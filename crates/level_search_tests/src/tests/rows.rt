@@ -1,9 +1,9 @@
 //! Rounds with answers that were worked out by hand.
 
-use super::{input_of, line_of, plan_of};
+use super::{input_of, plan_of, solved_line};
 use bumpalo::Bump;
 use level_search::solve;
-use plan_model::{Answer, SlotId, check};
+use plan_model::{Answer, SlotId};
 use std::alloc::{AllocError, Global};
 use std::test::Fail;
 
@@ -15,15 +15,8 @@ fn solved(
     least: &[u32],
     waiting: &[u32],
 ) -> Result<String, AllocError> {
-    let Some(input) = input_of(alloc, live, may, least, waiting)? else {
-        return String::from_str(alloc, "refused");
-    };
-    let bump = Bump::new(alloc);
-    let solved = solve(alloc, &bump, &input, None)?;
-    match check(&input, &solved.answer) {
-        Ok(()) => line_of(alloc, &input, &solved.answer),
-        Err(_) => String::from_str(alloc, "not shown"),
-    }
+    let input = input_of(alloc, live, may, least, waiting)?;
+    solved_line(alloc, input)
 }
 
 #[test]
