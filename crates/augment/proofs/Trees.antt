@@ -7,7 +7,7 @@ use Rattle.round_arena.specs.declared.tables.Pairs.{Pairs}
 use Rattle.augment.proofs.Totals.{total}
 use Rattle.round_arena.specs.Plan.{IsPair, IsGraph, degree, machine_count, pair_total, pairs_up_to}
 use Rattle.round_arena.proofs.Counts.{pairs_up_to-le, pairs_up_to-step}
-use Rattle.augment.specs.Tree.{HasRoom, IsTree, Reaches, Passes, Starts, Extends, IsPassed, IsPassedUpTo, IsClosed, IsClosedUpTo, AreClosed}
+use Rattle.augment.specs.Tree.{HasRoom, IsTree, Reaches, Passes, StartsAt, Extends, IsPassed, IsPassedUpTo, IsClosed, IsClosedUpTo, AreClosed}
 use Rattle.augment.proofs.Totals.{IsInjective, total-injective, total-ones, total-cong, total-steps, injective-short}
 
 last_or_before : (i n : ℕ) → i < n + 1 → (i ≡ n) ⊎ (i < n)
@@ -248,7 +248,7 @@ Steps-reach pairs owner count need s t u w head h e r gl fresh hl wl pr ti = rec
 pub Steps-seen : (pairs : Pairs) (owner count need : List ℕ) (t : Tree) (w : ℕ) → IsTree pairs owner count need t → get_or owner w 0 < length need → get_or t.place.now (get_or owner w 0) 0 ≢ 0 → Steps pairs owner count need t t w
 Steps-seen pairs owner count need t w h gl ne = record { tree = h; extends = Extends-refl t; seen = (gl, omega (arith, ne)) }
 
-pub IsTree-start : (pairs : Pairs) (owner count need : List ℕ) (t u : Tree) (root : ℕ) → HasRoom (length need) (machine_count pairs) t → root < length need → get_or count root 0 ≤ get_or need root 0 → Starts t u root → IsTree pairs owner count need u
+pub IsTree-start : (pairs : Pairs) (owner count need : List ℕ) (t u : Tree) (root : ℕ) → HasRoom (length need) (machine_count pairs) t → root < length need → get_or count root 0 ≤ get_or need root 0 → StartsAt t u root → IsTree pairs owner count need u
 IsTree-start pairs owner count need t u root room l ti s =
     let tail : u.tail ≡ 1 = s.tail in
     let first : get_or u.reached.now 0 0 ≡ root = at_write t.reached.now u.reached.now 0 root 0 s.reached (omega (arith, room.reached)) refl in

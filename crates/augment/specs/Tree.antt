@@ -83,7 +83,7 @@ pub record IsWayOut (pairs : Pairs) (owner count need : List ℕ) (tree : Tree) 
   pub spare : IsSpare owner count need tree w
 
 -- The tree is function root alone, and no machine was passed.
-pub record Starts (old new : Tree) (root : ℕ) : Type 0 where
+pub record StartsAt (old new : Tree) (root : ℕ) : Type 0 where
   pub reached : new.reached.now ≡ slice_set old.reached.now 0 root
   pub by : new.by.now ≡ old.by.now
   pub from : new.from.now ≡ old.from.now

@@ -4,7 +4,7 @@ use Rattle.std.specs.Prelude.{decimal}
 use Rattle.std.specs.Option.{option_map, option_and_then}
 use Rattle.std.proofs.lemmas.Bool.{ltb-true, lt-ltb, eqb-true}
 use Rattle.gear_packets.specs.Frame.{request_magic, packet, Front, wrong_magic, too_large, unfinished, framed, front}
-use Rattle.gear_packets.specs.Request.{Packet, can_do, cant_do, pre_sleep, grab_job, set_client_id, work_status, work_complete, work_fail, work_data, work_warning, kind_of, body_of, spelling, has_nul, IsHandle, IsProper, IsSent, cut, is_handle, number_of, named, without_body, with_handle, handle_and, with_bytes, status_of, with_numbers, request_of, request_in, first_request}
+use Rattle.gear_packets.specs.Request.{Packet, can_do, cant_do, pre_sleep, grab_job, set_client_id, work_status, work_complete, work_fail, work_data, work_warning, kind_of, body_of, spelling, has_nul, IsHandle, IsProper, IsSent, cut, is_handle, number_of, with_name, without_body, with_handle, handle_and, with_bytes, work_status_of, with_numbers, request_of, request_in, first_request}
 use Rattle.text_pieces.proofs.Cutting.{first_of_parts, parts_of_first}
 use Rattle.text_pieces.proofs.Digits.{none_in_decimal, plain_decimal, plain_spelled}
 use Rattle.gear_packets.proofs.Frames.{IsBytes, not_first, not_second, chosen, front_packet, front_spelled, whole_stays, whole_shrinks}
@@ -80,7 +80,7 @@ pub record IsRequest (kind : ℕ) (body : List ℕ) (p : Packet) : Type 0 where
   pub body_is : body ≡ body_of p
   pub proper : IsProper p
 
-named_is : (make : List ℕ → Packet) (kind : ℕ) (body : List ℕ) (p : Packet) → (has_nul body ≡ false → IsRequest kind body (make body)) → named make body ≡ Some p → IsRequest kind body p
+named_is : (make : List ℕ → Packet) (kind : ℕ) (body : List ℕ) (p : Packet) → (has_nul body ≡ false → IsRequest kind body (make body)) → with_name make body ≡ Some p → IsRequest kind body p
 named_is make kind body p f h =
     let t = not_first (has_nul body) None (Some (make body)) (Some p) h (λ e. cc) in
     subst (IsRequest kind body) (some_is (make body) p t.1) (f t.0)
@@ -102,9 +102,9 @@ with_bytes_is make kind body p f h =
 
 with_numbers_is : (kind : ℕ) (body : List ℕ) (p : Packet) → kind ≡ 12 → with_numbers body ≡ Some p → IsRequest kind body p
 with_numbers_is kind body p k h =
-    let a = chained (λ (q : List ℕ × List ℕ). option_and_then (status_of q.0) (cut q.1)) (handle_and body) p h in
+    let a = chained (λ (q : List ℕ × List ℕ). option_and_then (work_status_of q.0) (cut q.1)) (handle_and body) p h in
     let i = handle_and_is body a.0 a.1 in
-    let b = chained (status_of a.0.0) (cut a.0.1) p a.2 in
+    let b = chained (work_status_of a.0.0) (cut a.0.1) p a.2 in
     let j = parts_of_first 0 a.0.1 b.0 b.1 in
     let c = chained (λ (part : ℕ). option_map (λ all. work_status a.0.0 part all) (number_of b.0.1)) (number_of b.0.0) p b.2 in
     let d = mapped (λ (all : ℕ). work_status a.0.0 c.0 all) (number_of b.0.1) p c.2 in

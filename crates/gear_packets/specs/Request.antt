@@ -101,8 +101,8 @@ is_handle bytes = nat_lt 0 (length bytes) && nat_lt (length bytes) 64 && not (ha
 unfoldable pub number_of : List ℕ → Option ℕ
 number_of text = plain_number_below (2 ^ 32) text
 
-abbrev pub named : (List ℕ → Packet) → List ℕ → Option Packet
-named make body = if has_nul body then None else Some (make body)
+abbrev pub with_name : (List ℕ → Packet) → List ℕ → Option Packet
+with_name make body = if has_nul body then None else Some (make body)
 
 abbrev pub without_body : Packet → List ℕ → Option Packet
 without_body p [] = Some p
@@ -118,22 +118,22 @@ handle_and body = option_and_then (λ p. if is_handle p.0 then Some p else None)
 abbrev pub with_bytes : (List ℕ → List ℕ → Packet) → List ℕ → Option Packet
 with_bytes make body = option_map (λ p. make p.0 p.1) (handle_and body)
 
-abbrev pub status_of : List ℕ → List ℕ × List ℕ → Option Packet
-status_of handle q = option_and_then (λ part. option_map (λ whole. work_status handle part whole) (number_of q.1)) (number_of q.0)
+abbrev pub work_status_of : List ℕ → List ℕ × List ℕ → Option Packet
+work_status_of handle q = option_and_then (λ part. option_map (λ whole. work_status handle part whole) (number_of q.1)) (number_of q.0)
 
 abbrev pub with_numbers : List ℕ → Option Packet
-with_numbers body = option_and_then (λ p. option_and_then (status_of p.0) (cut p.1)) (handle_and body)
+with_numbers body = option_and_then (λ p. option_and_then (work_status_of p.0) (cut p.1)) (handle_and body)
 
 -- the packet of a type and a body, where there is one
 unfoldable pub request_of : ℕ → List ℕ → Option Packet
 request_of kind body =
-    if kind == 1 then named can_do body else (
-    if kind == 2 then named cant_do body else (
+    if kind == 1 then with_name can_do body else (
+    if kind == 2 then with_name cant_do body else (
     if kind == 4 then without_body pre_sleep body else (
     if kind == 12 then with_numbers body else (
     if kind == 13 then with_bytes work_complete body else (
     if kind == 14 then with_handle work_fail body else (
-    if kind == 22 then named set_client_id body else (
+    if kind == 22 then with_name set_client_id body else (
     if kind == 28 then with_bytes work_data body else (
     if kind == 29 then with_bytes work_warning body else (
     if kind == 30 then without_body grab_job body else

@@ -33,8 +33,8 @@ abbrev pub bare : Message → List ℕ → Result Message StreamFault
 bare m [] = Ok m
 bare m (b ∷ body) = Err BadBody
 
-abbrev pub assigned : AssignedJob → Result Message StreamFault
-assigned a =
+abbrev pub assigned_job : AssignedJob → Result Message StreamFault
+assigned_job a =
     if length a.handle == 0 then Err BadBody else (
     if nat_lt 63 (length a.handle) then Err HandleTooLong else
     Ok (assign a))
@@ -43,14 +43,14 @@ abbrev pub job : List ℕ → Result Message StreamFault
 job body = do
   handle ← argument body
   function ← argument handle.1
-  assigned (record { handle = handle.0; function = function.0; unique = []; payload = function.1 })
+  assigned_job (record { handle = handle.0; function = function.0; unique = []; payload = function.1 })
 
 abbrev pub job_with_unique : List ℕ → Result Message StreamFault
 job_with_unique body = do
   handle ← argument body
   function ← argument handle.1
   unique ← argument function.1
-  assigned (record { handle = handle.0; function = function.0; unique = unique.0; payload = unique.1 })
+  assigned_job (record { handle = handle.0; function = function.0; unique = unique.0; payload = unique.1 })
 
 abbrev pub error_of : List ℕ → Result Message StreamFault
 error_of body = do

@@ -38,10 +38,10 @@ next_of (step.Gives r size) bytes = gives (message_of r) (drop size bytes)
 next_of (step.Faulty f) bytes = faulty f
 next_of step.Waits bytes = waits
 
-abbrev pub IsStep : Step → ℕ → Type 0
-IsStep (step.Gives r size) most = (0 < size) × (size ≤ most)
-IsStep (step.Faulty f) most = Unit {0}
-IsStep step.Waits most = Unit {0}
+abbrev pub IsStepWithin : Step → ℕ → Type 0
+IsStepWithin (step.Gives r size) most = (0 < size) × (size ≤ most)
+IsStepWithin (step.Faulty f) most = Unit {0}
+IsStepWithin step.Waits most = Unit {0}
 
 -- how many bytes the packet at the front still lacks, as far as its header says
 abbrev pub lacks : List ℕ → ℕ

@@ -91,13 +91,13 @@ is_work (work_warning handle bytes) = true
 abbrev pub work_requests : List ℕ → List Packet
 work_requests bytes = filter is_work (sent bytes).packets
 
-abbrev pub is_name : List ℕ → List ℕ → Bool
-is_name a b = pointwise nat_eq a b
+abbrev pub is_same_name : List ℕ → List ℕ → Bool
+is_same_name a b = pointwise nat_eq a b
 
 -- the functions that are registered, each once, after one more packet
 abbrev pub register : List (List ℕ) → Packet → List (List ℕ)
-register names (can_do name) = if list_any (is_name name) names then names else names ++ name ∷ []
-register names (cant_do name) = filter (λ n. not (is_name name n)) names
+register names (can_do name) = if list_any (is_same_name name) names then names else names ++ name ∷ []
+register names (cant_do name) = filter (λ n. not (is_same_name name n)) names
 register names pre_sleep = names
 register names grab_job = names
 register names (set_client_id text) = names

@@ -8,7 +8,7 @@ use Rattle.std.proofs.lemmas.List.{append-nil, get_or-map, length-map, take_all}
 use Rattle.gear_status.specs.Device.{failure_of, is_end, lull_of, taken}
 use Rattle.gear_status.specs.Memory.{Read, ReadsText}
 use Rattle.gear_status.specs.Played.{pieces_view}
-use Rattle.gear_status.specs.Script.{GoesOn, Play, Reads, due, fails, given, read_once}
+use Rattle.gear_status.specs.Script.{GoesOn, Play, Reads, next_piece, fails, given, read_once}
 use Rattle.gear_status.specs.declared.device.DeviceFault.{DeviceFault}
 use Rattle.gear_status.specs.declared.device.Took.{Took}
 use Rattle.gear_status.specs.declared.device.Took.TheVariants as took
@@ -35,20 +35,20 @@ done_more (p ∷ ps) (suc n) = ap (λ (t : List ℕ). p ++ t) (done_more ps n) �
 both_parts : (piece : List ℕ) (at n : ℕ) → length piece ≤ at + n → take at piece ++ take n (drop at piece) ≡ piece
 both_parts piece at n long = sym (take-add at n piece) ∙ take_all (at + n) piece long
 
-given_done : (p : Play) (n : ℕ) → length (due p) ≤ p.at + n
-    → concat (take (p.next + 1) p.pieces) ++ [] ≡ given p ++ take n (drop p.at (due p))
+given_done : (p : Play) (n : ℕ) → length (next_piece p) ≤ p.at + n
+    → concat (take (p.next + 1) p.pieces) ++ [] ≡ given p ++ take n (drop p.at (next_piece p))
 given_done p n long =
     append-nil (concat (take (p.next + 1) p.pieces))
     ∙ ap (λ (k : ℕ). concat (take k p.pieces)) (add-one p.next)
     ∙ done_more p.pieces p.next
-    ∙ ap (λ (t : List ℕ). concat (take p.next p.pieces) ++ t) (sym (both_parts (due p) p.at n long))
-    ∙ sym (append_assoc (concat (take p.next p.pieces)) (take p.at (due p)) (take n (drop p.at (due p))))
+    ∙ ap (λ (t : List ℕ). concat (take p.next p.pieces) ++ t) (sym (both_parts (next_piece p) p.at n long))
+    ∙ sym (append_assoc (concat (take p.next p.pieces)) (take p.at (next_piece p)) (take n (drop p.at (next_piece p))))
 
-given_on : (p : Play) (n : ℕ) (new : Play) → GoesOn p n new → given new ≡ given p ++ take n (drop p.at (due p))
+given_on : (p : Play) (n : ℕ) (new : Play) → GoesOn p n new → given new ≡ given p ++ take n (drop p.at (next_piece p))
 given_on p n new (inl on) =
     ap given on.1
-    ∙ ap (λ (t : List ℕ). concat (take p.next p.pieces) ++ t) (take-add p.at n (due p))
-    ∙ sym (append_assoc (concat (take p.next p.pieces)) (take p.at (due p)) (take n (drop p.at (due p))))
+    ∙ ap (λ (t : List ℕ). concat (take p.next p.pieces) ++ t) (take-add p.at n (next_piece p))
+    ∙ sym (append_assoc (concat (take p.next p.pieces)) (take p.at (next_piece p)) (take n (drop p.at (next_piece p))))
 given_on p n new (inr done) = ap given done.1 ∙ given_done p n (omega (arith, done.0))
 
 -- what was read is told behind what was read before
@@ -88,7 +88,7 @@ pub due_is : (ps : List (Vec ℕ Global)) (i : ℕ) (piece : Vec ℕ Global) →
 due_is ps i piece within is = get_or-map (λ (p : Vec ℕ Global). p.items) ps i piece [] within ∙ ap (λ (p : Vec ℕ Global). p.items) (sym is)
 
 -- so many bytes of the piece that is due, with some left
-pub part_read : (old : Play) (piece left buffer : List ℕ) (n : ℕ) → due old ≡ piece → left ≡ drop old.at piece → fails old.sound_takes ≡ false
+pub part_read : (old : Play) (piece left buffer : List ℕ) (n : ℕ) → next_piece old ≡ piece → left ≡ drop old.at piece → fails old.sound_takes ≡ false
     → n ≡ min (length left) (length buffer) → take n buffer ≡ take n left → 0 < length left → 0 < length buffer → n < length left
     → Reads old buffer (Ok (took.Bytes n)) (record (read_once old) { at = old.at + n })
 part_read old piece left buffer n is rest sound most same some room more =
@@ -96,7 +96,7 @@ part_read old piece left buffer n is rest sound most same some room more =
     rw (is, ← rest, ← long) (sound, most, omega (arith, most), same, inl (omega (arith, long, more), refl))
 
 -- and with none left
-pub whole_read : (old : Play) (piece left buffer : List ℕ) (n : ℕ) → due old ≡ piece → left ≡ drop old.at piece → fails old.sound_takes ≡ false
+pub whole_read : (old : Play) (piece left buffer : List ℕ) (n : ℕ) → next_piece old ≡ piece → left ≡ drop old.at piece → fails old.sound_takes ≡ false
     → n ≡ min (length left) (length buffer) → take n buffer ≡ take n left → 0 < length left → 0 < length buffer → length left ≤ n
     → Reads old buffer (Ok (took.Bytes n)) (record (read_once old) { next = old.next + 1; at = 0 })
 whole_read old piece left buffer n is rest sound most same some room all =

@@ -7,7 +7,7 @@ use Rattle.gear_status.specs.Sides.{Met, Undisturbed}
 use Rattle.gear_status.specs.Status.{Line, at_end, is_period, is_too_long, line_meaning, meaning_from, put, status, without_return}
 use Rattle.text_pieces.specs.Lines.{is_line_feed}
 use Rattle.text_pieces.proofs.Lines.{first_part}
-use Rattle.gear_status.specs.Stream.{AnswersStatus, EndsWithPiece, IsPart, Part, is_open, is_verdict, meaning_with}
+use Rattle.gear_status.specs.Stream.{AnswersStatus, EndsWithPiece, IsPart, Part, has_no_line_feed, is_verdict, meaning_with}
 use Rattle.gear_status.specs.declared.error.StatusError.{StatusError}
 use Rattle.gear_status.specs.declared.error.StatusError.TheVariants.{BadLine, BadNumber, LineTooLong, Memory, ReadFault, TooManyLines, Truncated}
 
@@ -20,11 +20,11 @@ nothing_after [] = refl
 nothing_after (x ∷ xs) = ap (λ t. x ∷ t) (nothing_after xs)
 
 -- bytes with no line feed go before the first part
-pub open_front : (xs ys head : List ℕ) (tail : List (List ℕ)) → is_open xs ≡ true → slice_split is_line_feed ys ≡ head ∷ tail
+pub open_front : (xs ys head : List ℕ) (tail : List (List ℕ)) → has_no_line_feed xs ≡ true → slice_split is_line_feed ys ≡ head ∷ tail
     → slice_split is_line_feed (xs ++ ys) ≡ (xs ++ head) ∷ tail
 open_front [] ys head tail o e = e
 open_front (x ∷ xs) ys head tail o e =
-    let parts = and_parts (not (is_line_feed x)) (is_open xs) o in
+    let parts = and_parts (not (is_line_feed x)) (has_no_line_feed xs) o in
     let other : is_line_feed x ≡ false = not_true (is_line_feed x) parts.0 in
     rw (other, open_front xs ys head tail parts.1 e)
 
@@ -35,7 +35,7 @@ exceeds : (line : List ℕ) → 4096 < length line → is_too_long line ≡ true
 exceeds line h = grind (arith, nat_tests)
 
 -- at a line feed the line is judged, and the text goes on behind it
-pub at_feed : (n : ℕ) (line rest : List ℕ) (load : List Line) → is_open line ≡ true → length line ≤ 4096
+pub at_feed : (n : ℕ) (line rest : List ℕ) (load : List Line) → has_no_line_feed line ≡ true → length line ≤ 4096
     → meaning_from n (slice_split is_line_feed (line ++ 10 ∷ rest)) load
     ≡ at_end n line load (λ more. meaning_from (n + 1) (slice_split is_line_feed rest) more)
 at_feed n line rest load o short =
@@ -51,7 +51,7 @@ long_first : (n : ℕ) (line : List ℕ) (tail : List (List ℕ)) (load : List L
 long_first n line [] load long = rw long
 long_first n line (next ∷ tail) load long = rw long
 
-pub too_long : (n b : ℕ) (line rest : List ℕ) (load : List Line) → is_open line ≡ true → length line ≡ 4096 → is_line_feed b ≡ false
+pub too_long : (n b : ℕ) (line rest : List ℕ) (load : List Line) → has_no_line_feed line ≡ true → length line ≡ 4096 → is_line_feed b ≡ false
     → meaning_from n (slice_split is_line_feed (line ++ b ∷ rest)) load ≡ Err (LineTooLong n)
 too_long n b line rest load o full other =
     let next = first_part rest in
@@ -61,7 +61,7 @@ too_long n b line rest load o full other =
     ∙ long_first n (line ++ b ∷ next.0) next.1 load (exceeds (line ++ b ∷ next.0) (omega (arith, length-append line (b ∷ next.0))))
 
 -- what has come of a text whose last line has not come whole is no load and no fault yet
-pub not_whole : (n : ℕ) (line : List ℕ) (load : List Line) → is_open line ≡ true → length line ≤ 4096
+pub not_whole : (n : ℕ) (line : List ℕ) (load : List Line) → has_no_line_feed line ≡ true → length line ≤ 4096
     → meaning_from n (slice_split is_line_feed (line ++ [])) load ≡ Err Truncated
 not_whole n line load o short =
     let parts : slice_split is_line_feed (line ++ []) ≡ line ∷ [] =
@@ -70,7 +70,7 @@ not_whole n line load o short =
     rw (parts, short_line)
 
 -- the four things that may come of a line
-module _ (n : ℕ) (line rest : List ℕ) (load : List Line) (o : is_open line ≡ true) (short : length line ≤ 4096) where
+module _ (n : ℕ) (line rest : List ℕ) (load : List Line) (o : has_no_line_feed line ≡ true) (short : length line ≤ 4096) where
   pub feed_period : is_period line ≡ true → meaning_from n (slice_split is_line_feed (line ++ 10 ∷ rest)) load ≡ Ok load
   feed_period period = at_feed n line rest load o short ∙ rw period
 

@@ -22,12 +22,12 @@ pub record Play : Type 0 where
   pub give_failures : ℕ
 
 -- the piece that is next, and none behind the last
-abbrev pub due : Play → List ℕ
-due p = get_or p.pieces p.next []
+abbrev pub next_piece : Play → List ℕ
+next_piece p = get_or p.pieces p.next []
 
 pub record IsPlay (p : Play) : Type 0 where
   pub followed : p.next ≤ length p.pieces
-  pub begun : 0 < p.at → p.at < length (due p)
+  pub begun : 0 < p.at → p.at < length (next_piece p)
   pub paused : p.lulls ≤ p.next
   pub wide : 1 ≤ p.widest_give
 
@@ -49,7 +49,7 @@ first_play = record {
 
 -- the bytes that were given: the pieces that are done, and the front of the next
 abbrev pub given : Play → List ℕ
-given p = concat (take p.next p.pieces) ++ take p.at (due p)
+given p = concat (take p.next p.pieces) ++ take p.at (next_piece p)
 
 -- ---- failures at a stated call
 
@@ -72,8 +72,8 @@ read_once p = record p { has_ended = false; sound_takes = one_less p.sound_takes
 -- what n bytes of the piece that is due leave: the rest of it, or the next piece
 abbrev pub GoesOn : Play → ℕ → Play → Type 0
 GoesOn p n new =
-    ((p.at + n < length (due p)) × (new ≡ record p { at = p.at + n }))
-    ⊎ ((p.at + n ≡ length (due p)) × (new ≡ record p { next = p.next + 1; at = 0 }))
+    ((p.at + n < length (next_piece p)) × (new ≡ record p { at = p.at + n }))
+    ⊎ ((p.at + n ≡ length (next_piece p)) × (new ≡ record p { next = p.next + 1; at = 0 }))
 
 -- The script before a read, the buffer and the answer of the read, and the script after it. The stated call fails, and no other. Behind the
 -- last piece is the end. A piece without bytes is one lull. Of another piece as many bytes are given as are left and have room.
@@ -82,11 +82,11 @@ Reads old buffer (Err f) new = (fails old.sound_takes ≡ true) × (new ≡ reco
 Reads old buffer (Ok took.Ended) new =
     (fails old.sound_takes ≡ false) × (old.next ≡ length old.pieces) × (new ≡ record (read_once old) { has_ended = true })
 Reads old buffer (Ok took.Lull) new =
-    (fails old.sound_takes ≡ false) × (old.next < length old.pieces) × (length (due old) ≡ 0)
+    (fails old.sound_takes ≡ false) × (old.next < length old.pieces) × (length (next_piece old) ≡ 0)
     × (new ≡ record (read_once old) { next = old.next + 1; at = 0; lulls = old.lulls + 1 })
 Reads old buffer (Ok (took.Bytes n)) new =
-    (fails old.sound_takes ≡ false) × (n ≡ min (length (due old) - old.at) (length buffer)) × (0 < n)
-    × (take n buffer ≡ take n (drop old.at (due old))) × GoesOn (read_once old) n new
+    (fails old.sound_takes ≡ false) × (n ≡ min (length (next_piece old) - old.at) (length buffer)) × (0 < n)
+    × (take n buffer ≡ take n (drop old.at (next_piece old))) × GoesOn (read_once old) n new
 
 -- a script of which one more write was made
 abbrev pub written_once : Play → Play

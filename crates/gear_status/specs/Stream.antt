@@ -17,12 +17,12 @@ pub record Part : Type 0 where
 abbrev pub meaning_with : Part → List ℕ → Result (List Line) StatusError
 meaning_with p rest = meaning_from p.number (slice_split is_line_feed (p.line ++ rest)) p.load
 
-abbrev pub is_open : List ℕ → Bool
-is_open line = list_all (λ b. not (is_line_feed b)) line
+abbrev pub has_no_line_feed : List ℕ → Bool
+has_no_line_feed line = list_all (λ b. not (is_line_feed b)) line
 
 -- a line that is not too long and has no line feed, with a number up to 65,537
 pub record IsPart (p : Part) : Type 0 where
-  pub open_line : is_open p.line ≡ true
+  pub open_line : has_no_line_feed p.line ≡ true
   pub short : length p.line ≤ 4096
   pub few : p.number ≤ 65537
 

@@ -8,7 +8,7 @@ use Rattle.std.proofs.lemmas.Fmt.{decimal_by_steps, length-decimal-le}
 use Rattle.std.proofs.lemmas.List.{length-append}
 use Rattle.gear_packets.specs.Frame.{body_limit}
 use Rattle.gear_packets.specs.Request.{can_do, cant_do, set_client_id, has_nul}
-use Rattle.gear_packets.specs.Text.{is_name}
+use Rattle.gear_packets.specs.Text.{is_same_name}
 use Rattle.pool_settings.specs.Names.{name_at, is_name_byte, is_machine_name_byte}
 use Rattle.pool_settings.specs.Settings.{Settings, AreSettings}
 use Rattle.pool_settings.specs.Slots.{machine_of, worker_number, worker_text, slots}
@@ -75,7 +75,7 @@ cant_accepted name h =
     let p = function_parts name h in
     rw (le-ltb body_limit (length name) p.0, p.1) refl
 
-both_accepted : (from to : List ℕ) → IsFunctionName from → IsFunctionName to → (b : Bool) → is_name from to ≡ b → AllByRecursion IsAccepted (obeying (Some from) (Some to))
+both_accepted : (from to : List ℕ) → IsFunctionName from → IsFunctionName to → (b : Bool) → is_same_name from to ≡ b → AllByRecursion IsAccepted (obeying (Some from) (Some to))
 both_accepted from to f t true e = rw e (refl, tt)
 both_accepted from to f t false e = rw e (cant_accepted from f, (can_accepted to t, (refl, tt)))
 
@@ -84,7 +84,7 @@ pub order_accepted : (from to : Option (List ℕ)) → IfSome from IsFunctionNam
 order_accepted None None f t = tt
 order_accepted None (Some to) f t = (can_accepted to t, (refl, tt))
 order_accepted (Some from) None f t = (cant_accepted from f, tt)
-order_accepted (Some from) (Some to) f t = both_accepted from to f t (is_name from to) refl
+order_accepted (Some from) (Some to) f t = both_accepted from to f t (is_same_name from to) refl
 
 at_named : (functions : List (List ℕ)) (f : ℕ) → All IsFunctionName functions → IfSome (slice_get functions f) IsFunctionName
 at_named [] f h = tt

@@ -7,7 +7,7 @@ use Rattle.std.proofs.lemmas.Bool.{eq-eqb}
 use Rattle.std.proofs.lemmas.List.{append-nil, take-append-drop}
 use Rattle.gear_packets.specs.Request.{Packet, cant_do}
 use Rattle.gear_packets.specs.Response.{AssignedJob}
-use Rattle.gear_packets.specs.Text.{text_of, is_name, is_work, register, registered_by}
+use Rattle.gear_packets.specs.Text.{text_of, is_same_name, is_work, register, registered_by}
 use Rattle.job_runner.specs.declared.end.EndCause.{EndCause}
 use Rattle.job_runner.specs.declared.end.EndCause.TheVariants as cause
 use Rattle.job_runner.specs.declared.end.EndCause.TheVariants.{WriteFault, Memory}
@@ -21,7 +21,7 @@ use Rattle.job_runner.proofs.Told.{goes_behind}
 use Rattle.job_runner.proofs.Steps.{ends_whole, Leads, wrote_on, cut_on, left_over}
 use Rattle.job_runner.proofs.Exits.{Left}
 
-text_self : (text : List ℕ) → is_name text text ≡ true
+text_self : (text : List ℕ) → is_same_name text text ≡ true
 text_self [] = refl
 text_self (b ∷ text) = rw (eq-eqb b b refl) (text_self text)
 
@@ -41,7 +41,7 @@ pub record Keeps (from to : Option (List ℕ)) : Type 0 where
 given_up : (name : List ℕ) → register (name ∷ []) (cant_do name) ≡ []
 given_up name = rw (text_self name) refl
 
-same_kept : (from to : List ℕ) (b : Bool) → is_name from to ≡ b → Keeps (Some from) (Some to)
+same_kept : (from to : List ℕ) (b : Bool) → is_same_name from to ≡ b → Keeps (Some from) (Some to)
 same_kept from to true e =
     let same : from ≡ to = same_text from to (sym e) in
     record {
@@ -59,7 +59,7 @@ pub obeying_keeps : (from to : Option (List ℕ)) → Keeps from to
 obeying_keeps None None = record { registered_is = refl; one = tt; works = refl }
 obeying_keeps None (Some to) = record { registered_is = refl; one = (omega arith, λ asked. refl, (omega arith, λ asked. refl, tt)); works = refl }
 obeying_keeps (Some from) None = record { registered_is = given_up from; one = (rw (given_up from) (omega arith), λ asked. absurd cc, tt); works = refl }
-obeying_keeps (Some from) (Some to) = same_kept from to (is_name from to) refl
+obeying_keeps (Some from) (Some to) = same_kept from to (is_same_name from to) refl
 
 few_named : (o : Option (List ℕ)) → length (option_to_list o) ≤ 1
 few_named None = omega arith

@@ -20,7 +20,7 @@ use Rattle.job_runner.specs.Told.{Told}
 use Rattle.job_runner.specs.Book.{Ledger, no_calls}
 use Rattle.job_runner.specs.Course.{Duty, Even, Ends, GoesOnOrEnds, Sends, PortReason, known, IsServing}
 use Rattle.job_runner.specs.Listening.{SaysFirst, IsReadEnd}
-use Rattle.job_runner.specs.Run.{Holds, Acts, Link, Reason}
+use Rattle.job_runner.specs.Run.{AreAnswered, Acts, Link, Reason}
 use Rattle.job_runner.specs.Loop.{first_state, IsSendFault, StepReason, ReadReason, Stands, Halts}
 use Rattle.gear_status.specs.Sides.{and_then}
 use Rattle.gear_status.proofs.Devices.{told_nothing}
@@ -86,7 +86,7 @@ pub says_more : (read : List ℕ) (given later : List Message) → (reading read
 says_more read given later h = ap assignments_in h ∙ assignments_append given later
 
 -- at rest the session may end
-pub halts_at_rest : (duty : Duty) (before : Option (List ℕ)) (bytes read : List ℕ) (written : Option (List ℕ)) (given : List Message) (s : State) (b : Ledger) (reason : EndCause) → written ≡ and_then before bytes → Holds duty bytes (assignments_in given) s b → SaysFirst read given → reason ≢ WriteFault → Halts duty before read written s.tally b reason
+pub halts_at_rest : (duty : Duty) (before : Option (List ℕ)) (bytes read : List ℕ) (written : Option (List ℕ)) (given : List Message) (s : State) (b : Ledger) (reason : EndCause) → written ≡ and_then before bytes → AreAnswered duty bytes (assignments_in given) s b → SaysFirst read given → reason ≢ WriteFault → Halts duty before read written s.tally b reason
 halts_at_rest duty before bytes read written given s b reason at holds says no-fault = record {
   bytes = bytes;
   at = at;
@@ -115,8 +115,8 @@ still_serves count (Some f) h = h
 
 -- PRE_SLEEP was sent
 pub slept : (duty : Duty) (before : Option (List ℕ)) (bytes : List ℕ) (old new : Option (List ℕ)) (done : List AssignedJob) (registered : Option ℕ) (t : Tally) (b : Ledger) → Sends old new (pre_sleep ∷ []) (Ok tt) → old ≡ and_then before bytes
-    → Holds duty bytes done (record { registered = registered; phase = Waiting; tally = t }) b
-    → (more : List ℕ) × (new ≡ and_then before more) × Holds duty more done (record { registered = registered; phase = Asleep; tally = t }) b
+    → AreAnswered duty bytes done (record { registered = registered; phase = Waiting; tally = t }) b
+    → (more : List ℕ) × (new ≡ and_then before more) × AreAnswered duty more done (record { registered = registered; phase = Asleep; tally = t }) b
 slept duty before bytes old new done registered t b sends at holds =
     let names = known duty.functions registered in
     let s = sent_whole duty before bytes old new names names (pre_sleep ∷ []) done sends at holds.wrote (sleep_leads duty.told names (waits_known duty.functions registered holds.serving)) in
@@ -124,7 +124,7 @@ slept duty before bytes old new done registered t b sends at holds =
 
 -- or it was not
 pub not_slept : (duty : Duty) (before : Option (List ℕ)) (bytes : List ℕ) (old new : Option (List ℕ)) (done : List AssignedJob) (registered : Option ℕ) (t : Tally) (b : Ledger) (e : EndCause) → Sends old new (pre_sleep ∷ []) (Err e) → old ≡ and_then before bytes
-    → Holds duty bytes done (record { registered = registered; phase = Waiting; tally = t }) b
+    → AreAnswered duty bytes done (record { registered = registered; phase = Waiting; tally = t }) b
     → Left duty before new done t b e
 not_slept duty before bytes old new done registered t b e sends at holds =
     let names = known duty.functions registered in
@@ -150,7 +150,7 @@ even_start b h = subst (λ (x : Ledger). Even first_state.tally x 0) (sym h) (re
 
 -- the name was written
 pub introduced : (duty : Duty) (old new : Option (List ℕ)) (b : Ledger) → Sends old new (set_client_id duty.worker ∷ []) (Ok tt) → b ≡ no_calls
-    → (new ≡ and_then old (text_of (set_client_id duty.worker ∷ []))) × Holds duty (text_of (set_client_id duty.worker ∷ [])) [] first_state b
+    → (new ≡ and_then old (text_of (set_client_id duty.worker ∷ []))) × AreAnswered duty (text_of (set_client_id duty.worker ∷ [])) [] first_state b
 introduced duty old new b sends fresh =
     let p = set_client_id duty.worker in (
       sends.0,
@@ -303,14 +303,14 @@ heard_next read given m old new h e = h ∙ ap (behind given) e ∙ sym (ap (λ 
 
 -- a message was served
 pub stands_next : (duty : Duty) (before : Option (List ℕ)) (read : List ℕ) (old new : Option (List ℕ)) (m : Message) (r r' : Reading) (s s' : State) (b b' : Ledger) (st : Stands duty before read old r s b) → r ≡ behind (m ∷ []) r'
-    → (more : List ℕ) × (new ≡ and_then before more) × Holds duty more (assignments_in st.given ++ assignments_in (m ∷ [])) s' b' → Stands duty before read new r' s' b'
+    → (more : List ℕ) × (new ≡ and_then before more) × AreAnswered duty more (assignments_in st.given ++ assignments_in (m ∷ [])) s' b' → Stands duty before read new r' s' b'
 stands_next duty before read old new m r r' s s' b b' st e h = record {
   bytes = h.0;
   given = st.given ++ m ∷ [];
   at = h.1;
   rests = record {
     heard = heard_next read st.given m r r' st.rests.heard e;
-    holds = subst (λ (d : List AssignedJob). Holds duty h.0 d s' b') (sym (assignments_append st.given (m ∷ []))) h.2;
+    holds = subst (λ (d : List AssignedJob). AreAnswered duty h.0 d s' b') (sym (assignments_append st.given (m ∷ []))) h.2;
   };
 }
 
@@ -364,7 +364,7 @@ broken_says read given r f h e none =
     let same : fault_of (reading read).ending ≡ Some f = ap (λ (x : Reading). fault_of x.ending) h ∙ sym e in
     absurd (let clash = sym none ∙ same in cc)
 
-pub as_waiting : (duty : Duty) (bytes : List ℕ) (done : List AssignedJob) (s : State) (b : Ledger) → s.phase ≡ Waiting → Holds duty bytes done s b → Holds duty bytes done (record { registered = s.registered; phase = Waiting; tally = s.tally }) b
+pub as_waiting : (duty : Duty) (bytes : List ℕ) (done : List AssignedJob) (s : State) (b : Ledger) → s.phase ≡ Waiting → AreAnswered duty bytes done s b → AreAnswered duty bytes done (record { registered = s.registered; phase = Waiting; tally = s.tally }) b
 as_waiting duty bytes done s b e h = record { wrote = h.wrote; even = h.even; serving = subst (λ (p : Phase). IsServing (length duty.functions) p s.registered) e h.serving }
 
 -- a session that stands may count one job more
@@ -407,7 +407,7 @@ glanced duty before read out given r s b generation old new (Err e) heard h reas
 )
 
 -- an end at a read
-pub read_ended : (duty : Duty) (before : Option (List ℕ)) (bytes read : List ℕ) (out : Option (List ℕ)) (given : List Message) (s : State) (b : Ledger) (generation : ℕ) (old new : Link) (e : EndCause) → out ≡ and_then before bytes → Holds duty bytes (assignments_in given) s b → SaysFirst read given → IsReadEnd e
+pub read_ended : (duty : Duty) (before : Option (List ℕ)) (bytes read : List ℕ) (out : Option (List ℕ)) (given : List Message) (s : State) (b : Ledger) (generation : ℕ) (old new : Link) (e : EndCause) → out ≡ and_then before bytes → AreAnswered duty bytes (assignments_in given) s b → SaysFirst read given → IsReadEnd e
     → (e ≡ cause.Closed → new.input.has_ended ≡ true) → (e ≡ cause.ReadFault → new.input.failures ≡ old.input.failures + 1) → Halts duty before read out s.tally b e × Reason generation read s.tally.grabbed old new b.last_answer e
 read_ended duty before bytes read out given s b generation old new cause.Closed at holds says is closed failed = (halts_at_rest duty before bytes read out given s b cause.Closed at holds says (λ e. cc), closed refl)
 read_ended duty before bytes read out given s b generation old new cause.ReadFault at holds says is closed failed = (halts_at_rest duty before bytes read out given s b cause.ReadFault at holds says (λ e. cc), failed refl)
@@ -433,7 +433,7 @@ assigns_nothing = ap (λ (r : Reading). assignments_in r.messages) reads_nothing
 pub begun_halts : (duty : Duty) (before out : Option (List ℕ)) (t : Tally) (b : Ledger) (e : EndCause) → (more : List ℕ) × (out ≡ and_then before more) × Ends duty more [] t b e → Halts duty before [] out t b e
 begun_halts duty before out t b e h = record { bytes = h.0; at = h.1; ends = subst (λ (d : List AssignedJob). Ends duty h.0 d t b e) (sym assigns_nothing) h.2 }
 
-pub begun_stands : (duty : Duty) (before out : Option (List ℕ)) (r : Reading) (s : State) (b : Ledger) → r ≡ nothing_read → (more : List ℕ) × (out ≡ and_then before more) × Holds duty more [] s b → Stands duty before [] out r s b
+pub begun_stands : (duty : Duty) (before out : Option (List ℕ)) (r : Reading) (s : State) (b : Ledger) → r ≡ nothing_read → (more : List ℕ) × (out ≡ and_then before more) × AreAnswered duty more [] s b → Stands duty before [] out r s b
 begun_stands duty before out r s b e h = record { bytes = h.0; given = []; at = h.1; rests = record { heard = reads_nothing ∙ sym e; holds = h.2 } }
 
 -- a reason stands from where the link began

@@ -18,19 +18,19 @@ use Rattle.job_runner.specs.Book.{Ledger}
 use Rattle.job_runner.specs.Course.{Duty, asks, Wrote, Even, Ends, GoesOnOrEnds, known, IsServing, PortReason}
 
 -- Between two messages, the reader aside: each assignment so far is answered, and the counts agree.
-pub record Holds (duty : Duty) (bytes : List ℕ) (done : List AssignedJob) (s : State) (book : Ledger) : Type 0 where
+pub record AreAnswered (duty : Duty) (bytes : List ℕ) (done : List AssignedJob) (s : State) (book : Ledger) : Type 0 where
   pub wrote : Wrote duty bytes (known duty.functions s.registered) done
   pub even : Even s.tally book (length done)
   pub serving : IsServing (length duty.functions) s.phase s.registered
 
 -- what a step leaves
 abbrev pub Acts : Duty → List ℕ → List AssignedJob → State → Ledger → Result (Unit {0}) EndCause → Type 0
-Acts duty bytes done s book result = GoesOnOrEnds (Holds duty bytes done s book) (Ends duty bytes done s.tally book) result
+Acts duty bytes done s book result = GoesOnOrEnds (AreAnswered duty bytes done s book) (Ends duty bytes done s.tally book) result
 
 -- The bytes read say the messages that were given, and those that the reader still holds.
 pub record Rests (duty : Duty) (read bytes : List ℕ) (given : List Message) (reader : Reading) (s : State) (book : Ledger) : Type 0 where
   pub heard : reading read ≡ behind given reader
-  pub holds : Holds duty bytes (assignments_in given) s book
+  pub holds : AreAnswered duty bytes (assignments_in given) s book
 
 -- a stream names an error
 abbrev pub HasError : List Message → Type 0

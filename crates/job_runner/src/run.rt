@@ -5,7 +5,7 @@ ghost use Rattle.gear_packets.specs.Response.{AssignedJob};
 ghost use Rattle.gear_status.specs.Sides.{and_then};
 ghost use Rattle.job_runner.specs.Book.{Ledger};
 ghost use Rattle.job_runner.specs.Course.{Duty, PortReason};
-ghost use Rattle.job_runner.specs.Run.{Holds, Acts};
+ghost use Rattle.job_runner.specs.Run.{AreAnswered, Acts};
 
 use crate::end::EndCause;
 use crate::order::{Phase, obey};
@@ -36,7 +36,7 @@ pub fn follow<L: Sink, P: PoolPort, J>(
 ) -> Result<(), EndCause>
     requires { (L.output link.old).failures < 2 ^ 64 - 1 }
     ensures acts { (duty : Duty) (before : Option (List ℕ)) (bytes : List ℕ) (done : List AssignedJob) →
-        duty.functions ≡ worker.now.settings.now.functions → (L.output link.old).got ≡ and_then before bytes → Holds duty bytes done state.old (P.book port.old) →
+        duty.functions ≡ worker.now.settings.now.functions → (L.output link.old).got ≡ and_then before bytes → AreAnswered duty bytes done state.old (P.book port.old) →
         (more : List ℕ) × ((L.output link.new).got ≡ and_then before more) × Acts duty more done state.new (P.book port.new) result }
     ensures input { L.input link.new ≡ L.input link.old }
     ensures reason { IfErr result (λ cause. PortReason worker.now.pass.now.generation cause (P.book port.new).last_answer) }
@@ -67,7 +67,7 @@ pub fn serve_job<L: Sink, P: PoolPort, J: Jobs>(
     requires tally { (state.old.tally.grabbed + 1 < 2 ^ 64) × (state.old.tally.answered + 1 < 2 ^ 64) × (state.old.tally.reported + 1 < 2 ^ 64) }
     requires port { ((P.book port.old).grabs + 1 < 2 ^ 64) × ((P.book port.old).begins + 1 < 2 ^ 64) × ((P.book port.old).reports + 1 < 2 ^ 64) }
     ensures acts { (duty : Duty) (before : Option (List ℕ)) (bytes : List ℕ) (done : List AssignedJob) (unique : List ℕ) →
-        duty.told ≡ J.told worker.now.jobs.now → duty.functions ≡ worker.now.settings.now.functions → (L.output link.old).got ≡ and_then before bytes → Holds duty bytes done state.old (P.book port.old) →
+        duty.told ≡ J.told worker.now.jobs.now → duty.functions ≡ worker.now.settings.now.functions → (L.output link.old).got ≡ and_then before bytes → AreAnswered duty bytes done state.old (P.book port.old) →
         (more : List ℕ) × ((L.output link.new).got ≡ and_then before more)
         × Acts duty more (done ++ record { handle = handle.now; function = function.now; unique = unique; payload = payload.items } ∷ []) state.new (P.book port.new) result }
     ensures input { L.input link.new ≡ L.input link.old }

@@ -7,7 +7,7 @@ ghost use Rattle.gear_packets.specs.Text.{assignments_in};
 ghost use Rattle.gear_status.specs.Sides.{and_then};
 ghost use Rattle.job_runner.specs.Book.{Ledger};
 ghost use Rattle.job_runner.specs.Course.{Duty, PortReason};
-ghost use Rattle.job_runner.specs.Run.{Holds, Acts};
+ghost use Rattle.job_runner.specs.Run.{AreAnswered, Acts};
 ghost use Rattle.job_runner.specs.Loop.{StepReason, IsSendFault};
 
 use crate::end::EndCause;
@@ -26,7 +26,7 @@ fn sleep<L: Sink>(alloc: Global, link: &mut L, state: &mut State) -> Result<(), 
     requires link { (L.output link.old).failures < 2 ^ 64 - 1 }
     requires waits { state.old.phase ≡ Phase.Waiting }
     ensures acts { (duty : Duty) (before : Option (List ℕ)) (bytes : List ℕ) (done : List AssignedJob) (book : Ledger) →
-        (L.output link.old).got ≡ and_then before bytes → Holds duty bytes done state.old book →
+        (L.output link.old).got ≡ and_then before bytes → AreAnswered duty bytes done state.old book →
         (more : List ℕ) × ((L.output link.new).got ≡ and_then before more) × Acts duty more done state.new book result }
     ensures input { L.input link.new ≡ L.input link.old }
     ensures reason { IfErr result IsSendFault }
@@ -54,7 +54,7 @@ pub fn act<L: Sink, P: PoolPort, J: Jobs>(
     requires tally { (state.old.tally.grabbed + 1 < 2 ^ 64) × (state.old.tally.answered + 1 < 2 ^ 64) × (state.old.tally.reported + 1 < 2 ^ 64) }
     requires port { ((P.book port.old).grabs + 1 < 2 ^ 64) × ((P.book port.old).begins + 1 < 2 ^ 64) × ((P.book port.old).reports + 1 < 2 ^ 64) }
     ensures acts { (duty : Duty) (before : Option (List ℕ)) (bytes : List ℕ) (done : List AssignedJob) →
-        duty.told ≡ J.told worker.now.jobs.now → duty.functions ≡ worker.now.settings.now.functions → (L.output link.old).got ≡ and_then before bytes → Holds duty bytes done state.old (P.book port.old) →
+        duty.told ≡ J.told worker.now.jobs.now → duty.functions ≡ worker.now.settings.now.functions → (L.output link.old).got ≡ and_then before bytes → AreAnswered duty bytes done state.old (P.book port.old) →
         (more : List ℕ) × ((L.output link.new).got ≡ and_then before more)
         × Acts duty more (done ++ assignments_in (message_of message ∷ [])) state.new (P.book port.new) result }
     ensures input { L.input link.new ≡ L.input link.old }
@@ -98,7 +98,7 @@ pub fn glance<L: Sink, P: PoolPort, J>(
 ) -> Result<(), EndCause>
     requires { (L.output link.old).failures < 2 ^ 64 - 1 }
     ensures acts { (duty : Duty) (before : Option (List ℕ)) (bytes : List ℕ) (done : List AssignedJob) →
-        duty.functions ≡ worker.now.settings.now.functions → (L.output link.old).got ≡ and_then before bytes → Holds duty bytes done state.old (P.book port.old) →
+        duty.functions ≡ worker.now.settings.now.functions → (L.output link.old).got ≡ and_then before bytes → AreAnswered duty bytes done state.old (P.book port.old) →
         (more : List ℕ) × ((L.output link.new).got ≡ and_then before more) × Acts duty more done state.new (P.book port.new) result }
     ensures input { L.input link.new ≡ L.input link.old }
     ensures reason { IfErr result (λ cause. PortReason worker.now.pass.now.generation cause (P.book port.new).last_answer) }

@@ -3,7 +3,7 @@ use Rattle.std.proofs.Common.{◌≡◌, ℕ, ◌-◌, ◌<◌, List, Option, le
 use Rattle.plan_model.specs.Planning.{Instance, IsInstance, IsShort}
 use Rattle.plan_model.specs.Shown.{IsShownPlan}
 use Rattle.round_arena.specs.declared.tables.Tables.{Tables}
-use Rattle.round_arena.specs.Round.{SamePairs, entries_of, plan_of}
+use Rattle.round_arena.specs.Round.{SamePairs, plan_entries, plan_of}
 use Rattle.level_search.specs.Answered.{evidence}
 use Rattle.level_search.specs.Spread.{IsSettled}
 use Rattle.level_search.proofs.Showing.{Tells, plan_of-is, shown-plan}
@@ -21,7 +21,7 @@ pub shown-settled : (i : Instance) (t u : Tables) (level : ℕ) (set : List ℕ)
     → IsSettled i level u → SamePairs t u → (0 < level → IsShort i (level - 1) set) → entries ≡ plan_of u → short ≡ evidence level set → IsShownPlan i entries level short
 shown-settled i t u level set entries short valid slots settled same lacks copied beside =
     let tells : Tells i u = Tells-settled i level t u slots settled same in
-    let all : entries ≡ entries_of (length i.least) u.slot.now u.owner.now = copied ∙ plan_of-is i u tells in
+    let all : entries ≡ plan_entries (length i.least) u.slot.now u.owner.now = copied ∙ plan_of-is i u tells in
     subst (λ (z : List (ℕ × Option ℕ)). IsShownPlan i z level short) (sym all)
-    (subst (λ (z : Option (List ℕ)). IsShownPlan i (entries_of (length i.least) u.slot.now u.owner.now) level z) (sym beside)
+    (subst (λ (z : Option (List ℕ)). IsShownPlan i (plan_entries (length i.least) u.slot.now u.owner.now) level z) (sym beside)
     (shown-plan i u level set valid tells settled.full settled.met lacks))

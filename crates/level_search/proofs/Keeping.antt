@@ -11,7 +11,7 @@ use Rattle.round_arena.specs.declared.tables.Tables.{Tables}
 use Rattle.round_arena.specs.Input.{cut_plan}
 use Rattle.round_arena.specs.Plan.{IsAssigned, IsCounted, AreWithin, count_on}
 use Rattle.round_arena.specs.Round as round
-use Rattle.round_arena.specs.Round.{SamePairs, entries_of, function_at}
+use Rattle.round_arena.specs.Round.{SamePairs, plan_entries, function_at}
 use Rattle.round_arena.specs.declared.tables.Pairs.{Pairs}
 use Rattle.level_search.specs.declared.bisect.Found.{Found}
 use Rattle.level_search.specs.declared.bisect.Found.TheVariants.{Level, Nothing}
@@ -86,7 +86,7 @@ Tells-now i t sound fits slots = record { sound = sound; fits = fits; slots = sl
 -- the plan of tables with the same workers on the same functions
 pub plan_of-same : (t u : Tables) → SamePairs t u → u.owner.now ≡ t.owner.now → round.plan_of u ≡ round.plan_of t
 plan_of-same t u same e =
-    ap (λ n. entries_of (length n.now) u.slot.now u.owner.now) same.order ∙ ap (λ s. entries_of (length t.order.now) s.now u.owner.now) same.slot ∙ ap (λ o. entries_of (length t.order.now) t.slot.now o) e
+    ap (λ n. plan_entries (length n.now) u.slot.now u.owner.now) same.order ∙ ap (λ s. plan_entries (length t.order.now) s.now u.owner.now) same.slot ∙ ap (λ o. plan_entries (length t.order.now) t.slot.now o) e
 
 Tells-same : (i : Instance) (t u : Tables) → Starts i t → round.IsConsistent (length i.least) u → SamePairs t u → Tells i u
 Tells-same i t u starts sound same = record { sound = sound; fits = Fits-same i t u same starts.fits; slots = ap (λ s. s.now) same.slot ∙ starts.slots }

@@ -12,7 +12,7 @@ use Rattle.plan_model.specs.Shown.{IsShownPlan, IsEvidence}
 use Rattle.plan_model.proofs.Reached.{needs-met, backlog-exact}
 use Rattle.round_arena.specs.declared.tables.Tables.{Tables}
 use Rattle.round_arena.specs.Plan.{count_on}
-use Rattle.round_arena.specs.Round.{entries_of, function_at}
+use Rattle.round_arena.specs.Round.{plan_entries, function_at}
 use Rattle.round_arena.specs.Round as round
 use Rattle.round_arena.proofs.Lists.{order-size}
 use Rattle.round_arena.proofs.Ranges.{range-below}
@@ -38,7 +38,7 @@ assigned-range slot function from (suc many) w distinct low high = elim (cases_e
       ∙ assigned-range slot function (from + 1) many w (λ j k l m. distinct j k l (omega arith)) (omega (arith, ne)) (omega arith)
 ]
 
-pub assigned-entries : (functions : ℕ) (slots owner : List ℕ) (w : ℕ) → IsStrictlyIncreasing slots → w < length slots → assigned (entries_of functions slots owner) (get_or slots w 0) ≡ function_at functions (get_or owner w 0)
+pub assigned-entries : (functions : ℕ) (slots owner : List ℕ) (w : ℕ) → IsStrictlyIncreasing slots → w < length slots → assigned (plan_entries functions slots owner) (get_or slots w 0) ≡ function_at functions (get_or owner w 0)
 assigned-entries functions slots owner w h l =
     assigned-range (λ k. get_or slots k 0) (λ k. function_at functions (get_or owner k 0)) 0 (length slots) w (λ j k m n. apart slots h j k m (omega arith)) (omega arith) (omega arith)
 
@@ -64,11 +64,11 @@ pub record Tells (i : Instance) (t : Tables) : Type 0 where
   pub slots : t.slot.now ≡ map (λ worker. worker.0) i.live
 
 abbrev pub plan_of : Instance → Tables → List (ℕ × Option ℕ)
-plan_of i t = entries_of (length i.least) t.slot.now t.owner.now
+plan_of i t = plan_entries (length i.least) t.slot.now t.owner.now
 
 -- as `round_arena` says it
 pub plan_of-is : (i : Instance) (t : Tables) → Tells i t → round.plan_of t ≡ plan_of i t
-plan_of-is i t h = ap (λ n. entries_of n t.slot.now t.owner.now) (order-size (length i.least) t.order.now h.sound.order)
+plan_of-is i t h = ap (λ n. plan_entries n t.slot.now t.owner.now) (order-size (length i.least) t.order.now h.sound.order)
 
 pub many : (i : Instance) (t : Tables) → Tells i t → length t.slot.now ≡ length i.live
 many i t h = ap length h.slots ∙ length-map i.live (λ worker. worker.0)
@@ -175,7 +175,7 @@ is-evidence i level set h = elim (cases_Bool (eqb level 0)) [
 
 -- the plan of tables that meet the needs of a level, where a set is short one level below
 pub shown-plan : (i : Instance) (t : Tables) (level : ℕ) (set : List ℕ) → IsInstance i → Tells i t → IsFull (length i.least) t → AreMet i t.owner.now level → (0 < level → IsShort i (level - 1) set)
-    → IsShownPlan i (entries_of (length i.least) t.slot.now t.owner.now) level (evidence level set)
+    → IsShownPlan i (plan_entries (length i.least) t.slot.now t.owner.now) level (evidence level set)
 shown-plan i t level set valid h full met short =
     let plan : Assignment = assigned (plan_of i t) in
     let reach = needs-met i plan level (λ f l. omega (arith, met f l, workers_on-is i t h f l)) in

@@ -22,8 +22,8 @@ abbrev pub words_of : List ℕ → List (List ℕ)
 words_of line = slice_split is_space line
 
 -- the same of what stands behind a space, if there is one
-abbrev pub words_in : Option (List ℕ) → List (List ℕ)
-words_in text = option_map_or words_of text []
+abbrev pub words_behind : Option (List ℕ) → List (List ℕ)
+words_behind text = option_map_or words_of text []
 
 -- any word but an empty one
 abbrev pub word_in : List ℕ → Option (List ℕ)

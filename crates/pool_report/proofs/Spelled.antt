@@ -9,7 +9,7 @@ use Rattle.std.proofs.lemmas.List.{take-append-drop}
 use Rattle.std.proofs.lemmas.Slice.Eq.{bytes_eq-Decides}
 use Rattle.pool_settings.specs.Names.{is_name}
 use Rattle.pool_report.specs.Law.{Spells}
-use Rattle.pool_report.specs.Lines.{ReportLine, after, backlog, backlog_in, count_after, head, idle_in, is_worker, keyed, last, line_of, needed, needed_in, no_plan, short, short_in, stranded, stranded_in, task, unserved_in, work_in}
+use Rattle.pool_report.specs.Lines.{ReportLine, after_word, backlog, backlog_in, count_after, head, idle_in, is_worker, keyed, last, line_of, needed, needed_in, no_plan, short, short_in, stranded, stranded_in, task, unserved_in, work_in}
 use Rattle.text_pieces.specs.Lines.{ended}
 use Rattle.text_pieces.specs.Cuts.{cut_last}
 use Rattle.text_pieces.specs.Numbers.{plain_number_below}
@@ -18,7 +18,7 @@ use Rattle.text_pieces.proofs.Digits.{plain_spelled}
 
 -- ---- parts
 
-after_parts : (word line rest : List ℕ) → after word line ≡ Some rest → line ≡ word ++ rest
+after_parts : (word line rest : List ℕ) → after_word word line ≡ Some rest → line ≡ word ++ rest
 after_parts word line rest e = by (bytes_eq (take (length word) line) word) refl
   where
     by : (d : Bool) → bytes_eq (take (length word) line) word ≡ d → line ≡ word ++ rest
@@ -175,10 +175,10 @@ stranded_spelled rest told e = by (cut_last 32 rest) refl
 tried : (word line : List ℕ) (told : ReportLine) (inner : List ℕ → Option ReportLine) (other : Option ReportLine)
     → ((rest : List ℕ) → inner rest ≡ Some told → Spells (ended (word ++ rest)) told)
     → (other ≡ Some told → Spells (ended line) told)
-    → option_map_or inner (after word line) other ≡ Some told → Spells (ended line) told
-tried word line told inner other here there e = by (after word line) refl
+    → option_map_or inner (after_word word line) other ≡ Some told → Spells (ended line) told
+tried word line told inner other here there e = by (after_word word line) refl
   where
-    by : (o : Option (List ℕ)) → after word line ≡ o → Spells (ended line) told
+    by : (o : Option (List ℕ)) → after_word word line ≡ o → Spells (ended line) told
     by None none = there (rw none at e)
     by (Some rest) is = subst (λ t. Spells (ended t) told) (sym (after_parts word line rest is)) (here rest (rw is at e))
 

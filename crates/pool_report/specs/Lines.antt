@@ -20,8 +20,8 @@ pub data ReportLine : Type 0 where
 -- ---- parts of a line
 
 -- what stands behind a word at the start of a line
-abbrev pub after : List ℕ → List ℕ → Option (List ℕ)
-after word line =
+abbrev pub after_word : List ℕ → List ℕ → Option (List ℕ)
+after_word word line =
     if bytes_eq (take (length word) line) word then Some (drop (length word) line) else None
 
 -- a worker's name, `machine/number`
@@ -85,13 +85,13 @@ stranded_in rest = option_map_or stranded_of (cut_last 32 rest) None
 
 abbrev pub keyed : List ℕ → Option ReportLine
 keyed line =
-    option_map_or backlog_in (after (codes "backlog ") line)
-    (option_map_or unserved_in (after (codes "unserved ") line)
-    (option_map_or work_in (after (codes "work ") line)
-    (option_map_or idle_in (after (codes "idle ") line)
-    (option_map_or short_in (after (codes "short need ") line)
-    (option_map_or needed_in (after (codes "in ") line)
-    (option_map_or stranded_in (after (codes "stranded ") line)
+    option_map_or backlog_in (after_word (codes "backlog ") line)
+    (option_map_or unserved_in (after_word (codes "unserved ") line)
+    (option_map_or work_in (after_word (codes "work ") line)
+    (option_map_or idle_in (after_word (codes "idle ") line)
+    (option_map_or short_in (after_word (codes "short need ") line)
+    (option_map_or needed_in (after_word (codes "in ") line)
+    (option_map_or stranded_in (after_word (codes "stranded ") line)
     None))))))
 
 -- what a line tells, if it has the shape of one

@@ -23,7 +23,7 @@ pub enum Line<'t> {
 
 /// What stands behind a word at the start of a line.
 fn after<'t>(word: &[u8], line: &'t [u8]) -> Option<&'t [u8]>
-    ensures { option_map (λ t. t.now) result ≡ spec.after word.now line.now }
+    ensures { option_map (λ t. t.now) result ≡ spec.after_word word.now line.now }
 {
     line.strip_prefix(word)
 }

@@ -235,15 +235,15 @@ listed value =
 abbrev pub names_of : List Entry → List (List ℕ)
 names_of entries = map (λ e. e.0) entries
 
-abbrev pub counts_of : List ℕ → ℕ → List Entry → List ℕ
-counts_of key default entries = map (λ e. count_at key default e.1) entries
+abbrev pub column_of : List ℕ → ℕ → List Entry → List ℕ
+column_of key default entries = map (λ e. count_at key default e.1) entries
 
 abbrev pub rows_of : List (List ℕ) → List Entry → List (List ℕ)
 rows_of functions entries = map (λ e. row_of functions (listed e.1)) entries
 
 -- for each machine the number of its workers
 abbrev pub workers_in : Members → List ℕ
-workers_in tree = counts_of workers_key 0 (entries_at machines_key tree)
+workers_in tree = column_of workers_key 0 (entries_at machines_key tree)
 
 abbrev pub settings_of : Members → Settings
 settings_of tree = record {
@@ -254,8 +254,8 @@ settings_of tree = record {
   lull_ms = unwrap_or (lull_in tree) 0;
   history = unwrap_or (history_in tree) 0;
   functions = names_of (entries_at functions_key tree);
-  least = counts_of least_key 0 (entries_at functions_key tree);
-  most = counts_of most_key (sum (workers_in tree)) (entries_at functions_key tree);
+  least = column_of least_key 0 (entries_at functions_key tree);
+  most = column_of most_key (sum (workers_in tree)) (entries_at functions_key tree);
   machines = names_of (entries_at machines_key tree);
   workers = workers_in tree;
   may = rows_of (names_of (entries_at functions_key tree)) (entries_at machines_key tree);

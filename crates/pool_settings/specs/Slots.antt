@@ -48,15 +48,15 @@ abbrev pub slot_at : Settings → ℕ → ℕ → Option ℕ
 slot_at settings machine number =
     if nat_lt number (slice_index settings.workers machine) then Some (first_slot settings machine + number) else None
 
-abbrev pub slot_in : Settings → List ℕ → ℕ → Option ℕ
-slot_in settings digits machine = option_and_then (slot_at settings machine) (plain_number_below (2 ^ 32) digits)
+abbrev pub slot_of_digits : Settings → List ℕ → ℕ → Option ℕ
+slot_of_digits settings digits machine = option_and_then (slot_at settings machine) (plain_number_below (2 ^ 32) digits)
 
 -- a worker's name cut at its last slash: the machine's name, and the number in digits
 abbrev pub parts_of : List ℕ → Option (List ℕ × List ℕ)
 parts_of name = cut_last 47 name
 
 abbrev pub slot_of_parts : Settings → List ℕ × List ℕ → Option ℕ
-slot_of_parts settings parts = option_and_then (slot_in settings parts.1) (place_of settings.machines parts.0)
+slot_of_parts settings parts = option_and_then (slot_of_digits settings parts.1) (place_of settings.machines parts.0)
 
 -- the slot of a worker's name
 abbrev pub slot_named : Settings → List ℕ → Option ℕ

@@ -5,7 +5,7 @@ ghost use Rattle.std.specs.Option.{option_map_or};
 ghost use Rattle.std.specs.List.{list_all};
 ghost use Rattle.toml.specs.Data.{as_str};
 ghost use Rattle.toml.specs.View.{array_view, table_view, view};
-ghost use Rattle.pool_settings.specs.Entries.{Finds, entries_if, shown};
+ghost use Rattle.pool_settings.specs.Entries.{AnswersAs, entries_if, shown};
 ghost use Rattle.pool_settings.specs.Place as places;
 ghost use Rattle.pool_settings.specs.Reading as spec;
 ghost use Rattle.pool_settings.specs.Tree.{Entry, values_of};
@@ -30,7 +30,7 @@ pub fn first_in<'t, F>(table: Option<&'t Table>, check: F) -> Option<Place<&'t s
 where
     F: Fn(&'t str, &'t Value) -> Option<Place<&'t str>>,
     requires { F.IsAlwaysCallable check }
-    ensures { (find : Entry → Option spec.Where) → Finds (F.post check) find → shown result ≡ places.first_in find (entries_if table.entry) }
+    ensures { (find : Entry → Option spec.Where) → AnswersAs (F.post check) find → shown result ≡ places.first_in find (entries_if table.entry) }
 {
     let entries = table?;
     for (key, value) in entries {
@@ -307,7 +307,7 @@ fn bad_table<'t, F>(tree: &'t Table, key: &'t str, check: F) -> Option<Place<&'t
 where
     F: Fn(&'t str, &'t Value) -> Option<Place<&'t str>>,
     requires { F.IsAlwaysCallable check }
-    ensures { (find : Entry → Option spec.Where) → Finds (F.post check) find → shown result ≡ spec.bad_table key.now find (table_view tree.now) }
+    ensures { (find : Entry → Option spec.Where) → AnswersAs (F.post check) find → shown result ≡ spec.bad_table key.now find (table_view tree.now) }
 {
     match table_at(tree, key) {
         Some(table) => first_in(Some(table), check),

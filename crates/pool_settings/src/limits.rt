@@ -69,7 +69,7 @@ fn count_of(table: Option<&Table>) -> usize
 }
 
 fn table_workers_fit(table: &Table) -> bool
-    ensures { result ≡ nat_le (sum (spec.counts_of spec.workers_key 0 (table_entries table.now))) 4096 }
+    ensures { result ≡ nat_le (sum (spec.column_of spec.workers_key 0 (table_entries table.now))) 4096 }
 {
     let mut total = 0;
     for (_name, machine) in table {
@@ -82,7 +82,7 @@ fn table_workers_fit(table: &Table) -> bool
 }
 
 fn workers_fit(table: Option<&Table>) -> bool
-    ensures { result ≡ nat_le (sum (spec.counts_of spec.workers_key 0 (entries_if table.entry))) 4096 }
+    ensures { result ≡ nat_le (sum (spec.column_of spec.workers_key 0 (entries_if table.entry))) 4096 }
 {
     match table {
         Some(table) => table_workers_fit(table),

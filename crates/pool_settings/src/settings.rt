@@ -431,7 +431,7 @@ impl Settings {
     /// The slot of a machine's worker, by the digits of its number.
     fn slot_in(&self, machine: MachineId, digits: &[u8]) -> Option<SlotId>
         requires { machine < length self.now.machines }
-        ensures all { result ≡ slots.slot_in self.now digits.now machine }
+        ensures all { result ≡ slots.slot_of_digits self.now digits.now machine }
         ensures there { IfSome result (λ s. s < slots.slots self.now) }
         ensures few { IfSome result (λ s. s < 4096) }
     {

@@ -36,9 +36,9 @@ abbrev pub function_at : ℕ → ℕ → Option ℕ
 function_at functions f = if nat_lt f functions then Some f else None
 
 -- Each worker by its slot, with its function.
-abbrev pub entries_of : ℕ → List ℕ → List ℕ → List (ℕ × Option ℕ)
-entries_of functions slots owner = map (λ w. (slice_index slots w, function_at functions (slice_index owner w))) (range_with_len 0 (length slots))
+abbrev pub plan_entries : ℕ → List ℕ → List ℕ → List (ℕ × Option ℕ)
+plan_entries functions slots owner = map (λ w. (slice_index slots w, function_at functions (slice_index owner w))) (range_with_len 0 (length slots))
 
 -- The plan that the tables hold: it lists each worker.
 abbrev pub plan_of : Tables → List (ℕ × Option ℕ)
-plan_of t = entries_of (length t.order.now) t.slot.now t.owner.now
+plan_of t = plan_entries (length t.order.now) t.slot.now t.owner.now

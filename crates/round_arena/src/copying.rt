@@ -1,7 +1,7 @@
 //! The plan of the tables, copied out of the arena.
 
 ghost use Rattle.std.specs.Prelude.{◌≡◌, ℕ, length, IfOk};
-ghost use Rattle.round_arena.specs.Round.{IsConsistent, entries_of, function_at, plan_of};
+ghost use Rattle.round_arena.specs.Round.{IsConsistent, plan_entries, function_at, plan_of};
 
 use crate::tables::Tables;
 use plan_model::{FuncId, Plan, SlotId};
@@ -25,7 +25,7 @@ fn copy_entries(
     functions: usize,
 ) -> Result<Vec<(SlotId, Option<FuncId>)>, AllocError>
     requires { length slots.now ≡ length owner.now }
-    ensures { IfOk result (λ entries. entries.items ≡ entries_of functions slots.now owner.now) }
+    ensures { IfOk result (λ entries. entries.items ≡ plan_entries functions slots.now owner.now) }
 {
     let mut entries = Vec::new(alloc);
     for w in 0..slots.len() {

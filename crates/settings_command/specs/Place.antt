@@ -36,5 +36,5 @@ place_words (place.EntryKey section name key) = entry_words section name ++ code
 place_words (place.Listed machine function) = listed_words machine function
 place_words (place.Count counted) = counted_name counted
 
-abbrev pub place_line : Place (List ℕ) → List ℕ
-place_line at = codes "at " ++ place_words at ++ 10 ∷ []
+abbrev pub line_of_place : Place (List ℕ) → List ℕ
+line_of_place at = codes "at " ++ place_words at ++ 10 ∷ []

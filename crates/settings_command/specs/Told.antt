@@ -11,7 +11,7 @@ use Rattle.pool_settings.specs.Settings.{Settings}
 use Rattle.pool_settings.specs.Reading.{Where, reading, tree_of}
 use Rattle.pool_settings.specs.declared.error.SettingsError.{SettingsError}
 use Rattle.settings_command.specs.Meaning.{meaning}
-use Rattle.settings_command.specs.Place.{place_line}
+use Rattle.settings_command.specs.Place.{line_of_place}
 
 -- What the settings mean is written, of which the file gives the keys of this tree. Or memory is refused, and nothing is written.
 abbrev pub Means : Members → Settings → Output → Output → Exit → Type 0
@@ -24,7 +24,7 @@ Explains file settings old new exit =
 
 -- The text is the line that tells the place where this first fault of the file is.
 abbrev pub IsPlaceLine : List ℕ → SettingsError → List ℕ → Type 0
-IsPlaceLine file e text = (place : Where) × IsFoundIn file (Some (e, place)) × (text ≡ place_line place)
+IsPlaceLine file e text = (place : Where) × IsFoundIn file (Some (e, place)) × (text ≡ line_of_place place)
 
 -- Where this first fault of the file is is written, and the command ends by the fault. Or memory is refused, and nothing is written.
 abbrev pub Locates : List ℕ → SettingsError → Output → Output → Exit → Type 0

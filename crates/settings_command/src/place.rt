@@ -91,7 +91,7 @@ fn push_place(out: &mut String, place: &Place<String>) -> Result<(), AllocError>
 /// no function, or what there are too many of. Each key and each name is written as TOML writes a key, so that the line stays one
 /// line. The only error is want of memory.
 pub fn place_text(alloc: Global, place: &Place<String>) -> Result<String, AllocError>
-    ensures { IfOk result (λ text. string_bytes text ≡ spec.place_line (place_view string_bytes place.now)) }
+    ensures { IfOk result (λ text. string_bytes text ≡ spec.line_of_place (place_view string_bytes place.now)) }
 {
     let mut out = String::new(alloc);
     out.push_str("at ")?;

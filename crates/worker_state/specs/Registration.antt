@@ -3,7 +3,7 @@ use Rattle.std.specs.Prelude.{◌≡◌, ℕ, ◌≤◌, List, [], ◌∷◌, le
 use Rattle.std.specs.Option.{option_map, option_to_list}
 use Rattle.std.specs.Borrow.{Bor}
 use Rattle.gear_packets.specs.Request.{Packet, can_do, cant_do}
-use Rattle.gear_packets.specs.Text.{is_name, register}
+use Rattle.gear_packets.specs.Text.{is_same_name, register}
 
 -- the name behind a reference
 abbrev pub seen_name : Option (Bor (List ℕ)) → Option (List ℕ)
@@ -15,7 +15,7 @@ change_of None None = None ∷ None ∷ []
 change_of None (Some to) = None ∷ Some (can_do to) ∷ []
 change_of (Some from) None = Some (cant_do from) ∷ None ∷ []
 change_of (Some from) (Some to) =
-    if is_name from to then None ∷ None ∷ [] else Some (cant_do from) ∷ Some (can_do to) ∷ []
+    if is_same_name from to then None ∷ None ∷ [] else Some (cant_do from) ∷ Some (can_do to) ∷ []
 
 -- the functions that are registered after a packet, or after none
 abbrev pub registered_after : List (List ℕ) → Option Packet → List (List ℕ)

@@ -5,7 +5,7 @@ use Rattle.gear_status.specs.Sides.{and_then}
 use Rattle.job_runner.specs.declared.run.State.{State}
 use Rattle.job_runner.specs.declared.end.EndCause.TheVariants.{Memory}
 use Rattle.job_runner.specs.Course.{IsAccepted, Sends, Ends}
-use Rattle.job_runner.specs.Run.{Holds}
+use Rattle.job_runner.specs.Run.{AreAnswered}
 use Rattle.job_runner.specs.Loop.{duty_of}
 use Rattle.job_runner.proofs.Turning.{introduced, not_introduced}
 use Rattle.job_runner.proofs.serving.begin.Goals as goal
@@ -27,7 +27,7 @@ returns-in-Ok-send-clause-acts g c = λ told.
     let text = text_of (set_client_id duty.worker ∷ []) in
     let named = c.as_bytes.ensures.value ∙ c.in-Ok.ensures.text in
     let start = introduced duty old new book (subst (λ (t : List ℕ). Sends old new (set_client_id t ∷ []) (Ok tt)) named c.in-Ok-send.ensures.sends) c.requires.fresh in
-    c.follow.ensures.acts duty old text [] refl start.0 (subst (λ (s : State). Holds duty text [] s book) (sym c.requires.first) start.1)
+    c.follow.ensures.acts duty old text [] refl start.0 (subst (λ (s : State). AreAnswered duty text [] s book) (sym c.requires.first) start.1)
 
 pub returns-clause-acts : goal.returns-clause-acts
 returns-clause-acts g c = λ told.

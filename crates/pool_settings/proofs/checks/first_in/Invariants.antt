@@ -1,5 +1,5 @@
 use Rattle.std.proofs.Common.{◌≡◌, Option}
-use Rattle.pool_settings.specs.Entries.{Finds, entries_if, entries_view}
+use Rattle.pool_settings.specs.Entries.{AnswersAs, entries_if, entries_view}
 use Rattle.pool_settings.specs.Place.{first_in}
 use Rattle.pool_settings.specs.Reading.{Where}
 use Rattle.pool_settings.specs.Tree.{Entry}
@@ -9,4 +9,4 @@ use Rattle.pool_settings.proofs.checks.first_in.Given as goal
 abbrev pub invariant-loop-key : goal.invariant-loop-key
 invariant-loop-key g l =
     goal.F-IsAlwaysCallable g l.check
-    × ((find : Entry → Option Where) → Finds (goal.F-post g l.check) find → first_in find (entries_view l.key-iterator) ≡ first_in find (entries_if l.table))
+    × ((find : Entry → Option Where) → AnswersAs (goal.F-post g l.check) find → first_in find (entries_view l.key-iterator) ≡ first_in find (entries_if l.table))

@@ -22,8 +22,8 @@ pub new-requires-clause-few : goal.new-requires-clause-few
 new-requires-clause-few c =
     let tree = table_view c.args.tree.now in
     let room = room_of tree (passes tree c.requires.passes) in
-    let same : c.in_ok-workers.workers.items ≡ spec.counts_of spec.workers_key 0 (entries_at spec.machines_key tree) =
-    c.in_ok-workers.ensures ∙ ap (spec.counts_of spec.workers_key 0) c.requires.machines in
+    let same : c.in_ok-workers.workers.items ≡ spec.column_of spec.workers_key 0 (entries_at spec.machines_key tree) =
+    c.in_ok-workers.ensures ∙ ap (spec.column_of spec.workers_key 0) c.requires.machines in
     subst (λ (ws : List ℕ). sum ws ≤ 4096) (sym same) room.workers
 
 pub new-requires-clause-machines : goal.new-requires-clause-machines
@@ -31,22 +31,22 @@ new-requires-clause-machines c =
     let tree = table_view c.args.tree.now in
     let room = room_of tree (passes tree c.requires.passes) in
     let many : length c.in_ok-workers.workers.items ≡ length (entries_at spec.machines_key tree) =
-    ap length (c.in_ok-workers.ensures ∙ ap (spec.counts_of spec.workers_key 0) c.requires.machines) ∙ length-map (entries_at spec.machines_key tree) (λ e. spec.count_at spec.workers_key 0 e.1) in
+    ap length (c.in_ok-workers.ensures ∙ ap (spec.column_of spec.workers_key 0) c.requires.machines) ∙ length-map (entries_at spec.machines_key tree) (λ e. spec.count_at spec.workers_key 0 e.1) in
     omega (arith, many, room.machines)
 
 -- a function that has none may have all workers
 abbrev MostRead : goal.After-unwrap_or-6 → Type 0
 MostRead c =
     let tree = table_view c.args.tree.now in
-    c.in_ok-most.most.items ≡ spec.counts_of spec.most_key (sum (spec.workers_in tree)) (entries_at spec.functions_key tree)
+    c.in_ok-most.most.items ≡ spec.column_of spec.most_key (sum (spec.workers_in tree)) (entries_at spec.functions_key tree)
 
 most_read : (c : goal.After-unwrap_or-6) → MostRead c
 most_read c =
     let tree = table_view c.args.tree.now in
-    let workers : c.in_ok-workers.workers.items ≡ spec.workers_in tree = c.in_ok-workers.ensures ∙ ap (spec.counts_of spec.workers_key 0) c.requires.machines in
+    let workers : c.in_ok-workers.workers.items ≡ spec.workers_in tree = c.in_ok-workers.ensures ∙ ap (spec.column_of spec.workers_key 0) c.requires.machines in
     let all : c.len.result ≡ sum (spec.workers_in tree) = c.len.ensures.all ∙ ap sum c.in_ok-slots.ensures ∙ ap sum workers in
-    c.in_ok-most.ensures ∙ ap (λ (n : ℕ). spec.counts_of spec.most_key n (table_entries c.args.functions.now)) all
-    ∙ ap (spec.counts_of spec.most_key (sum (spec.workers_in tree))) c.requires.functions
+    c.in_ok-most.ensures ∙ ap (λ (n : ℕ). spec.column_of spec.most_key n (table_entries c.args.functions.now)) all
+    ∙ ap (spec.column_of spec.most_key (sum (spec.workers_in tree))) c.requires.functions
 
 -- what is made
 abbrev made : goal.After-unwrap_or-6 → Settings

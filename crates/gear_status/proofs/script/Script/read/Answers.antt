@@ -2,7 +2,7 @@ use Rattle.std.proofs.Common.{◌≡◌, ◌<◌, ◌-◌, ◌∙◌, arith, dro
 use Rattle.text_pieces.proofs.Cutting.{rest_taken}
 use Rattle.gear_status.proofs.Scripts.{due_is, part_read, pieces_count, whole_read}
 use Rattle.gear_status.specs.Played.{play_view}
-use Rattle.gear_status.specs.Script.{due}
+use Rattle.gear_status.specs.Script.{next_piece}
 use Rattle.gear_status.proofs.script.Script.read.Goals as goal
 
 pub returns-then-count-left : goal.returns-then-count-left
@@ -11,7 +11,7 @@ returns-then-count-left c =
     let piece = c.as_slice-piece.result.now in
     let at = c.self.inside.at in
     let within : c.self.inside.next < length c.self.inside.pieces.items = omega (arith, c.if-self-len.false, c.len.ensures, c.self.invariant.followed, pieces_count c.self.inside.pieces.items) in
-    let is : due old ≡ piece = due_is c.self.inside.pieces.items c.self.inside.next c.index.result.now within c.index.ensures ∙ sym c.as_slice-piece.ensures.value in
+    let is : next_piece old ≡ piece = due_is c.self.inside.pieces.items c.self.inside.next c.index.result.now within c.index.ensures ∙ sym c.as_slice-piece.ensures.value in
     let some : 0 < length piece = grind (arith, c.is_empty.ensures) in
     let begun = subst (λ p. 0 < at → at < length p) is c.self.invariant.begun in
     let left : 0 < length (take (length piece - at) (drop at piece)) = grind (arith, rest_taken at piece, length-drop, begun, some) in
@@ -27,7 +27,7 @@ returns c =
     let piece = c.as_slice-piece.result.now in
     let at = c.self.inside.at in
     let within : c.self.inside.next < length c.self.inside.pieces.items = omega (arith, c.if-self-len.false, c.len.ensures, c.self.invariant.followed, pieces_count c.self.inside.pieces.items) in
-    let is : due old ≡ piece = due_is c.self.inside.pieces.items c.self.inside.next c.index.result.now within c.index.ensures ∙ sym c.as_slice-piece.ensures.value in
+    let is : next_piece old ≡ piece = due_is c.self.inside.pieces.items c.self.inside.next c.index.result.now within c.index.ensures ∙ sym c.as_slice-piece.ensures.value in
     let some : 0 < length piece = grind (arith, c.is_empty.ensures) in
     let begun = subst (λ p. 0 < at → at < length p) is c.self.invariant.begun in
     let left : 0 < length (take (length piece - at) (drop at piece)) = grind (arith, rest_taken at piece, length-drop, begun, some) in
