@@ -3,7 +3,7 @@
 ghost use Rattle.std.specs.Prelude.{◌≡◌};
 ghost use Rattle.gear_status.specs.StatusRefusals as spec;
 
-use refusal::{Label, Labelled, Refusal};
+use refusal::{Label, Labelled};
 use std::alloc::{AllocError, AllocFailed};
 use thiserror::Error;
 
@@ -52,12 +52,6 @@ impl Labelled for StatusError {
             StatusError::Memory => Label::new(7, "Memory"),
         }
     }
-}
-
-impl Refusal for StatusError {
-    ghost use Rattle.gear_status.specs.StatusRefusals.{is_status_memory};
-
-    ghost is_memory = { is_status_memory };
 }
 
 impl StatusError {

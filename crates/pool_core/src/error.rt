@@ -3,7 +3,7 @@
 
 ghost use Rattle.std.specs.Prelude.{◌≡◌};
 
-use refusal::{Label, Labelled, Refusal};
+use refusal::{Label, Labelled};
 use std::alloc::AllocError;
 use thiserror::Error;
 
@@ -39,12 +39,6 @@ impl Labelled for JoinError {
     }
 }
 
-impl Refusal for JoinError {
-    ghost use Rattle.pool_core.specs.CallRefusals.{is_join_memory};
-
-    ghost is_memory = { is_join_memory };
-}
-
 /// Why a load was not taken.
 #[derive(Clone, Copy, Debug, PartialEq, Eq, Error)]
 pub enum LoadError {
@@ -67,12 +61,6 @@ impl Labelled for LoadError {
             LoadError::Memory => Label::new(2, "Memory"),
         }
     }
-}
-
-impl Refusal for LoadError {
-    ghost use Rattle.pool_core.specs.CallRefusals.{is_load_memory};
-
-    ghost is_memory = { is_load_memory };
 }
 
 /// Why no round was made.
@@ -103,12 +91,6 @@ impl Labelled for RoundError {
     }
 }
 
-impl Refusal for RoundError {
-    ghost use Rattle.pool_core.specs.CallRefusals.{is_round_memory};
-
-    ghost is_memory = { is_round_memory };
-}
-
 /// Why there is nothing to plan for.
 #[derive(Clone, Copy, Debug, PartialEq, Eq, Error)]
 pub enum ViewError {
@@ -131,12 +113,6 @@ impl Labelled for ViewError {
             ViewError::Memory => Label::new(2, "Memory"),
         }
     }
-}
-
-impl Refusal for ViewError {
-    ghost use Rattle.pool_core.specs.CallRefusals.{is_view_memory};
-
-    ghost is_memory = { is_view_memory };
 }
 
 /// Why an answer was not adopted.
@@ -171,12 +147,6 @@ impl Labelled for AdoptError {
     }
 }
 
-impl Refusal for AdoptError {
-    ghost use Rattle.pool_core.specs.CallRefusals.{is_adopt_memory};
-
-    ghost is_memory = { is_adopt_memory };
-}
-
 /// Why a job was not booked.
 #[derive(Clone, Copy, Debug, PartialEq, Eq, Error)]
 pub enum GrabError {
@@ -209,12 +179,6 @@ impl Labelled for GrabError {
     }
 }
 
-impl Refusal for GrabError {
-    ghost use Rattle.pool_core.specs.CallRefusals.{is_grab_memory};
-
-    ghost is_memory = { is_grab_memory };
-}
-
 /// Why a report may not begin.
 #[derive(Clone, Copy, Debug, PartialEq, Eq, Error)]
 pub enum BeginError {
@@ -241,12 +205,6 @@ impl Labelled for BeginError {
             BeginError::AlreadyReporting => Label::new(3, "AlreadyReporting"),
         }
     }
-}
-
-impl Refusal for BeginError {
-    ghost use Rattle.refusal.specs.Label.{never};
-
-    ghost is_memory = { never };
 }
 
 /// Why a report was not taken.
@@ -277,12 +235,6 @@ impl Labelled for ReportError {
     }
 }
 
-impl Refusal for ReportError {
-    ghost use Rattle.refusal.specs.Label.{never};
-
-    ghost is_memory = { never };
-}
-
 /// Why a worker was not lost.
 #[derive(Clone, Copy, Debug, PartialEq, Eq, Error)]
 pub enum LoseError {
@@ -301,12 +253,6 @@ impl Labelled for LoseError {
             LoseError::Gone => Label::new(1, "Gone"),
         }
     }
-}
-
-impl Refusal for LoseError {
-    ghost use Rattle.refusal.specs.Label.{never};
-
-    ghost is_memory = { never };
 }
 
 /// Why a worker was not expired.
@@ -341,12 +287,6 @@ impl Labelled for ExpireError {
     }
 }
 
-impl Refusal for ExpireError {
-    ghost use Rattle.refusal.specs.Label.{never};
-
-    ghost is_memory = { never };
-}
-
 /// Why no chapter ended.
 #[derive(Clone, Copy, Debug, PartialEq, Eq, Error)]
 pub enum ChapterError {
@@ -369,12 +309,6 @@ impl Labelled for ChapterError {
             ChapterError::Memory => Label::new(2, "Memory"),
         }
     }
-}
-
-impl Refusal for ChapterError {
-    ghost use Rattle.pool_core.specs.CallRefusals.{is_chapter_memory};
-
-    ghost is_memory = { is_chapter_memory };
 }
 
 impl From<AllocError> for JoinError {

@@ -9,7 +9,7 @@ use pool_core::{
     ViewError,
 };
 use pool_settings::Settings;
-use refusal::{Label, Labelled, Refusal};
+use refusal::{Label, Labelled};
 use std::alloc::{AllocError, Global};
 use std::fmt::Write;
 use worker_state::{EndKind, Order, Standing, Ticket, What, WorkerName};
@@ -63,11 +63,11 @@ pub fn join_line(
 }
 
 /// `ok`, or the refusal.
-pub fn ok_line<E: Refusal + Copy>(
+pub fn ok_line<E: Labelled + Copy>(
     alloc: Global,
     answer: Result<(), E>,
 ) -> Result<String, AllocError>
-    ensures { IfOk result (λ s. string_bytes s ≡ spec.ok_line E.Labelled.label answer) }
+    ensures { IfOk result (λ s. string_bytes s ≡ spec.ok_line E.label answer) }
 {
     match answer {
         Ok(()) => String::from_str(alloc, "ok"),
@@ -129,11 +129,11 @@ fn ran_line(alloc: Global, ran: &Ran) -> Result<String, AllocError>
 }
 
 /// What a round tells, or the refusal.
-pub fn ran_or<E: Refusal + Copy>(
+pub fn ran_or<E: Labelled + Copy>(
     alloc: Global,
     answer: Result<Ran, E>,
 ) -> Result<String, AllocError>
-    ensures { IfOk result (λ s. string_bytes s ≡ spec.ran_or E.Labelled.label answer) }
+    ensures { IfOk result (λ s. string_bytes s ≡ spec.ran_or E.label answer) }
 {
     match answer {
         Ok(ran) => ran_line(alloc, &ran),

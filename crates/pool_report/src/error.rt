@@ -3,7 +3,7 @@
 ghost use Rattle.std.specs.Prelude.{◌≡◌};
 ghost use Rattle.pool_report.specs.ReportRefusals as spec;
 
-use refusal::{Label, Labelled, Refusal};
+use refusal::{Label, Labelled};
 use thiserror::Error;
 
 /// Why a report is not taken. Lines are counted from 1, each with the line feed that ends it, and the first
@@ -40,12 +40,6 @@ impl Labelled for ReadError {
             ReadError::Memory => Label::new(4, "Memory"),
         }
     }
-}
-
-impl Refusal for ReadError {
-    ghost use Rattle.pool_report.specs.ReportRefusals.{is_read_memory};
-
-    ghost is_memory = { is_read_memory };
 }
 
 impl ReadError {

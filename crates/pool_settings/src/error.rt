@@ -2,7 +2,7 @@
 
 ghost use Rattle.std.specs.Prelude.{◌≡◌};
 
-use refusal::{Label, Labelled, Refusal};
+use refusal::{Label, Labelled};
 use std::alloc::AllocError;
 use thiserror::Error;
 
@@ -57,12 +57,6 @@ impl Labelled for SettingsError {
             SettingsError::Memory => Label::new(9, "Memory"),
         }
     }
-}
-
-impl Refusal for SettingsError {
-    ghost use Rattle.pool_settings.specs.SettingsRefusals.{is_settings_memory};
-
-    ghost is_memory = { is_settings_memory };
 }
 
 impl From<AllocError> for SettingsError {

@@ -1,5 +1,5 @@
 //! Labels, and what has one.
-ghost use Rattle.std.specs.Prelude.{◌≡◌, Bool};
+ghost use Rattle.std.specs.Prelude.{◌≡◌};
 ghost use Rattle.refusal.specs.Label.{Label};
 
 use std::marker::Model;
@@ -50,10 +50,4 @@ pub trait Labelled {
     /// The number and the name of this value.
     fn label(&self) -> Label
         ensures { result ≡ label self.now };
-}
-
-/// Why a call was refused. Where more than one refusal is true of a call, the first is answered, and nothing has changed.
-pub trait Refusal: Labelled {
-    /// Which value says that there was no memory. That is no refusal of what was asked for: the same call may succeed later.
-    ghost is_memory: { Self → Bool };
 }

@@ -25,15 +25,8 @@ impl Labelled for Closed {
     }
 }
 
-impl Refusal for Closed {
-    ghost use Rattle.std.specs.Prelude.{true, false};
-    ghost use Rattle.refusal.specs.declared.tests.Closed.TheVariants.{Locked, Memory};
-
-    ghost is_memory = { elim [ Locked ↦ false | Memory ↦ true ] };
-}
-
-fn number_of<R: Refusal>(refusal: &R) -> u32
-    ensures { result ≡ (R.Labelled.label refusal.now).number }
+fn number_of<R: Labelled>(refusal: &R) -> u32
+    ensures { result ≡ (R.label refusal.now).number }
 {
     refusal.label().number()
 }
