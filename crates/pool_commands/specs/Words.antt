@@ -1,5 +1,6 @@
 -- The words of a command line, and what a single word says.
-use Rattle.std.specs.Prelude.{ℕ, ◌^◌, ◌==◌, List, [], length, Bool, ◌&&◌, nat_le, nat_lt, is_none, Option, Some, None, option_map, if◌then◌else◌, codes}
+use Rattle.std.specs.Prelude.{ℕ, ◌^◌, ◌==◌, List, [], length, Bool, ◌&&◌, nat_le, nat_lt, is_none, Option}
+use Rattle.std.specs.Prelude.{Some, None, option_map, if◌then◌else◌, codes}
 use Rattle.std.specs.List.{slice_split}
 use Rattle.std.specs.Option.{option_and_then, option_map_or}
 use Rattle.std.specs.Str.{bytes_eq}

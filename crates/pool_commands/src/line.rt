@@ -42,7 +42,8 @@ fn cut_entry(text: &[u8]) -> Option<(Entry<'_>, Option<&[u8]>)>
     ensures entry { MatchOption result
         ((load : List Line) → grammar.load_from load (spec.words_of text.now) ≡ None)
         (λ cut. (load : List Line) → grammar.load_from load (spec.words_of text.now)
-        ≡ grammar.load_from (put load (cut.0.name.now, record { total = cut.0.total; running = cut.0.running; workers = 0 })) (spec.words_behind (option_map (λ t. t.now) cut.1))) }
+        ≡ grammar.load_from (put load (cut.0.name.now, record { total = cut.0.total; running = cut.0.running; workers = 0 }))
+        (spec.words_behind (option_map (λ t. t.now) cut.1))) }
     ensures shorter { IfSome result (λ cut. IfSome cut.1 (λ t. length t.now < length text.now)) }
 {
     let (name, rest) = cut_word(text);

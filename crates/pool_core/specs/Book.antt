@@ -1,5 +1,6 @@
 -- What contracts see of a pool, and what its calls answer.
-use Rattle.std.specs.Prelude.{◌≡◌, ℕ, ◌+◌, ◌&&◌, nat_lt, nat_le, List, [], ◌∷◌, ◌++◌, length, Option, None, Some, Result, Ok, Err, is_some, Bool, true, false, not, if◌then◌else◌, slice_index, count_by, IfSome}
+use Rattle.std.specs.Prelude.{◌≡◌, ℕ, ◌+◌, ◌&&◌, nat_lt, nat_le, List, [], ◌∷◌, ◌++◌, length, Option, None, Some, Result, Ok, Err, is_some}
+use Rattle.std.specs.Prelude.{Bool, true, false, not, if◌then◌else◌, slice_index, count_by, IfSome}
 use Rattle.pool_settings.specs.Settings.{Settings}
 use Rattle.worker_state.specs.declared.slot.Slot.{Slot}
 use Rattle.worker_state.specs.declared.order.Order.{Order}
@@ -39,7 +40,8 @@ use Rattle.pool_core.specs.declared.error.ExpireError.{ExpireError}
 use Rattle.pool_core.specs.declared.error.ExpireError.TheVariants as expire
 use Rattle.pool_core.specs.declared.answer.StayOrRetire.{StayOrRetire}
 use Rattle.pool_core.specs.declared.answer.StayOrRetire.TheVariants.{Stay, Retire}
-use Rattle.pool_core.specs.Machine.{State, slot_in, has_open, is_live_in, open_ticket, standing_in, IsPossible, after, owed, same_what, input_of, orders_from}
+use Rattle.pool_core.specs.Machine.{State, slot_in, has_open, is_live_in, open_ticket, standing_in, IsPossible}
+use Rattle.pool_core.specs.Machine.{after, owed, same_what, input_of, orders_from}
 
 -- The value of a pool: what the settings say, its history, and its state.
 pub record Book : Type 0 where

@@ -31,7 +31,9 @@ use Rattle.pool_core.specs.declared.error.ChapterError.{ChapterError}
 use Rattle.pool_core.specs.CallRefusals.{is_join_memory, is_load_memory, is_round_memory, is_view_memory, is_grab_memory, is_chapter_memory}
 use Rattle.pool_core.specs.Machine.{slot_in, next_ticket}
 use Rattle.pool_core.specs.Kept.{IsChapter}
-use Rattle.pool_core.specs.Book.{Book, IsStep, IsInputOf, KeepsPlan, has_round, join_refusal, load_refusal, round_refusal, view_refusal, grab_refusal, begin_refusal, report_refusal, lose_refusal, expire_refusal, chapter_refusal, stay_or_retire, ran_of, next_chapter}
+use Rattle.pool_core.specs.Book.{Book, IsStep, IsInputOf, KeepsPlan, has_round, join_refusal, load_refusal, round_refusal, view_refusal}
+use Rattle.pool_core.specs.Book.{grab_refusal, begin_refusal, report_refusal, lose_refusal, expire_refusal, chapter_refusal, stay_or_retire}
+use Rattle.pool_core.specs.Book.{ran_of, next_chapter}
 
 -- The call is this event, or it is refused and changes nothing.
 abbrev pub Makes : {A E : Type 0} → Event → Book → Book → Result A E → Type 0

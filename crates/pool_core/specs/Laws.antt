@@ -1,6 +1,7 @@
 -- What holds of every history.
 use Rattle.gear_status.specs.Status.{Line}
-use Rattle.std.specs.Prelude.{◌≡◌, ℕ, ◌+◌, ◌-◌, ◌<◌, ◌≤◌, ◌==◌, List, [], ◌∷◌, ◌++◌, length, Option, None, Some, ◌⊎◌, Bool, true, false, IsTrue, if◌then◌else◌, slice_get, slice_index_or, count_by}
+use Rattle.std.specs.Prelude.{◌≡◌, ℕ, ◌+◌, ◌-◌, ◌<◌, ◌≤◌, ◌==◌, List, [], ◌∷◌, ◌++◌, length, Option, None, Some, ◌⊎◌, Bool, true}
+use Rattle.std.specs.Prelude.{false, IsTrue, if◌then◌else◌, slice_get, slice_index_or, count_by}
 use Rattle.std.specs.List.{filter_map, flat_map}
 use Rattle.pool_settings.specs.Settings.{Settings, AreSettings}
 use Rattle.plan_model.specs.declared.answer.Answer.{Answer}
@@ -20,7 +21,8 @@ use Rattle.pool_core.specs.declared.event.Job.{Job}
 use Rattle.pool_core.specs.declared.event.Event.{Event}
 use Rattle.pool_core.specs.declared.event.Event.TheVariants as event
 use Rattle.pool_core.specs.Kept.{IsBase, IsSoundState}
-use Rattle.pool_core.specs.Machine.{State, first, slot_in, standing_in, is_live_in, open_ticket, what_of, input_of, after_round, replay, IsHistory, IsReplay}
+use Rattle.pool_core.specs.Machine.{State, first, slot_in, standing_in, is_live_in, open_ticket, what_of, input_of}
+use Rattle.pool_core.specs.Machine.{after_round, replay, IsHistory, IsReplay}
 use Rattle.pool_core.specs.Book.{Book, IsStep, next_chapter, totals_of}
 
 -- the generation of the next worker of a slot

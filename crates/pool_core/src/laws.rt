@@ -1,5 +1,7 @@
 //! Laws over every history: contracts of functions that do nothing.
-ghost use Rattle.pool_core.specs.Laws.{HistoriesExtend, HistoriesAreSound, HistoriesCount, ChaptersCount, JobsAreBookedOnce, JobsAreLostWithTheirWorkers, JobsAreAccountedFor, WorkersAreNew, RoundsAreShown, RoundsOrder, HistoriesJoin, HistoriesCut, BasesAreSound, EventsCount, CallsReplay};
+ghost use Rattle.pool_core.specs.Laws.{HistoriesExtend, HistoriesAreSound, HistoriesCount, ChaptersCount, JobsAreBookedOnce};
+ghost use Rattle.pool_core.specs.Laws.{JobsAreLostWithTheirWorkers, JobsAreAccountedFor, WorkersAreNew, RoundsAreShown, RoundsOrder};
+ghost use Rattle.pool_core.specs.Laws.{HistoriesJoin, HistoriesCut, BasesAreSound, EventsCount, CallsReplay};
 
 use crate::pool::Pool;
 

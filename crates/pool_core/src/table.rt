@@ -1,7 +1,9 @@
 //! Reads and writes of the tables by slot and by ticket.
-ghost use Rattle.std.specs.Prelude.{◌≡◌, ◌+◌, ◌-◌, ◌^◌, ◌<◌, ◌≤◌, ℕ, slice_set, slice_index, length, vec_len, vec_capacity, if◌then◌else◌, IfSome, IfOk, OnOk, replicate};
-ghost use Rattle.worker_state.specs.Slots.{is_running, is_reporting};
-ghost use Rattle.pool_core.specs.Machine.{slot_in, has_open, standing_in, with_lost};
+ghost use Rattle.std.specs.Prelude.{◌≡◌, ◌+◌, ◌-◌, ◌^◌, ◌<◌, ◌≤◌, ℕ, slice_set, slice_index, length, vec_len, vec_capacity};
+ghost use Rattle.std.specs.Prelude.{if◌then◌else◌, IfSome, IfOk, OnOk, replicate};
+ghost use Rattle.worker_state.specs.Slots as slots;
+ghost use Rattle.pool_core.specs.Machine.{slot_in, standing_in, with_lost};
+ghost use Rattle.pool_core.specs.Machine as machine;
 ghost use Rattle.pool_core.specs.Book.{stands};
 ghost use Rattle.pool_core.specs.Kept.{closing_of, lost_of};
 ghost use Rattle.worker_state.specs.Orders.{no_order};
@@ -26,6 +28,7 @@ pub fn slot_of(slots: &[Slot], slot: SlotId) -> Slot
     }
 }
 
+/// Puts this into the slot.
 pub fn put_slot(slots: &mut Vec<Slot>, slot: SlotId, to: Slot)
     requires { slot < vec_len slots.old }
     ensures { slots.new.items ≡ slice_set slots.old.items slot to }
@@ -33,10 +36,11 @@ pub fn put_slot(slots: &mut Vec<Slot>, slot: SlotId, to: Slot)
     slots[slot.number() as usize] = to;
 }
 
-pub fn is_open(ticket_of_slot: Option<Ticket>, ticket: Ticket) -> bool
-    ensures { result ≡ has_open ticket_of_slot ticket }
+/// Whether the ticket that a worker holds is this one.
+pub fn has_open(held: Option<Ticket>, ticket: Ticket) -> bool
+    ensures { result ≡ machine.has_open held ticket }
 {
-    match ticket_of_slot {
+    match held {
         None => false,
         Some(own) => own == ticket,
     }
@@ -57,6 +61,7 @@ pub fn standing_of(standings: &[Standing], ticket: Ticket) -> Option<Standing>
     }
 }
 
+/// Lets a ticket that was given stand so.
 pub fn put_standing(standings: &mut Vec<Standing>, ticket: Ticket, to: Standing)
     requires from_one { 0 < ticket }
     requires given { ticket ≤ vec_len standings.old }
@@ -65,8 +70,9 @@ pub fn put_standing(standings: &mut Vec<Standing>, ticket: Ticket, to: Standing)
     standings[(ticket.number() - 1) as usize] = to;
 }
 
-pub fn runs(standing: Option<Standing>) -> bool
-    ensures { result ≡ stands is_running standing }
+/// Whether the job of a ticket is being run.
+pub fn is_running(standing: Option<Standing>) -> bool
+    ensures { result ≡ stands slots.is_running standing }
 {
     match standing {
         None => false,
@@ -74,8 +80,9 @@ pub fn runs(standing: Option<Standing>) -> bool
     }
 }
 
-pub fn reports(standing: Option<Standing>) -> bool
-    ensures { result ≡ stands is_reporting standing }
+/// Whether the answer to the job of a ticket is being written.
+pub fn is_reporting(standing: Option<Standing>) -> bool
+    ensures { result ≡ stands slots.is_reporting standing }
 {
     match standing {
         None => false,
@@ -83,6 +90,7 @@ pub fn reports(standing: Option<Standing>) -> bool
     }
 }
 
+/// Gives the slot this order.
 pub fn put_order(orders: &mut Vec<Order>, slot: SlotId, order: Order)
     requires { slot < vec_len orders.old }
     ensures { orders.new.items ≡ slice_set orders.old.items slot order }
@@ -90,6 +98,7 @@ pub fn put_order(orders: &mut Vec<Order>, slot: SlotId, order: Order)
     orders[slot.number() as usize] = order;
 }
 
+/// Notes when the slot's last grab was.
 pub fn put_time(times: &mut Vec<u64>, slot: SlotId, now_ms: u64)
     requires { slot < vec_len times.old }
     ensures { times.new.items ≡ slice_set times.old.items slot now_ms }
@@ -121,7 +130,8 @@ pub fn slot_after(stays: bool, generation: u32, runs: u32) -> Slot
     }
 }
 
-pub fn told(stays: bool) -> StayOrRetire
+/// What a worker is told after a run.
+pub fn stay_or_retire(stays: bool) -> StayOrRetire
     ensures { result ≡ (if stays then Stay else Retire) }
 {
     if stays {
@@ -131,12 +141,14 @@ pub fn told(stays: bool) -> StayOrRetire
     }
 }
 
+/// 1 if it holds, else 0.
 pub fn one_if(holds: bool) -> u32
     ensures { result ≡ (if holds then 1 else 0) }
 {
     if holds { 1 } else { 0 }
 }
 
+/// How many jobs are lost with a worker that holds this ticket.
 pub fn lost_jobs(ticket: &Option<Ticket>) -> u64
     ensures { result ≡ lost_of ticket.now }
 {
@@ -178,7 +190,8 @@ pub fn reserve_job(
     ensures standings { standings.new.items ≡ standings.old.items }
     ensures events { events.new.items ≡ events.old.items }
     ensures capacity { vec_capacity events.old ≤ vec_capacity events.new }
-    ensures room { OnOk result ((vec_len jobs.new < vec_capacity jobs.new) × (vec_len standings.new < vec_capacity standings.new) × (vec_len events.new + count ≤ vec_capacity events.new)) }
+    ensures room { OnOk result ((vec_len jobs.new < vec_capacity jobs.new) × (vec_len standings.new < vec_capacity standings.new)
+        × (vec_len events.new + count ≤ vec_capacity events.new)) }
 {
     jobs.reserve(1)?;
     standings.reserve(1)?;
@@ -192,7 +205,7 @@ pub fn empty_slots(alloc: Global, count: usize) -> Result<Vec<Slot>, AllocError>
     ensures { IfOk result (λ slots. slots.items ≡ replicate count (Empty 0)) }
 {
     let mut slots = Vec::with_capacity(alloc, count)?;
-    // The check of this function has to meet the types inside a slot.
+    // A workaround for the prover: it names `Option<Ticket>`, so that the check loads the type inside a slot.
     let _ticket: Option<Ticket> = None;
     for _number in 0..count {
         slots.push_reserved(Slot::Empty(0));

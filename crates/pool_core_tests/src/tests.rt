@@ -30,7 +30,8 @@ const THREE: &str =
 
 /// Machine a with a worker for x, and b with a worker for x and y.
 const BOTH: &str =
-    "version = 1\n[functions.x]\n[functions.y]\n[machines.a]\nworkers = 1\nfunctions = [\"x\"]\n[machines.b]\nworkers = 1\nfunctions = [\"x\", \"y\"]\n";
+    "version = 1\n[functions.x]\n[functions.y]\n[machines.a]\nworkers = 1\nfunctions = [\"x\"]\n\
+     [machines.b]\nworkers = 1\nfunctions = [\"x\", \"y\"]\n";
 
 /// Machine a with two workers for x, of which one at the most may do it.
 const ONE_AT_MOST: &str =

@@ -5,7 +5,9 @@ ghost use Rattle.pool_commands.specs.Grammar.{IsCommandWithin};
 ghost use Rattle.pool_core.specs.Book.{totals_of};
 ghost use Rattle.pool_core.specs.Machine.{standing_in};
 ghost use Rattle.pool_replay.specs.Lines as spec;
-ghost use Rattle.pool_replay.specs.Step.{TellsJoin, TellsLoad, TellsRound, TellsView, TellsAdoption, TellsGrab, TellsBegin, TellsReport, TellsLoss, TellsExpiry, TellsOrder, TellsChapter, WithPass, StepOf, Sees, with_joined, with_viewed};
+ghost use Rattle.pool_replay.specs.Step.{TellsJoin, TellsLoad, TellsRound, TellsView, TellsAdoption, TellsGrab, TellsBegin, TellsReport};
+ghost use Rattle.pool_replay.specs.Step.{TellsLoss, TellsExpiry, TellsOrder, TellsChapter, WithPass, StepOf, Sees, with_joined};
+ghost use Rattle.pool_replay.specs.Step.{with_viewed};
 ghost use Rattle.pool_replay.specs.Transcript.{first_desk};
 
 use crate::lines::{self, NO_PASS, NO_VIEW};

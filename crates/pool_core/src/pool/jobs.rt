@@ -89,10 +89,10 @@ impl Pool {
         if !slot.has_generation(worker.generation) {
             return Some(BeginError::Gone);
         }
-        if !table::is_open(slot.held_ticket(), ticket) {
+        if !table::has_open(slot.held_ticket(), ticket) {
             return Some(BeginError::WrongTicket);
         }
-        if !table::runs(self.standing_in(ticket)) {
+        if !table::is_running(self.standing_in(ticket)) {
             return Some(BeginError::AlreadyReporting);
         }
         None
@@ -122,10 +122,10 @@ impl Pool {
         if !slot.has_generation(worker.generation) {
             return Some(ReportError::Gone);
         }
-        if !table::is_open(slot.held_ticket(), ticket) {
+        if !table::has_open(slot.held_ticket(), ticket) {
             return Some(ReportError::WrongTicket);
         }
-        if !table::reports(self.standing_in(ticket)) {
+        if !table::is_reporting(self.standing_in(ticket)) {
             return Some(ReportError::NotReporting);
         }
         None
@@ -169,6 +169,6 @@ impl Pool {
             ticket,
             end,
         });
-        Ok(table::told(stays))
+        Ok(table::stay_or_retire(stays))
     }
 }

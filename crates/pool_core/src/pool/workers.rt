@@ -112,7 +112,7 @@ impl Pool {
         let Some(ticket) = slot.held_ticket() else {
             return Some(ExpireError::NoJob);
         };
-        if table::reports(self.standing_in(ticket)) {
+        if table::is_reporting(self.standing_in(ticket)) {
             return Some(ExpireError::Reporting);
         }
         let since = table::time_of(self.grab_times.as_slice(), worker.slot);

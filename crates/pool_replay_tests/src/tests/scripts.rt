@@ -14,7 +14,8 @@ fn a_refused_loss_takes_the_pass(rt: HostRuntime) -> Result<(), Fail> {
 #[test]
 fn a_pass_outlives_its_worker(rt: HostRuntime) -> Result<(), Fail> {
     let input =
-        "join a/0\ngrab a/0#1 H:a:1 x 0\nexpire a/0#1 5000\njoin a/0\nbegin a/0#1 1\nbegin a/0#2 1\ngrab a/0#2 H:a:2 x 7\njob 1\njob 2\njob 3\nlose a/0#1 Late\n";
+        "join a/0\ngrab a/0#1 H:a:1 x 0\nexpire a/0#1 5000\njoin a/0\nbegin a/0#1 1\nbegin a/0#2 1\n\
+         grab a/0#2 H:a:2 x 7\njob 1\njob 2\njob 3\nlose a/0#1 Late\n";
     let output =
         "ok a/0#1\nok 1\nok\nok a/0#2\nrefused 1 Gone\nrefused 2 WrongTicket\nok 2\nlost a/0#1 Late\nrunning\nnone\nrefused 1 Gone\n";
     assert!(rt; prints(rt.alloc(), ONE, input, output, End::Done)?);
@@ -25,8 +26,8 @@ fn a_pass_outlives_its_worker(rt: HostRuntime) -> Result<(), Fail> {
 fn a_view_takes_the_place_of_an_older_one(rt: HostRuntime) -> Result<(), Fail> {
     let input =
         "adopt\nview\njoin a/0\nload x 3 0\nview\nload x 5 0\nview\nadopt\nadopt\norder a/0\n";
-    let output =
-        "refused NoView\nrefused 1 NoLoad\nok a/0#1\nok\nok backlog 3\nok\nok backlog 5\nok 1 backlog 5 moved 1\nrefused NoView\nwork x round 1\n";
+    let output = "refused NoView\nrefused 1 NoLoad\nok a/0#1\nok\nok backlog 3\nok\nok backlog 5\n\
+         ok 1 backlog 5 moved 1\nrefused NoView\nwork x round 1\n";
     assert!(rt; prints(rt.alloc(), ONE, input, output, End::Done)?);
     Ok(())
 }
@@ -106,7 +107,8 @@ fn the_last_line_may_lack_its_line_feed(rt: HostRuntime) -> Result<(), Fail> {
 fn open_jobs_are_running(rt: HostRuntime) -> Result<(), Fail> {
     let input = "join a/0\ngrab a/0#1 H:a:1 x 0\ntotals\nbegin a/0#1 1\ntotals\n";
     let output =
-        "ok a/0#1\nok 1\ntotals grabbed 1 running 1 reported 0 lost 0 rounds 0 events 2\nok\ntotals grabbed 1 running 1 reported 0 lost 0 rounds 0 events 3\n";
+        "ok a/0#1\nok 1\ntotals grabbed 1 running 1 reported 0 lost 0 rounds 0 events 2\nok\n\
+         totals grabbed 1 running 1 reported 0 lost 0 rounds 0 events 3\n";
     assert!(rt; prints(rt.alloc(), ONE, input, output, End::Done)?);
     Ok(())
 }
@@ -159,7 +161,8 @@ fn an_order_stays_until_the_next_join(rt: HostRuntime) -> Result<(), Fail> {
     let input =
         "join a/0\nload x 3 0\nround\nlose a/0#1 Closed\nround\norder a/0\njoin a/0\norder a/0\nround\norder a/0\n";
     let output =
-        "ok a/0#1\nok\nok 1 backlog 3 moved 1\nok\nok 2 noplan moved 0\nwork x round 1\nok a/0#2\nidle\nok 3 backlog 3 moved 1\nwork x round 3\n";
+        "ok a/0#1\nok\nok 1 backlog 3 moved 1\nok\nok 2 noplan moved 0\nwork x round 1\nok a/0#2\nidle\n\
+         ok 3 backlog 3 moved 1\nwork x round 3\n";
     assert!(rt; prints(rt.alloc(), NEEDED, input, output, End::Done)?);
     Ok(())
 }
