@@ -19,7 +19,8 @@ const SETTINGS: &[u8] =
 const INPUT: &[u8] = b"\0RES\0\0\0\x1f\0\0\0\x14H:a:1\0reverse\0u1\0a\0c";
 
 /// What the session writes: its id, its function, a request for a job, the answer, and one more request.
-const OUTPUT: &[u8] = b"\0REQ\0\0\0\x16\0\0\0\x05a/0#1\0REQ\0\0\0\x01\0\0\0\x07reverse\0REQ\0\0\0\x1e\0\0\0\0\0REQ\0\0\0\x0d\0\0\0\x09H:a:1\0c\0a\0REQ\0\0\0\x1e\0\0\0\0";
+const OUTPUT: &[u8] =
+    b"\0REQ\0\0\0\x16\0\0\0\x05a/0#1\0REQ\0\0\0\x01\0\0\0\x07reverse\0REQ\0\0\0\x1e\0\0\0\0\0REQ\0\0\0\x0d\0\0\0\x09H:a:1\0c\0a\0REQ\0\0\0\x1e\0\0\0\0";
 
 /// Where the packets of the output end.
 const ENDS: [usize; 6] = [0, 17, 36, 48, 69, 81];
@@ -66,22 +67,38 @@ impl PoolPort for Port {
     ghost book = { λ _. no_calls };
 
     fn order(&mut self, pass: &Pass) -> Order {
-        Order { generation: pass.name().generation, round: 1, what: What::Work(FuncId::new(0)) }
+        Order {
+            generation: pass.name().generation,
+            round: 1,
+            what: What::Work(FuncId::new(0)),
+        }
     }
 
-    fn grab(&mut self, pass: &Pass, handle: Handle, function: &[u8]) -> Result<Ticket, GrabRefusal> {
-        self.pool.grab(pass, handle, function, 0).map_err(|error| match error {
-            GrabError::Memory => GrabRefusal::Memory,
-            GrabError::HistoryFull => GrabRefusal::HistoryFull,
-            _ => GrabRefusal::Gone,
-        })
+    fn grab(
+        &mut self,
+        pass: &Pass,
+        handle: Handle,
+        function: &[u8],
+    ) -> Result<Ticket, GrabRefusal> {
+        self.pool
+            .grab(pass, handle, function, 0)
+            .map_err(|error| match error {
+                GrabError::Memory => GrabRefusal::Memory,
+                GrabError::HistoryFull => GrabRefusal::HistoryFull,
+                _ => GrabRefusal::Gone,
+            })
     }
 
     fn begin_report(&mut self, pass: &Pass, ticket: Ticket) -> Result<(), Gone> {
         self.pool.begin_report(pass, ticket).map_err(|_| Gone)
     }
 
-    fn reported(&mut self, pass: &Pass, ticket: Ticket, end: EndKind) -> Result<StayOrRetire, Gone> {
+    fn reported(
+        &mut self,
+        pass: &Pass,
+        ticket: Ticket,
+        end: EndKind,
+    ) -> Result<StayOrRetire, Gone> {
         self.pool.reported(pass, ticket, end).map_err(|_| Gone)
     }
 
@@ -103,7 +120,10 @@ impl Job for Reverse {
     fn run(&self, alloc: Global, input: &[u8]) -> Result<Outcome, AllocError> {
         let mut bytes = Vec::from_slice(alloc, input)?;
         bytes.reverse();
-        Ok(Outcome { notes: Vec::new(alloc), end: End::Complete(bytes) })
+        Ok(Outcome {
+            notes: Vec::new(alloc),
+            end: End::Complete(bytes),
+        })
     }
 }
 
@@ -141,7 +161,11 @@ fn session(alloc: Global, settings: &Settings) -> Option<(Pool, Link, SessionEnd
     let pass = joined(&mut pool)?;
     let jobs = table(alloc)?;
     let mut port = Port { pool };
-    let mut link = Link { at: 0, written: [0; 128], len: 0 };
+    let mut link = Link {
+        at: 0,
+        written: [0; 128],
+        len: 0,
+    };
     let end = run_session(alloc, &mut link, &mut port, &jobs, settings, pass, 100);
     Some((port.pool, link, end))
 }
@@ -160,13 +184,19 @@ pub fn answers(rt: &impl Abort, alloc: Global) {
     let totals = pool.totals();
     let standing = pool.standing(Ticket::new(1));
     assert!(rt; OUTPUT.get(..link.len) == link.written.get(..link.len));
-    assert!(rt; totals.grabbed == end.grabbed && totals.reported == end.reported && totals.running == 0);
+    assert!(rt;
+        totals.grabbed == end.grabbed && totals.reported == end.reported && totals.running == 0
+    );
     if end.cause == EndCause::Memory {
         assert!(rt; ENDS.contains(&link.len));
         match standing {
             None => assert!(rt; end.grabbed == 0),
-            Some(Standing::Lost(_, cause)) => assert!(rt; cause == Cause::Memory && end.answered == 0),
-            Some(standing) => assert!(rt; standing == Standing::Reported(EndKind::Complete) && end.reported == 1),
+            Some(Standing::Lost(_, cause)) => assert!(rt;
+                cause == Cause::Memory && end.answered == 0
+            ),
+            Some(standing) => assert!(rt;
+                standing == Standing::Reported(EndKind::Complete) && end.reported == 1
+            ),
         }
     } else {
         assert!(rt; end.cause == EndCause::Closed && link.len == OUTPUT.len());

@@ -1,8 +1,8 @@
 //! Dialogs that gearmand 1.1.20 has with a worker, byte for byte. The host is `vm`.
 use crate::TestJob;
 use crate::packets::{GRAB, NO_JOB, NOOP, PRE_SLEEP};
-use crate::pool_port::Beside;
 use crate::play::play;
+use crate::pool_port::Beside;
 use crate::scenario::Scenario;
 use job_runner::EndCause;
 use std::alloc::Global;

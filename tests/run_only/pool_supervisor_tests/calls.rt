@@ -29,11 +29,7 @@ lose 0#1 BadPacket
 ";
 
 /// How a ticket stands in the shared pool.
-fn standing_of<R: Wait>(
-    rt: &R,
-    shared: &Shared<Brand, Brand>,
-    ticket: Ticket,
-) -> Option<Standing> {
+fn standing_of<R: Wait>(rt: &R, shared: &Shared<Brand, Brand>, ticket: Ticket) -> Option<Standing> {
     shared.hold(rt).pool().standing(ticket)
 }
 
@@ -50,7 +46,10 @@ fn expect_answered<R: Wait + Abort>(
     shared.begin_report(rt, pass, ticket)?;
     assert_eq!(rt; standing_of(rt, shared, ticket), Some(Standing::Reporting));
     let told = shared.reported(rt, &mut desk.reports, pass, ticket, end)?;
-    assert_eq!(rt; standing_of(rt, shared, ticket), Some(Standing::Reported(end)));
+    assert_eq!(rt;
+        standing_of(rt, shared, ticket),
+        Some(Standing::Reported(end))
+    );
     Ok(told)
 }
 
@@ -67,7 +66,10 @@ fn calls_of_the_shared_pool(rt: HostRuntime) -> Result<(), Fail> {
     let two = shared.grab(&rt, &mut desk.grabs, &first, handle, b"x", 2000)?;
     let handle = Handle::new(b"H:b:9")?;
     let three = shared.grab(&rt, &mut desk.grabs, &second, handle, b"x", 3000)?;
-    assert_eq!(rt; (one, two, three), (Ticket::new(1), Ticket::new(2), Ticket::new(3)));
+    assert_eq!(rt;
+        (one, two, three),
+        (Ticket::new(1), Ticket::new(2), Ticket::new(3))
+    );
     let totals = shared.settle(&rt, &mut desk.grabs, &mut desk.reports);
     assert_eq!(rt; (totals.grabbed, totals.running), (3, 2));
     assert_eq!(rt; (totals.reported, totals.lost), (1, 0));
@@ -187,10 +189,7 @@ fn a_port_that_is_gone(rt: HostRuntime) -> Result<(), Fail> {
     let hand = Hand::new(1000);
     let (mut port, _) = desk.port(&rt, (&shared, &board), &hand, 1);
     let handle = Handle::new(b"H:b:7")?;
-    let one = port
-        .grab(&second, handle, b"y")
-        .ok()
-        .ok_or("not grabbed")?;
+    let one = port.grab(&second, handle, b"y").ok().ok_or("not grabbed")?;
     let handle = Handle::new(b"H:b:8")?;
     assert_eq!(rt; port.grab(&second, handle, b"y"), Err(GrabRefusal::Gone));
     assert_eq!(rt; port.begin_report(&second, Ticket::new(2)), Err(Gone));
@@ -205,7 +204,11 @@ fn a_port_that_is_gone(rt: HostRuntime) -> Result<(), Fail> {
     drop(port);
     let pool = shared.into_pool();
     let told = history_of(rt.alloc(), &pool)?;
-    assert!(rt; told.as_str().ends_with("round\ngrab 1#1 H:b:7 y 1000\nlose 1#1 Late\n"), "{told}");
+    assert!(rt;
+        told.as_str()
+            .ends_with("round\ngrab 1#1 H:b:7 y 1000\nlose 1#1 Late\n"),
+        "{told}"
+    );
     Ok(())
 }
 

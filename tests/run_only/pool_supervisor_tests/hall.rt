@@ -122,8 +122,11 @@ pub fn new_hall(alloc: Global, settings: &str) -> Option<Hall> {
     pool.round().ok()?;
     let (board, publisher, source) = Board::new(alloc, pool.slots()).ok()?;
     let publisher = publish(&pool, &board, publisher);
-    let (shared, (grabs, reports)) =
-        Shared::<Brand, Brand>::new(pool, Blank::new(PARTS), Blank::new(PARTS));
+    let (shared, (grabs, reports)) = Shared::<Brand, Brand>::new(
+        pool,
+        Blank::new(PARTS),
+        Blank::new(PARTS),
+    );
     let desk = Desk {
         grabs,
         reports,

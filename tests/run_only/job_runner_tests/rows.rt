@@ -3,8 +3,8 @@ use crate::TestJob;
 use crate::packets::{
     ANSWERED, ASKED, ASSIGN, COMPLETE, FAIL, GRAB, NO_JOB, NOOP, PRE_SLEEP, TALKED, TO_ECHO,
 };
-use crate::pool_port::Beside;
 use crate::play::play;
+use crate::pool_port::Beside;
 use crate::scenario::Scenario;
 use job_runner::EndCause;
 use std::alloc::{AllocError, Global};

@@ -1,5 +1,5 @@
 //! Courses of public calls. Each takes one refusal of memory, wherever it comes: a call to which memory was refused has
-//! changed nothing, and made once more it gives what it gives with ample memory. The tests are made by `.ci/memory/run`.
+//! changed nothing, and made once more it gives what it gives with ample memory. The tests are made by `tests/memory/run`.
 
 #![tactic(auto)]
 

@@ -3,7 +3,9 @@
 use crate::{REPORT, SETTINGS, STATUS};
 use bumpalo::Bump;
 use devices::OutputSink;
-use gear_packets::{EncodeError, FeedError, Handle, Reader, Request, Response, encode, encode_into};
+use gear_packets::{
+    EncodeError, FeedError, Handle, Reader, Request, Response, encode, encode_into,
+};
 use gear_status::{Load, SliceSource, StatusError, read_status};
 use level_search::solve;
 use plan_model::{Answer, FuncId, Input, SlotId};
@@ -23,7 +25,15 @@ pub fn feeds(rt: &impl Abort, alloc: Global) {
             assert_eq!(rt; reader.feed(piece), Ok(()));
         }
     }
-    let Some(Response::Assign { handle, function, unique, payload }) = reader.next() else {
+    let Some(
+        Response::Assign {
+            handle,
+            function,
+            unique,
+            payload,
+        },
+    ) = reader.next()
+    else {
         assert!(rt; false);
         return;
     };
@@ -162,7 +172,13 @@ fn reported(
     answer: &Answer,
 ) -> Result<bool, WriteError> {
     let mut room = [0; REPORT.len()];
-    write(alloc, settings, input, answer, &mut OutputSink::new(room.as_mut_slice()))?;
+    write(
+        alloc,
+        settings,
+        input,
+        answer,
+        &mut OutputSink::new(room.as_mut_slice()),
+    )?;
     Ok(room.as_slice() == REPORT)
 }
 

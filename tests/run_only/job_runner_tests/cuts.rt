@@ -1,7 +1,7 @@
 //! A whole job cut at each place, and a link that fails at each of its calls.
 use crate::packets::{ANSWERED, ASKED, ASSIGN};
-use crate::rows::single_bytes;
 use crate::play::play;
+use crate::rows::single_bytes;
 use crate::scenario::{Scenario, Trouble};
 use job_runner::EndCause;
 use std::test::Fail;

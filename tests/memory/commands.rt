@@ -21,7 +21,13 @@ const ROOM: usize = 256;
 
 /// A command for want of memory has written nothing.
 fn plan(alloc: Global, room: &mut [u8]) -> Exit {
-    plan_text(alloc, SETTINGS, &[], &mut SliceSource::new(STATUS), &mut OutputSink::new(room))
+    plan_text(
+        alloc,
+        SETTINGS,
+        &[],
+        &mut SliceSource::new(STATUS),
+        &mut OutputSink::new(room),
+    )
 }
 
 pub fn plans(rt: &impl Abort, alloc: Global) {
@@ -37,7 +43,14 @@ pub fn plans(rt: &impl Abort, alloc: Global) {
 
 fn check(alloc: Global, room: &mut [u8]) -> Exit {
     let mut source = SliceSource::new(REPORT);
-    check_text(alloc, SETTINGS, STATUS, &[], &mut source, &mut OutputSink::new(room))
+    check_text(
+        alloc,
+        SETTINGS,
+        STATUS,
+        &[],
+        &mut source,
+        &mut OutputSink::new(room),
+    )
 }
 
 pub fn checks(rt: &impl Abort, alloc: Global) {
@@ -52,12 +65,19 @@ pub fn checks(rt: &impl Abort, alloc: Global) {
 }
 
 fn replay(alloc: Global, room: &mut [u8]) -> Exit {
-    run_commands(alloc, SETTINGS, &mut SliceSource::new(COMMANDS), &mut OutputSink::new(room))
+    run_commands(
+        alloc,
+        SETTINGS,
+        &mut SliceSource::new(COMMANDS),
+        &mut OutputSink::new(room),
+    )
 }
 
 /// The number of bytes before the first NUL.
 fn written(room: &[u8]) -> usize {
-    room.iter().position(|byte| *byte == 0).unwrap_or(room.len())
+    room.iter()
+        .position(|byte| *byte == 0)
+        .unwrap_or(room.len())
 }
 
 /// Whether the first line that is not the transcript's tells want of memory, or the room ends there.
@@ -92,7 +112,8 @@ const MEANING: &[u8] =
     b"version 1\nserver 127.0.0.1:4730 (default)\njob_timeout_ms 60000 (default)\nmax_runs 4294967295 (default)\nround_ms 1000 (default)\nlull_ms 100 (default)\nhistory 1048576 (default)\nfunction x least 0 (default)\nfunction x most 2 (default)\nfunction y least 0 (default)\nfunction y most 2 (default)\nmachine a workers 1\nmay a x\nmachine b workers 1\nmay b x\nmay b y\n";
 
 /// Settings with a key that there is not, of a machine whose name stands in quotes.
-const MISSPELT: &[u8] = b"version = 1\n[functions.x]\n[machines.\"web.1\"]\nwrokers = 1\nfunctions = [\"x\"]\n";
+const MISSPELT: &[u8] =
+    b"version = 1\n[functions.x]\n[machines.\"web.1\"]\nwrokers = 1\nfunctions = [\"x\"]\n";
 
 const PLACE: &[u8] = b"at machines.\"web.1\".wrokers\n";
 

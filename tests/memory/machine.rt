@@ -7,7 +7,10 @@ use gear_packets::Handle;
 use gear_status::Load;
 use level_search::solve;
 use plan_model::{Certified, SlotId};
-use pool_core::{AdoptError, ChapterError, GrabError, JoinError, LoadError, Pass, Pool, RoundError, Totals, ViewError};
+use pool_core::{
+    AdoptError, ChapterError, GrabError, JoinError, LoadError, Pass, Pool, RoundError, Totals,
+    ViewError,
+};
 use std::alloc::{AllocError, Global};
 use std::process::Abort;
 use worker_state::{Order, Slot, Standing, Ticket};
@@ -172,7 +175,10 @@ pub fn runs(rt: &impl Abort, alloc: Global) {
     assert!(rt; round(rt, &mut pool) == Some((1, Some(6))));
     assert!(rt; adopts(rt, alloc, &mut pool) == Some(2));
     assert!(rt; grabs(rt, &mut pool, &pass) == Some(Ticket::new(1)));
-    assert!(rt; pool.job(Ticket::new(1)).is_some_and(|job| job.1 == b"x".as_slice()));
+    assert!(rt;
+        pool.job(Ticket::new(1))
+            .is_some_and(|job| job.1 == b"x".as_slice())
+    );
     assert!(rt; ends_chapter(rt, &mut pool) == Some(6));
     let totals = pool.totals();
     assert!(rt; totals.grabbed == 1 && totals.running == 1 && totals.rounds == 2);

@@ -9,7 +9,12 @@ use plan_model::{FuncId, Input, Plan};
 use round_arena::build;
 use std::alloc::AllocError;
 
-pub fn kept_past_reset(bump: &mut Bump, input: &Input, seed: &Plan, need: &[u32]) -> Result<usize, AllocError>
+pub fn kept_past_reset(
+    bump: &mut Bump,
+    input: &Input,
+    seed: &Plan,
+    need: &[u32],
+) -> Result<usize, AllocError>
     requires { length need.now ≡ length input.now.least }
 {
     let kept: &[FuncId] = {

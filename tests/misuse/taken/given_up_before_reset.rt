@@ -8,7 +8,12 @@ use plan_model::{FuncId, Input, Plan};
 use round_arena::build;
 use std::alloc::AllocError;
 
-pub fn given_up_before_reset(bump: &mut Bump, input: &Input, seed: &Plan, need: &[u32]) -> Result<usize, AllocError>
+pub fn given_up_before_reset(
+    bump: &mut Bump,
+    input: &Input,
+    seed: &Plan,
+    need: &[u32],
+) -> Result<usize, AllocError>
     requires { length need.now ≡ length input.now.least }
 {
     let shown = {
