@@ -6,3 +6,4 @@ pub mod Kept
 pub mod Calls
 pub mod View
 pub mod Laws
+pub mod Totals

@@ -11,6 +11,7 @@ mod laws;
 mod pool;
 mod rounds;
 mod table;
+mod totals;
 
 pub use answer::{Ran, StayOrRetire, Totals};
 pub use error::{
@@ -25,3 +26,4 @@ pub use laws::{
     workers_are_new,
 };
 pub use pool::{Pass, Pool};
+pub use totals::totals_line;

@@ -25,7 +25,6 @@ use Rattle.refusal.specs.Label.{Label, label_words}
 use Rattle.pool_core.specs.CallRefusals.{join_label, view_label, grab_label, report_label, chapter_label}
 use Rattle.pool_core.specs.declared.answer.StayOrRetire.{StayOrRetire}
 use Rattle.pool_core.specs.declared.answer.StayOrRetire.TheVariants.{Stay, Retire}
-use Rattle.pool_core.specs.declared.answer.Totals.{Totals}
 use Rattle.pool_core.specs.declared.answer.Ran.{Ran}
 
 -- ---- refusals
@@ -105,11 +104,6 @@ what_line settings round Stop = codes "stop"
 
 abbrev pub order_line : Settings → Order → List ℕ
 order_line settings order = what_line settings order.round order.what
-
-abbrev pub totals_line : Totals → List ℕ
-totals_line t =
-    (codes "totals grabbed " ++ decimal t.grabbed ++ codes " running " ++ decimal t.running ++ codes " reported " ++ decimal t.reported)
-    ++ (codes " lost " ++ decimal t.lost ++ codes " rounds " ++ decimal t.rounds ++ codes " events " ++ decimal t.events)
 
 -- the number of the chapter that has ended, and how many events were handed out with it
 abbrev pub chapter_line : Result Chapter ChapterError → List ℕ

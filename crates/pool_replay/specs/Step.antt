@@ -34,7 +34,8 @@ use Rattle.pool_commands.specs.declared.command.Command.TheVariants as command
 use Rattle.pool_replay.specs.declared.desk.Desk.{Desk}
 use Rattle.pool_replay.specs.Passes.{worker_cmp}
 use Rattle.pool_replay.specs.Lines.{ok_line, join_line, ran_or, view_line, grab_line, report_line, job_line, order_line}
-use Rattle.pool_replay.specs.Lines.{totals_line, chapter_line, no_pass, no_view}
+use Rattle.pool_core.specs.Totals.{totals_line}
+use Rattle.pool_replay.specs.Lines.{chapter_line, no_pass, no_view}
 
 -- what a view sees, with an answer that is shown for it and keeps the plan before where that is still best
 abbrev pub Sees : Book → Result Certificate ViewError → Type 0

@@ -4,6 +4,7 @@ ghost use Rattle.std.specs.Prelude.{◌≡◌, ◌<◌, IfOk, OnOk, string_bytes
 ghost use Rattle.pool_commands.specs.Grammar.{IsCommandWithin};
 ghost use Rattle.pool_core.specs.Book.{totals_of};
 ghost use Rattle.pool_core.specs.Machine.{standing_in};
+ghost use Rattle.pool_core.specs.Totals.{totals_line};
 ghost use Rattle.pool_replay.specs.Lines as spec;
 ghost use Rattle.pool_replay.specs.Step.{TellsJoin, TellsLoad, TellsRound, TellsView, TellsAdoption, TellsGrab, TellsBegin, TellsReport};
 ghost use Rattle.pool_replay.specs.Step.{TellsLoss, TellsExpiry, TellsOrder, TellsChapter, WithPass, StepOf, Sees, with_joined};
@@ -18,7 +19,7 @@ use gear_status::Load;
 use level_search::solve;
 use plan_model::{Certified, SlotId};
 use pool_commands::Command;
-use pool_core::{JoinError, Pass, Pool, ViewError};
+use pool_core::{JoinError, Pass, Pool, ViewError, totals_line};
 use pool_settings::Settings;
 use std::alloc::{AllocError, Global};
 use worker_state::{Cause, EndKind, Ticket, WorkerName};
@@ -233,9 +234,9 @@ impl Desk {
     }
 
     fn totals(&self, alloc: Global) -> Result<String, AllocError>
-        ensures { IfOk result (λ line. string_bytes line ≡ spec.totals_line (totals_of self.now.pool)) }
+        ensures { IfOk result (λ line. string_bytes line ≡ totals_line (totals_of self.now.pool)) }
     {
-        lines::totals_line(alloc, self.pool.totals())
+        totals_line(alloc, self.pool.totals())
     }
 
     /// Ends the chapter of the history. The events that are handed out are given up: nobody here reads them.

@@ -10,5 +10,4 @@ mod passes;
 mod running;
 
 pub use law::{commands_are_calls, transcripts_are_histories};
-pub use lines::totals_line;
 pub use running::{End, Outcome, run};

@@ -5,8 +5,7 @@ ghost use Rattle.pool_replay.specs.Lines as spec;
 
 use plan_model::{Answer, Certified, UNSERVED};
 use pool_core::{
-    Chapter, ChapterError, GrabError, JoinError, Pass, Ran, ReportError, StayOrRetire, Totals,
-    ViewError,
+    Chapter, ChapterError, GrabError, JoinError, Pass, Ran, ReportError, StayOrRetire, ViewError,
 };
 use pool_settings::Settings;
 use refusal::{Label, Labelled};
@@ -200,26 +199,6 @@ pub fn order_line(alloc: Global, settings: &Settings, order: &Order) -> Result<S
             Ok(line)
         }
     }
-}
-
-/// The counts of a pool in a line, without a line feed: `totals grabbed G running R reported P lost L rounds N events E`. The only
-/// error is want of memory.
-pub fn totals_line(alloc: Global, totals: Totals) -> Result<String, AllocError>
-    ensures { IfOk result (λ s. string_bytes s ≡ spec.totals_line totals) }
-{
-    let grabbed = totals.grabbed;
-    let running = totals.running;
-    let reported = totals.reported;
-    let lost = totals.lost;
-    let rounds = totals.rounds;
-    let events = totals.events;
-    let mut line = String::new(alloc);
-    write!(
-        line,
-        "totals grabbed {grabbed} running {running} reported {reported}"
-    )?;
-    write!(line, " lost {lost} rounds {rounds} events {events}")?;
-    Ok(line)
 }
 
 /// The number of a chapter that has ended, and how many events it hands out.

@@ -9,7 +9,7 @@ use Rattle.plan_commands.specs.Posing.{HaveMeaning}
 use Rattle.plan_commands.specs.declared.ending.Exit.{Exit}
 use Rattle.plan_commands.specs.declared.fault.Fault.{Fault}
 use Rattle.plan_commands.specs.declared.fault.Fault.TheVariants as fault
-use Rattle.pool_replay.specs.Lines.{totals_line}
+use Rattle.pool_core.specs.Totals.{totals_line}
 use Rattle.pool_settings.specs.Reading.{reading}
 use Rattle.pool_supervisor.specs.Lines.{attempt_line}
 use Rattle.pool_supervisor.specs.declared.attempt.Attempt.{Attempt}

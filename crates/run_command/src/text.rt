@@ -4,7 +4,7 @@ ghost use Rattle.std.specs.Prelude.{◌≡◌, ◌^◌, ◌<◌, IfOk, length, s
 ghost use Rattle.std.specs.List.{list_any};
 ghost use Rattle.run_command.specs.Run as spec;
 
-use pool_replay::totals_line;
+use pool_core::totals_line;
 use pool_supervisor::{Attempt, RunEnd, attempt_line};
 use std::alloc::{AllocError, Global};
 use std::fmt::Write;
