@@ -3,7 +3,8 @@
 use Rattle.std.specs.Prelude.{codes}
 use Rattle.refusal.specs.Label.{Label, label}
 use Rattle.plan_model.specs.declared.answer.Reason.{Reason}
-use Rattle.plan_model.specs.declared.answer.Reason.TheVariants.{NotPermitted, BelowLeast, WrongBacklog, NotShort, SetMissing, Idle, AboveMost}
+use Rattle.plan_model.specs.declared.answer.Reason.TheVariants.{NotPermitted, BelowLeast, WrongBacklog, NotShort, SetMissing}
+use Rattle.plan_model.specs.declared.answer.Reason.TheVariants.{Idle, AboveMost}
 
 abbrev pub reason_label : Reason → Label
 reason_label NotPermitted = label 1 (codes "NotPermitted")
