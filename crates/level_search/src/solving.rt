@@ -35,20 +35,14 @@ pub struct Solved {
 fn empty_plan(alloc: Global) -> Plan
     ensures { result ≡ [] }
 {
-    match Plan::new(Vec::new(alloc)) {
-        Ok(plan) => plan,
-        Err(_) => unreachable!(),
-    }
+    Plan::of_rising(Vec::new(alloc))
 }
 
 fn copy_set(alloc: Global, functions: &[FuncId]) -> Result<FuncSet, AllocError>
     requires { IsStrictlyIncreasing functions.now }
     ensures { IfOk result (λ set. set ≡ functions.now) }
 {
-    match FuncSet::new(Vec::from_slice(alloc, functions)?) {
-        Ok(set) => Ok(set),
-        Err(_) => unreachable!(),
-    }
+    Ok(FuncSet::of_rising(Vec::from_slice(alloc, functions)?))
 }
 
 // The set that stands beside a backlog: none beside 0.
@@ -103,7 +97,7 @@ fn answer<'a>(
     ensures kept { IfOk result (λ answer. origin ≡ Previous → Serves input.now tables.old.owner.now found.entry → IsTrue (is_full input.now (assigned (plan_of tables.old))) → HasPlan (plan_of tables.old) answer) }
     ensures looks { IfOk result (Fills found.entry (pair_total tables.old.pairs) tables.old.looks tables.new.looks) }
 {
-    let _live = input.live();
+    input.facts();
     match found {
         Found::Nothing(set) => Ok(Answer::NoPlan {
             short: copy_set(alloc, set)?,
@@ -154,7 +148,7 @@ pub fn solve(
     ensures steady { IfOk result (λ solved. IfSome previous.entry (λ plan. IsSteady input.now plan.now solved.answer)) }
 {
     let mut tables = start(alloc, bump, input, previous)?;
-    let _live = input.live();
+    input.facts();
     let seed = remember(bump, &tables)?;
     let found = solve_levels(&mut tables, input)?;
     let origin = put_back(&mut tables, &seed, input, &found);
