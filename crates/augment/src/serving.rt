@@ -1,17 +1,15 @@
 //! Functions served one after the other, each by alternating paths.
 
-ghost use Rattle.std.specs.Prelude.{◌≡◌, ℕ, ◌+◌, ◌-◌, ◌*◌, ◌^◌, ◌<◌, ◌≤◌, length, slice_index, take, Bool, List};
+ghost use Rattle.std.specs.Prelude.{◌≡◌, ◌+◌, ◌*◌, ◌^◌, ◌<◌, ◌≤◌, length, take};
 ghost use Rattle.std.specs.Bool.{OnTrue, OnFalse};
 ghost use Rattle.std.specs.List.{range_with_len};
 ghost use Rattle.std.specs.List.Sorted.{IsPermutation};
-ghost use Rattle.round_arena.specs.Plan.{IsGraph, IsAssigned, IsCounted, count_on, machine_count, pair_total};
-ghost use Rattle.augment.specs.Tree.{HasRoom};
-ghost use Rattle.augment.specs.Moves.{GainsOne, IsStuck};
-ghost use Rattle.round_arena.specs.Planning.{LacksWorkers};
-ghost use Rattle.round_arena.specs.Plan.{Represents};
-ghost use Rattle.augment.specs.Short.{marked};
+ghost use Rattle.round_arena.specs.Plan.{IsGraph, count_on, pair_total};
 ghost use Rattle.round_arena.specs.Round.{SamePairs};
+ghost use Rattle.augment.specs.Moves.{GainsOne, IsStuck};
 ghost use Rattle.augment.specs.Round.{IsCapped, KeepsServed, served};
+ghost use Rattle.augment.specs.Searching.{AddsLooks, HasNeeds, IsLacking, IsStaffed, ShowsShort};
+ghost use Rattle.augment.specs.Short.{marked};
 
 use crate::search::{Tree, search};
 use round_arena::{FuncId, Tables};
@@ -28,22 +26,17 @@ pub enum Served<'a> {
 // Gives `root` one worker more, and says whether there was one to be had.
 fn serve_one(tables: &mut Tables, need: &[u32], root: u32, tree: &mut Tree, looks: &mut u64) -> bool
     requires graph { IsGraph (length need.now) (length tables.old.owner.now) tables.old.pairs }
-    requires assigned { IsAssigned (length need.now) tables.old.pairs tables.old.owner.now }
-    requires counted { IsCounted (length need.now) tables.old.owner.now tables.old.count.now }
-    requires room { HasRoom (length need.now) (machine_count tables.old.pairs) tree.old }
-    requires root { root < length need.now }
-    requires lacking { slice_index tables.old.count.now root < slice_index need.now root }
+    requires staffed { IsStaffed tables.old.pairs need.now tables.old.owner.now tables.old.count.now tree.old }
+    requires lacking { IsLacking tables.old need.now root }
     requires looks { looks.old + pair_total tables.old.pairs < 2 ^ 64 }
     ensures same { SamePairs tables.old tables.new }
-    ensures assigned { IsAssigned (length need.now) tables.old.pairs tables.new.owner.now }
-    ensures counted { IsCounted (length need.now) tables.new.owner.now tables.new.count.now }
-    ensures room { HasRoom (length need.now) (machine_count tables.old.pairs) tree.new }
-    ensures looks { looks.new ≤ looks.old + pair_total tables.old.pairs }
-    ensures more { looks.old ≤ looks.new }
+    ensures staffed { IsStaffed tables.old.pairs need.now tables.new.owner.now tables.new.count.now tree.new }
+    ensures looks { AddsLooks (pair_total tables.old.pairs) looks.old looks.new }
     ensures looked { OnTrue result (looks.old < looks.new) }
     ensures gained { OnTrue result (GainsOne (length need.now) root need.now tables.old.owner.now tables.new.owner.now) }
     ensures stays { OnFalse result (tables.new.owner.now ≡ tables.old.owner.now) }
-    ensures stuck { OnFalse result (IsStuck tables.old.pairs tables.new.owner.now tables.new.count.now need.now tree.new root) }
+    ensures stuck { OnFalse result
+        (IsStuck tables.old.pairs tables.new.owner.now tables.new.count.now need.now tree.new root) }
 {
     let Some(way) = search(tables, need, root, tree, looks) else {
         return false;
@@ -70,25 +63,23 @@ fn serve_one(tables: &mut Tables, need: &[u32], root: u32, tree: &mut Tree, look
 pub fn serve_all(tables: &mut Tables, need: &[u32], tree: &mut Tree, looks: &mut u64) -> bool
     requires order { IsPermutation (range_with_len 0 (length need.now)) tables.old.order.now }
     requires graph { IsGraph (length need.now) (length tables.old.owner.now) tables.old.pairs }
-    requires assigned { IsAssigned (length need.now) tables.old.pairs tables.old.owner.now }
-    requires counted { IsCounted (length need.now) tables.old.owner.now tables.old.count.now }
-    requires room { HasRoom (length need.now) (machine_count tables.old.pairs) tree.old }
+    requires staffed { IsStaffed tables.old.pairs need.now tables.old.owner.now tables.old.count.now tree.old }
     requires looks { looks.old + (length tables.old.owner.now + 1) * pair_total tables.old.pairs < 2 ^ 64 }
     ensures same { SamePairs tables.old tables.new }
-    ensures assigned { IsAssigned (length need.now) tables.old.pairs tables.new.owner.now }
-    ensures counted { IsCounted (length need.now) tables.new.owner.now tables.new.count.now }
-    ensures room { HasRoom (length need.now) (machine_count tables.old.pairs) tree.new }
+    ensures staffed { IsStaffed tables.old.pairs need.now tables.new.owner.now tables.new.count.now tree.new }
     ensures kept { KeepsServed need.now tables.old tables.new }
     ensures capped { IsCapped need.now tables.old tables.new }
-    ensures served { OnTrue result ((f : ℕ) → f < length need.now → slice_index need.now f ≤ count_on tables.new.owner.now f) }
-    ensures short { OnFalse result ((permits : ℕ → ℕ → Bool) (machines : List ℕ) → length machines ≡ length tables.old.owner.now → Represents permits machines tables.old.pairs (length need.now) → LacksWorkers permits machines (length need.now) (λ f. slice_index need.now f) (marked tree.new.place.now (length need.now))) }
-    ensures looks_served { OnTrue result (looks.new ≤ looks.old + length tables.old.owner.now * pair_total tables.old.pairs) }
-    ensures looks { looks.new ≤ looks.old + (length tables.old.owner.now + 1) * pair_total tables.old.pairs }
+    ensures served { OnTrue result (HasNeeds need.now tables.new.owner.now) }
+    ensures short { OnFalse result (ShowsShort tables.old.pairs (length tables.old.owner.now) need.now
+        (marked tree.new.place.now (length need.now))) }
+    ensures looks_served { OnTrue result
+        (looks.new ≤ looks.old + length tables.old.owner.now * pair_total tables.old.pairs) }
+    ensures looks { AddsLooks ((length tables.old.owner.now + 1) * pair_total tables.old.pairs) looks.old looks.new }
 
     // Each worker who is gained for a need costs a look at least, and so does each idle worker who gets a function.
-    ensures more { looks.old ≤ looks.new }
     ensures paid { looks.old + served need.now tables.new.owner.now ≤ looks.new + served need.now tables.old.owner.now }
-    ensures hired { looks.old + count_on tables.old.owner.now (length need.now) ≤ looks.new + count_on tables.new.owner.now (length need.now) }
+    ensures hired { looks.old + count_on tables.old.owner.now (length need.now)
+        ≤ looks.new + count_on tables.new.owner.now (length need.now) }
 {
     let order = tables.order;
     for k in 0..order.len() {
