@@ -7,7 +7,7 @@ use Rattle.augment.specs.Short.{marked}
 use Rattle.augment.proofs.Gains.{AreWithin-served}
 use Rattle.augment.proofs.Rounds.{IsConsistent-moved}
 use Rattle.augment.proofs.Sets.{LacksWorkers-alone}
-use Rattle.augment.proofs.arena.serve.Goals as goal
+use Rattle.augment.proofs.serving.serve.Goals as goal
 
 pub returns-clause-served : goal.returns-clause-served
 returns-clause-served c permits holds =
