@@ -16,7 +16,8 @@ pub record HasRoom (functions machines : ℕ) (tree : Tree) : Type 0 where
 abbrev pub IsPassedUpTo : Pairs → List ℕ → ℕ → Tree → ℕ → ℕ → Type 0
 IsPassedUpTo pairs owner functions tree m end =
     (k : ℕ) → slice_index pairs.workers.first.now m ≤ k → k < end
-    → (slice_index owner (slice_index pairs.workers.items.now k) < functions) × (0 < slice_index tree.place.now (slice_index owner (slice_index pairs.workers.items.now k)))
+    → (slice_index owner (slice_index pairs.workers.items.now k) < functions)
+    × (0 < slice_index tree.place.now (slice_index owner (slice_index pairs.workers.items.now k)))
 
 -- Each worker of machine m is on a function that was reached.
 abbrev pub IsPassed : Pairs → List ℕ → ℕ → Tree → ℕ → Type 0
@@ -28,12 +29,18 @@ pub record IsTree (pairs : Pairs) (owner count need : List ℕ) (tree : Tree) : 
   pub room : HasRoom (length need) (machine_count pairs) tree
   pub known : (i : ℕ) → i < tree.tail → slice_index tree.reached.now i < length need
   pub placed : (i : ℕ) → i < tree.tail → slice_index tree.place.now (slice_index tree.reached.now i) ≡ i + 1
-  pub marked : (f : ℕ) → f < length need → 0 < slice_index tree.place.now f → (slice_index tree.place.now f ≤ tree.tail) × (slice_index tree.reached.now (slice_index tree.place.now f - 1) ≡ f)
+  pub marked :
+      (f : ℕ) → f < length need → 0 < slice_index tree.place.now f
+      → (slice_index tree.place.now f ≤ tree.tail) × (slice_index tree.reached.now (slice_index tree.place.now f - 1) ≡ f)
   pub employed : (i : ℕ) → 0 < i → i < tree.tail → slice_index tree.by.now i < length owner
   pub holds : (i : ℕ) → 0 < i → i < tree.tail → slice_index owner (slice_index tree.by.now i) ≡ slice_index tree.reached.now i
   pub earlier : (i : ℕ) → 0 < i → i < tree.tail → slice_index tree.from.now i < i
-  pub permitted : (i : ℕ) → 0 < i → i < tree.tail → IsPair pairs (slice_index tree.by.now i) (slice_index tree.reached.now (slice_index tree.from.now i))
-  pub tight : (i : ℕ) → i < tree.tail → slice_index count (slice_index tree.reached.now i) ≤ slice_index need (slice_index tree.reached.now i)
+  pub permitted :
+      (i : ℕ) → 0 < i → i < tree.tail
+      → IsPair pairs (slice_index tree.by.now i) (slice_index tree.reached.now (slice_index tree.from.now i))
+  pub tight :
+      (i : ℕ) → i < tree.tail
+      → slice_index count (slice_index tree.reached.now i) ≤ slice_index need (slice_index tree.reached.now i)
   pub passed : (m : ℕ) → slice_index_or tree.passed.now m false ≡ true → IsPassed pairs owner (length need) tree m
 
 -- The tree gains function g, reached by worker w from the function at that place.
@@ -64,7 +71,8 @@ pub record Extends (old new : Tree) : Type 0 where
 -- Each machine that may do f, up to place k of the list of machines, was passed.
 abbrev pub IsClosedUpTo : Pairs → Tree → ℕ → ℕ → Type 0
 IsClosedUpTo pairs tree f end =
-    (k : ℕ) → slice_index pairs.machines.first.now f ≤ k → k < end → slice_index_or tree.passed.now (slice_index pairs.machines.items.now k) false ≡ true
+    (k : ℕ) → slice_index pairs.machines.first.now f ≤ k → k < end
+    → slice_index_or tree.passed.now (slice_index pairs.machines.items.now k) false ≡ true
 
 -- Each machine that may do f was passed.
 abbrev pub IsClosed : Pairs → Tree → ℕ → Type 0
@@ -73,7 +81,10 @@ IsClosed pairs tree f = IsClosedUpTo pairs tree f (slice_index pairs.machines.fi
 -- The worker is idle, or on a function that was not reached and has more workers than it needs.
 abbrev pub IsSpare : List ℕ → List ℕ → List ℕ → Tree → ℕ → Type 0
 IsSpare owner count need tree w =
-    (slice_index owner w ≡ length need) ⊎ ((slice_index owner w < length need) × (slice_index tree.place.now (slice_index owner w) ≡ 0) × (slice_index need (slice_index owner w) < slice_index count (slice_index owner w)))
+    (slice_index owner w ≡ length need)
+    ⊎ ((slice_index owner w < length need)
+    × (slice_index tree.place.now (slice_index owner w) ≡ 0)
+    × (slice_index need (slice_index owner w) < slice_index count (slice_index owner w)))
 
 -- A spare worker who may do the function at that place of the tree.
 pub record IsWayOut (pairs : Pairs) (owner count need : List ℕ) (tree : Tree) (w head : ℕ) : Type 0 where

@@ -1,20 +1,19 @@
-//! Functions served one after the other, each by alternating paths.
+//! The search over the tables of a round: it serves each function by alternating paths, or shows a set that is short.
 
-ghost use Rattle.std.specs.Prelude.{◌≡◌, ℕ, ◌+◌, ◌-◌, ◌*◌, ◌^◌, ◌<◌, ◌≤◌, length, slice_index, take, Bool, List};
+ghost use Rattle.std.specs.Prelude.{◌≡◌, ℕ, ◌+◌, ◌*◌, ◌^◌, ◌<◌, ◌≤◌, length, slice_index, take, IfOk, OnErr, IfSome, IfNone};
 ghost use Rattle.std.specs.Bool.{OnTrue, OnFalse};
 ghost use Rattle.std.specs.List.{range_with_len};
 ghost use Rattle.std.specs.List.Sorted.{IsPermutation};
-ghost use Rattle.round_arena.specs.Plan.{IsGraph, IsAssigned, IsCounted, count_on, machine_count, pair_total};
-ghost use Rattle.augment.specs.Tree.{HasRoom};
+ghost use Rattle.round_arena.specs.Plan.{IsGraph, count_on, pair_total};
+ghost use Rattle.round_arena.specs.Round.{IsConsistent, SamePairs};
 ghost use Rattle.augment.specs.Moves.{GainsOne, IsStuck};
-ghost use Rattle.round_arena.specs.Planning.{LacksWorkers};
-ghost use Rattle.round_arena.specs.Plan.{Represents};
+ghost use Rattle.augment.specs.Round.{AreLimited, IsCapped, IsServed, IsWithinLooks, KeepsServed, PaysForWorkers, served};
+ghost use Rattle.augment.specs.Searching.{AddsLooks, HasNeeds, IsLacking, IsStaffed, ShowsShort};
 ghost use Rattle.augment.specs.Short.{marked};
-ghost use Rattle.round_arena.specs.Round.{SamePairs};
-ghost use Rattle.augment.specs.Round.{IsCapped, KeepsServed, served};
 
 use crate::search::{Tree, search};
 use round_arena::{FuncId, Tables};
+use std::alloc::AllocError;
 
 /// What `serve` found. The set lies in the arena of the tables.
 #[derive(Drop)]
@@ -28,22 +27,17 @@ pub enum Served<'a> {
 // Gives `root` one worker more, and says whether there was one to be had.
 fn serve_one(tables: &mut Tables, need: &[u32], root: u32, tree: &mut Tree, looks: &mut u64) -> bool
     requires graph { IsGraph (length need.now) (length tables.old.owner.now) tables.old.pairs }
-    requires assigned { IsAssigned (length need.now) tables.old.pairs tables.old.owner.now }
-    requires counted { IsCounted (length need.now) tables.old.owner.now tables.old.count.now }
-    requires room { HasRoom (length need.now) (machine_count tables.old.pairs) tree.old }
-    requires root { root < length need.now }
-    requires lacking { slice_index tables.old.count.now root < slice_index need.now root }
+    requires staffed { IsStaffed tables.old.pairs need.now tables.old.owner.now tables.old.count.now tree.old }
+    requires lacking { IsLacking tables.old need.now root }
     requires looks { looks.old + pair_total tables.old.pairs < 2 ^ 64 }
     ensures same { SamePairs tables.old tables.new }
-    ensures assigned { IsAssigned (length need.now) tables.old.pairs tables.new.owner.now }
-    ensures counted { IsCounted (length need.now) tables.new.owner.now tables.new.count.now }
-    ensures room { HasRoom (length need.now) (machine_count tables.old.pairs) tree.new }
-    ensures looks { looks.new ≤ looks.old + pair_total tables.old.pairs }
-    ensures more { looks.old ≤ looks.new }
+    ensures staffed { IsStaffed tables.old.pairs need.now tables.new.owner.now tables.new.count.now tree.new }
+    ensures looks { AddsLooks (pair_total tables.old.pairs) looks.old looks.new }
     ensures looked { OnTrue result (looks.old < looks.new) }
     ensures gained { OnTrue result (GainsOne (length need.now) root need.now tables.old.owner.now tables.new.owner.now) }
     ensures stays { OnFalse result (tables.new.owner.now ≡ tables.old.owner.now) }
-    ensures stuck { OnFalse result (IsStuck tables.old.pairs tables.new.owner.now tables.new.count.now need.now tree.new root) }
+    ensures stuck { OnFalse result
+        (IsStuck tables.old.pairs tables.new.owner.now tables.new.count.now need.now tree.new root) }
 {
     let Some(way) = search(tables, need, root, tree, looks) else {
         return false;
@@ -64,31 +58,29 @@ fn serve_one(tables: &mut Tables, need: &[u32], root: u32, tree: &mut Tree, look
     true
 }
 
-/// Moves workers until each function has its need, in the order of the tables, and says whether that was
-/// reached. Where it was not, the functions marked in the tree are short of workers. The pairs that it
-/// looks at are counted in `looks`, and not in the tables.
-pub fn serve_all(tables: &mut Tables, need: &[u32], tree: &mut Tree, looks: &mut u64) -> bool
+// Moves workers until each function has its need, in the order of the tables, and says whether that was
+// reached. Where it was not, the functions marked in the tree are short of workers. The pairs that it
+// looks at are counted in `looks`, and not in the tables.
+fn serve_all(tables: &mut Tables, need: &[u32], tree: &mut Tree, looks: &mut u64) -> bool
     requires order { IsPermutation (range_with_len 0 (length need.now)) tables.old.order.now }
     requires graph { IsGraph (length need.now) (length tables.old.owner.now) tables.old.pairs }
-    requires assigned { IsAssigned (length need.now) tables.old.pairs tables.old.owner.now }
-    requires counted { IsCounted (length need.now) tables.old.owner.now tables.old.count.now }
-    requires room { HasRoom (length need.now) (machine_count tables.old.pairs) tree.old }
+    requires staffed { IsStaffed tables.old.pairs need.now tables.old.owner.now tables.old.count.now tree.old }
     requires looks { looks.old + (length tables.old.owner.now + 1) * pair_total tables.old.pairs < 2 ^ 64 }
     ensures same { SamePairs tables.old tables.new }
-    ensures assigned { IsAssigned (length need.now) tables.old.pairs tables.new.owner.now }
-    ensures counted { IsCounted (length need.now) tables.new.owner.now tables.new.count.now }
-    ensures room { HasRoom (length need.now) (machine_count tables.old.pairs) tree.new }
+    ensures staffed { IsStaffed tables.old.pairs need.now tables.new.owner.now tables.new.count.now tree.new }
     ensures kept { KeepsServed need.now tables.old tables.new }
     ensures capped { IsCapped need.now tables.old tables.new }
-    ensures served { OnTrue result ((f : ℕ) → f < length need.now → slice_index need.now f ≤ count_on tables.new.owner.now f) }
-    ensures short { OnFalse result ((permits : ℕ → ℕ → Bool) (machines : List ℕ) → length machines ≡ length tables.old.owner.now → Represents permits machines tables.old.pairs (length need.now) → LacksWorkers permits machines (length need.now) (λ f. slice_index need.now f) (marked tree.new.place.now (length need.now))) }
-    ensures looks_served { OnTrue result (looks.new ≤ looks.old + length tables.old.owner.now * pair_total tables.old.pairs) }
-    ensures looks { looks.new ≤ looks.old + (length tables.old.owner.now + 1) * pair_total tables.old.pairs }
+    ensures served { OnTrue result (HasNeeds need.now tables.new.owner.now) }
+    ensures short { OnFalse result (ShowsShort tables.old.pairs (length tables.old.owner.now) need.now
+        (marked tree.new.place.now (length need.now))) }
+    ensures looks_served { OnTrue result
+        (looks.new ≤ looks.old + length tables.old.owner.now * pair_total tables.old.pairs) }
+    ensures looks { AddsLooks ((length tables.old.owner.now + 1) * pair_total tables.old.pairs) looks.old looks.new }
 
     // Each worker who is gained for a need costs a look at least, and so does each idle worker who gets a function.
-    ensures more { looks.old ≤ looks.new }
     ensures paid { looks.old + served need.now tables.new.owner.now ≤ looks.new + served need.now tables.old.owner.now }
-    ensures hired { looks.old + count_on tables.old.owner.now (length need.now) ≤ looks.new + count_on tables.new.owner.now (length need.now) }
+    ensures hired { looks.old + count_on tables.old.owner.now (length need.now)
+        ≤ looks.new + count_on tables.new.owner.now (length need.now) }
 {
     let order = tables.order;
     for k in 0..order.len() {
@@ -102,8 +94,8 @@ pub fn serve_all(tables: &mut Tables, need: &[u32], tree: &mut Tree, looks: &mut
     true
 }
 
-/// Writes the marked functions to the front of `set`, in order, and gives their number.
-pub fn collect(place: &[usize], set: &mut [FuncId]) -> usize
+// Writes the marked functions to the front of `set`, in order, and gives their number.
+fn collect(place: &[usize], set: &mut [FuncId]) -> usize
     requires room { length set.old ≡ length place.now }
     requires functions { length place.now < 2 ^ 32 }
     ensures within { result ≤ length set.new }
@@ -117,4 +109,85 @@ pub fn collect(place: &[usize], set: &mut [FuncId]) -> usize
         }
     }
     n
+}
+
+/// Moves workers until each function has the number of workers that `need` has for it, or gives a set
+/// of functions that need more workers than may do any of them (Hall's theorem, with demands: then
+/// nobody can serve these needs). In both cases each worker does at most one function, a permitted
+/// one.
+///
+/// The condition on the needs is that each is at most the function's greatest number of workers, or above
+/// the number of workers. Where one is above the number of workers, the set is its function alone, nothing
+/// is looked at and nobody moves.
+///
+/// No function falls below the smaller of its need and its number before, nor rises above the larger. None
+/// gets more workers than its greatest number.
+///
+/// For L workers and P permitted pairs it looks at most at L * P pairs if all is served, and at (L + 1) * P if a set is
+/// short; so many looks must fit into the tables' counter. It looks at least once for each worker who is gained for a need,
+/// and for each idle worker who gets a function.
+///
+/// The only error is that a growth of the arena was refused. All growths are made first, so then the
+/// tables are as before.
+pub fn serve<'a>(tables: &mut Tables<'a>, need: &[u32]) -> Result<Served<'a>, AllocError>
+    requires sound { IsConsistent (length need.now) tables.old }
+    requires limited { AreLimited need.now tables.old }
+    requires looks { tables.old.looks + (length tables.old.owner.now + 1) * pair_total tables.old.pairs < 2 ^ 64 }
+    ensures sound { IsConsistent (length need.now) tables.new }
+    ensures same { SamePairs tables.old tables.new }
+    ensures served { IfOk result (IsServed need.now tables.new) }
+    ensures kept { KeepsServed need.now tables.old tables.new }
+    ensures capped { IsCapped need.now tables.old tables.new }
+    ensures looks { IfOk result (IsWithinLooks tables.old tables.new) }
+    ensures paid { PaysForWorkers need.now tables.old tables.new }
+    ensures memory { OnErr result (tables.new ≡ tables.old) }
+{
+    let functions = need.len();
+    let bump = tables.bump;
+    if let Some(alone) = beyond(need, tables.owner.len()) {
+        let set = bump.try_alloc_slice_copy(&[FuncId::new(alone)])?;
+        return Ok(Served::Short(set));
+    }
+    let machines = tables.pairs.workers.first.len() - 1;
+    let set = bump.try_alloc_slice_fill_clone(functions, FuncId::new(0))?;
+    let mut tree = Tree {
+        reached: bump.try_alloc_slice_fill_clone(functions, 0)?,
+        by: bump.try_alloc_slice_fill_clone(functions, 0)?,
+        from: bump.try_alloc_slice_fill_clone(functions, 0)?,
+        place: bump.try_alloc_slice_fill_clone(functions, 0)?,
+        tail: 0,
+        passed: bump.try_alloc_slice_fill_clone(machines, false)?,
+    };
+    let mut looks = tables.looks;
+    let is_served = serve_all(tables, need, &mut tree, &mut looks);
+    tables.looks = looks;
+    if is_served {
+        return Ok(Served::All);
+    }
+    Ok(Served::Short(reached(&tree, set)))
+}
+
+// The first function that needs more workers than there are.
+fn beyond(need: &[u32], workers: usize) -> Option<u32>
+    requires functions { length need.now < 2 ^ 32 }
+    ensures above { IfSome result (λ f. (f < length need.now) × (workers < slice_index need.now f)) }
+    ensures within { IfNone result ((f : ℕ) → f < length need.now → slice_index need.now f ≤ workers) }
+{
+    for f in 0..need.len() {
+        if need[f] as usize > workers {
+            return Some(f as u32);
+        }
+    }
+    None
+}
+
+// The functions that the tree marks, in order.
+fn reached<'a>(tree: &Tree, set: &'a mut [FuncId]) -> &'a [FuncId]
+    requires room { length set.old ≡ length tree.now.place.now }
+    requires functions { length set.old < 2 ^ 32 }
+    ensures { result.now ≡ marked tree.now.place.now (length tree.now.place.now) }
+{
+    let place = &*tree.place;
+    let n = collect(place, set);
+    &set[..n]
 }

@@ -61,7 +61,8 @@ pub fn solve_levels<'a>(tables: &mut Tables<'a>, input: &Input) -> Result<Found<
     ensures sound { IsConsistent (length input.now.least) tables.new }
     ensures same { SamePairs tables.old tables.new }
     ensures found { IfOk result (IsFound input.now tables.new) }
-    ensures looks { IfOk result (λ found. tables.new.looks + passes found * pair_total tables.old.pairs ≤ tables.old.looks + 34 * ((length tables.old.owner.now + 1) * pair_total tables.old.pairs)) }
+    ensures looks { IfOk result (λ found. tables.new.looks + passes found * pair_total tables.old.pairs
+        ≤ tables.old.looks + 34 * ((length tables.old.owner.now + 1) * pair_total tables.old.pairs)) }
     ensures hired { OnOk result (Hires (length input.now.least) tables.old tables.new) }
 {
     if let Served::Short(set) = probe(tables, input, TOP_LEVEL)? {
@@ -70,6 +71,7 @@ pub fn solve_levels<'a>(tables: &mut Tables<'a>, input: &Input) -> Result<Found<
     let mut low = 0u64;
     let mut high = TOP_LEVEL;
     let mut short: &'a [FuncId] = &[];
+    // There are 2^33 levels, so 33 halvings leave one. With a `for` the bound on probes, and so on looks, is in the code.
     for _round in 0..33u32 {
         if low < high {
             let middle = low + (high - low) / 2;

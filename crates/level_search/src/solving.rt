@@ -35,20 +35,14 @@ pub struct Solved {
 fn empty_plan(alloc: Global) -> Plan
     ensures { result ≡ [] }
 {
-    match Plan::new(Vec::new(alloc)) {
-        Ok(plan) => plan,
-        Err(_) => unreachable!(),
-    }
+    Plan::of_rising(Vec::new(alloc))
 }
 
 fn copy_set(alloc: Global, functions: &[FuncId]) -> Result<FuncSet, AllocError>
     requires { IsStrictlyIncreasing functions.now }
     ensures { IfOk result (λ set. set ≡ functions.now) }
 {
-    match FuncSet::new(Vec::from_slice(alloc, functions)?) {
-        Ok(set) => Ok(set),
-        Err(_) => unreachable!(),
-    }
+    Ok(FuncSet::of_rising(Vec::from_slice(alloc, functions)?))
 }
 
 // The set that stands beside a backlog: none beside 0.
@@ -100,10 +94,11 @@ fn answer<'a>(
     ensures shown { IfOk result (Shown input.now) }
 
     // Where nobody is idle for nothing, and the tables hold the plan before, the answer's plan is theirs.
-    ensures kept { IfOk result (λ answer. origin ≡ Previous → Serves input.now tables.old.owner.now found.entry → IsTrue (is_full input.now (assigned (plan_of tables.old))) → HasPlan (plan_of tables.old) answer) }
+    ensures kept { IfOk result (λ answer. origin ≡ Previous → Serves input.now tables.old.owner.now found.entry
+        → IsTrue (is_full input.now (assigned (plan_of tables.old))) → HasPlan (plan_of tables.old) answer) }
     ensures looks { IfOk result (Fills found.entry (pair_total tables.old.pairs) tables.old.looks tables.new.looks) }
 {
-    let _live = input.live();
+    input.facts();
     match found {
         Found::Nothing(set) => Ok(Answer::NoPlan {
             short: copy_set(alloc, set)?,
@@ -130,14 +125,14 @@ fn answer<'a>(
 /// alternating paths.
 ///
 /// The search starts from the `previous` plan, cut to live workers and permitted functions, and
-/// answers it where it is best and leaves nobody idle who may do something.
+/// answers it if it is best and leaves nobody idle who may do something.
 ///
-/// Where the previous plan is not the answer, workers whom no need holds at the backlog move to the function, of those that they may
-/// do, that has the most waiting jobs for each worker, where these are at least twice as many as on the function that they leave. Only
-/// this much is promised of it: the plan stays as good as it is, and within the bound on looks.
+/// If the previous plan is not kept, spare workers move: each goes to the permitted function with the most waiting jobs per
+/// worker, if that is at least twice its own function's. Only this much is promised of it: the plan stays as good as it is, and
+/// within the bound on looks.
 ///
-/// With a plan, each permitted pair was looked at once more when idle workers were given something to do, and there was a look at
-/// least for each worker whom the needs at its backlog ask for beyond those who had a function by the previous plan.
+/// There is a lower bound on `looks` too, if there is a plan: filling idle workers costs one look a permitted pair, and each worker
+/// whom the needs at its backlog ask for beyond those who had a function by the previous plan costs at least one.
 ///
 /// All tables lie in `bump`; the answer is copied out of it, so the arena may be reset afterwards. The
 /// only error is that memory was refused, by `alloc` or by the arena's own allocator.
@@ -154,7 +149,7 @@ pub fn solve(
     ensures steady { IfOk result (λ solved. IfSome previous.entry (λ plan. IsSteady input.now plan.now solved.answer)) }
 {
     let mut tables = start(alloc, bump, input, previous)?;
-    let _live = input.live();
+    input.facts();
     let seed = remember(bump, &tables)?;
     let found = solve_levels(&mut tables, input)?;
     let origin = put_back(&mut tables, &seed, input, &found);

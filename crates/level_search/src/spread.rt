@@ -129,7 +129,7 @@ pub fn spread(tables: &mut Tables, input: &Input, level: u64)
     ensures looks { tables.new.looks ≤ tables.old.looks + pair_count input.now }
     ensures more { tables.old.looks ≤ tables.new.looks }
 {
-    let _live = input.live();
+    input.facts();
     for w in 0..tables.owner.len() {
         move_worker(tables, input, level, w);
     }

@@ -1,8 +1,10 @@
--- What is wrong with an answer, as a line tells it: a number, its place in the order in which `check` looks, and a name.
+-- What is wrong with an answer, as a line tells it: a number and a name. The numbers rise in the order in which `check` looks;
+-- 7 is left out, since the command `check` has a reason of that number.
 use Rattle.std.specs.Prelude.{codes}
 use Rattle.refusal.specs.Label.{Label, label}
 use Rattle.plan_model.specs.declared.answer.Reason.{Reason}
-use Rattle.plan_model.specs.declared.answer.Reason.TheVariants.{NotPermitted, BelowLeast, WrongBacklog, NotShort, SetMissing, Idle, AboveMost}
+use Rattle.plan_model.specs.declared.answer.Reason.TheVariants.{NotPermitted, BelowLeast, WrongBacklog, NotShort, SetMissing}
+use Rattle.plan_model.specs.declared.answer.Reason.TheVariants.{Idle, AboveMost}
 
 abbrev pub reason_label : Reason → Label
 reason_label NotPermitted = label 1 (codes "NotPermitted")

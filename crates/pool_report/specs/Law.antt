@@ -11,7 +11,8 @@ use Rattle.pool_settings.specs.Planning.{instance_of}
 use Rattle.pool_report.specs.Answered.{report_text, reported_worker}
 use Rattle.plan_model.specs.Shown.{Shown}
 use Rattle.pool_report.specs.Lines.{ReportLine, head, backlog, no_plan, task, short, needed, stranded, last, is_worker, line_of}
-use Rattle.pool_report.specs.Report.{Needed, Stranded, Worker, backlog_line, needed_line, short_line, stranded_line, task_line, worker_line, name_of_worker}
+use Rattle.pool_report.specs.Report.{Needed, Stranded, Worker, backlog_line, needed_line, short_line, stranded_line}
+use Rattle.pool_report.specs.Report.{task_line, worker_line, name_of_worker}
 use Rattle.text_pieces.specs.Lines.{ended}
 
 -- no byte of it is a line feed

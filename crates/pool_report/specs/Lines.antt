@@ -1,5 +1,6 @@
 -- One line of a report, as it is read: what it tells, less the numbers that an answer does not hold.
-use Rattle.std.specs.Prelude.{ℕ, ◌+◌, ◌^◌, List, length, take, drop, Bool, false, ◌&&◌, nat_lt, Option, Some, None, option_map, codes, if◌then◌else◌}
+use Rattle.std.specs.Prelude.{ℕ, ◌+◌, ◌^◌, List, length, take, drop, Bool, false, ◌&&◌, nat_lt, Option}
+use Rattle.std.specs.Prelude.{Some, None, option_map, codes, if◌then◌else◌}
 use Rattle.std.specs.Option.{option_map_or}
 use Rattle.std.specs.Str.{bytes_eq}
 use Rattle.pool_settings.specs.Names.{is_machine_name, is_name}

@@ -1,6 +1,7 @@
 //! The report of an answer, and its writing.
 
-ghost use Rattle.std.specs.Prelude.{◌≡◌, ◌+◌, ◌++◌, ◌^◌, ◌-◌, ◌<◌, [], if◌then◌else◌, IfOk, OnOk, All, length, map, option_map, string_bytes};
+ghost use Rattle.std.specs.Prelude.{◌≡◌, ◌+◌, ◌++◌, ◌^◌, ◌-◌, ◌<◌, [], if◌then◌else◌, IfOk, OnOk, All};
+ghost use Rattle.std.specs.Prelude.{length, map, option_map, string_bytes};
 ghost use Rattle.std.specs.List.{flat_map};
 ghost use Rattle.plan_model.specs.Planning.{assigned, is_stranded};
 ghost use Rattle.plan_model.specs.Shown.{IsEvidence, Shown};

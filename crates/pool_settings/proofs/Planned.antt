@@ -6,7 +6,7 @@ use Rattle.std.specs.List.Sorted.{IsStrictlyIncreasing}
 use Rattle.std.proofs.lemmas.List.Elements.{All-filter, All-from_get_or}
 use Rattle.std.proofs.lemmas.List.FromFn.{get_or-enumerate_from, length-enumerate_from}
 use Rattle.std.proofs.lemmas.List.Kept.{IsStrictlyIncreasing-filter}
-use Rattle.plan_model.specs.InputRefusals.{AreSlotsInOrder, IsTaken, Refuses, instance}
+use Rattle.plan_model.specs.InputRefusals.{AreSlotsInOrder, IsTaken, Refuses, as_given, instance}
 use Rattle.plan_model.specs.declared.input.InputError.{InputError}
 use Rattle.plan_model.specs.declared.input.InputError.TheVariants.{BadMachine, Memory, SlotOrder, TooMany}
 use Rattle.plan_model.proofs.Ranges.{range-rises}
@@ -63,7 +63,7 @@ module _ (p : Settings) (valid : AreSettings p) (live : List Bool) where
           rw at (omega (arith, inside, many, valid.workers_few))
 
   -- a planner takes them
-  pub taken : (waiting : List ℕ) → length waiting ≡ length p.functions → IsTaken (live_workers p live) p.may p.least p.most waiting
+  pub taken : (waiting : List ℕ) → length waiting ≡ length p.functions → IsTaken (as_given (live_workers p live) p.may p.least p.most waiting)
   taken waiting paired = record {
     order = order;
     numbers = record { machines = machines; functions = subst (λ n. All (λ row. All (λ f. f < n) row) p.may) (sym valid.least_paired) valid.may_within; bounded = valid.most_paired ∙ sym valid.least_paired; paired = paired ∙ sym valid.least_paired };
@@ -82,7 +82,7 @@ module _ (p : Settings) (valid : AreSettings p) (live : List Bool) where
       ap (λ (rows : List (List ℕ)). record { live = live_workers p live; may = rows; least = p.least; most = p.most; waiting = waiting }) (rows_same (length p.least) p.may valid.may_rise within)
 
 -- what is refused although it is taken is refused for want of memory
-pub only_memory : (error : InputError) (live : List (ℕ × ℕ)) (may : List (List ℕ)) (least most waiting : List ℕ) → IsTaken live may least most waiting → Refuses error live may least most waiting → error ≡ Memory
+pub only_memory : (error : InputError) (live : List (ℕ × ℕ)) (may : List (List ℕ)) (least most waiting : List ℕ) → IsTaken (as_given live may least most waiting) → Refuses error (as_given live may least most waiting) → error ≡ Memory
 only_memory SlotOrder live may least most waiting taken refused = absurd (refused taken.order)
 only_memory BadMachine live may least most waiting taken refused = absurd (refused.1 taken.numbers)
 only_memory TooMany live may least most waiting taken refused = absurd (refused.2 taken.limits)
@@ -101,7 +101,7 @@ module _ (live : List (ℕ × ℕ)) (may : List (List ℕ)) (least most waiting 
       ap (λ t. instance t may least most waiting) parts.live_is ∙ ap (λ t. instance (live_workers p marks) t least most waiting) parts.may_is
       ∙ ap (λ t. instance (live_workers p marks) p.may t most waiting) parts.least_is ∙ ap (λ t. instance (live_workers p marks) p.may p.least t waiting) parts.most_is
 
-  pub same_taken : IsTaken (live_workers p marks) p.may p.least p.most waiting → IsTaken live may least most waiting
+  pub same_taken : IsTaken (as_given (live_workers p marks) p.may p.least p.most waiting) → IsTaken (as_given live may least most waiting)
   same_taken taken =
-      subst (λ t. IsTaken t may least most waiting) (sym parts.live_is) (subst (λ t. IsTaken (live_workers p marks) t least most waiting) (sym parts.may_is)
-      (subst (λ t. IsTaken (live_workers p marks) p.may t most waiting) (sym parts.least_is) (subst (λ t. IsTaken (live_workers p marks) p.may p.least t waiting) (sym parts.most_is) taken)))
+      subst (λ t. IsTaken (as_given t may least most waiting)) (sym parts.live_is) (subst (λ t. IsTaken (as_given (live_workers p marks) t least most waiting)) (sym parts.may_is)
+      (subst (λ t. IsTaken (as_given (live_workers p marks) p.may t most waiting)) (sym parts.least_is) (subst (λ t. IsTaken (as_given (live_workers p marks) p.may p.least t waiting)) (sym parts.most_is) taken)))

@@ -37,7 +37,8 @@ function_at functions f = if nat_lt f functions then Some f else None
 
 -- Each worker by its slot, with its function.
 abbrev pub plan_entries : ℕ → List ℕ → List ℕ → List (ℕ × Option ℕ)
-plan_entries functions slots owner = map (λ w. (slice_index slots w, function_at functions (slice_index owner w))) (range_with_len 0 (length slots))
+plan_entries functions slots owner =
+    map (λ w. (slice_index slots w, function_at functions (slice_index owner w))) (range_with_len 0 (length slots))
 
 -- The plan that the tables hold: it lists each worker.
 abbrev pub plan_of : Tables → List (ℕ × Option ℕ)

@@ -41,10 +41,7 @@ pub fn copy_plan(alloc: Global, tables: &Tables) -> Result<Plan, AllocError>
     ensures { IfOk result (λ plan. plan ≡ plan_of tables.now) }
 {
     let entries = copy_entries(alloc, tables.slot, tables.owner, tables.order.len())?;
-    match Plan::new(entries) {
-        Ok(plan) => Ok(plan),
-        Err(_) => unreachable!(),
-    }
+    Ok(Plan::of_rising(entries))
 }
 
 /// How many permitted pairs of a worker and a function have been looked at since the tables were

@@ -12,7 +12,7 @@ use Rattle.level_search.proofs.solving.answer.Goals as goal
 
 pub settle-requires-clause-staff : goal.settle-requires-clause-staff
 settle-requires-clause-staff c =
-    omega (arith, c.requires.sound.slots, ap length c.requires.slots, length-map c.args.input.now.live (λ worker. worker.0), c.live-live.ensures.valid.limits.workers)
+    omega (arith, c.requires.sound.slots, ap length c.requires.slots, length-map c.args.input.now.live (λ worker. worker.0), c.facts.ensures.limits.workers)
 
 pub settle-requires-clause-met : goal.settle-requires-clause-met
 settle-requires-clause-met c =
@@ -40,5 +40,5 @@ returns-in_ok-short-in-Level-clause-shown c =
     let t = c.args.tables.now in
     let u = c.settle.new.tables in
     let found : IsFound i t (Level c.in-Level.level c.in-Level.set) = subst (λ (z : Found). IsFound i t z) c.in-Level.is c.requires.found in
-    shown-settled i t u c.in-Level.level c.in-Level.set.now c.in_ok-plan-in-Level.plan c.in_ok-short-in-Level.short c.live-live.ensures.valid c.requires.slots c.settle.ensures.settled c.settle.ensures.same found.1
+    shown-settled i t u c.in-Level.level c.in-Level.set.now c.in_ok-plan-in-Level.plan c.in_ok-short-in-Level.short c.facts.ensures c.requires.slots c.settle.ensures.settled c.settle.ensures.same found.1
     c.in_ok-plan-in-Level.ensures c.in_ok-short-in-Level.ensures

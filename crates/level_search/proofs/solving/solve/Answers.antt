@@ -10,7 +10,7 @@ use Rattle.level_search.proofs.solving.solve.Goals as goal
 
 pub solve_levels-requires-clause-looks : goal.solve_levels-requires-clause-looks
 solve_levels-requires-clause-looks c =
-    omega (arith, looks-few c.args.input.now c.live-live.ensures.valid, looks-start c.args.input.now c.in_ok-tables.tables c.in_ok-tables.ensures.starts)
+    omega (arith, looks-few c.args.input.now c.facts.ensures, looks-start c.args.input.now c.in_ok-tables.tables c.in_ok-tables.ensures.starts)
 
 pub answer-requires-clause-looks : goal.answer-requires-clause-looks
 answer-requires-clause-looks c =
@@ -20,8 +20,8 @@ answer-requires-clause-looks c =
       c.put_back-origin.ensures.looks,
       pairs-same c.in_ok-tables.tables c.solve_levels.new.tables c.solve_levels.ensures.same,
       pairs-same c.solve_levels.new.tables c.put_back-origin.new.tables c.put_back-origin.ensures.same,
-      looks-few c.args.input.now c.live-live.ensures.valid,
-      pair_count-few c.args.input.now c.live-live.ensures.valid,
+      looks-few c.args.input.now c.facts.ensures,
+      pair_count-few c.args.input.now c.facts.ensures,
       c.in_ok-tables.ensures.starts.pairs,
       looks-start c.args.input.now c.in_ok-tables.tables c.in_ok-tables.ensures.starts,
     )
@@ -50,7 +50,7 @@ pub returns-clause-steady : goal.returns-clause-steady
 returns-clause-steady c =
     IfSome_then c.args.previous c.in_ok-tables.ensures.kept
     (λ plan kept. steady-kept c.args.input.now c.in_ok-tables.tables c.solve_levels.new.tables c.put_back-origin.new.tables c.put_back-origin.result c.in_ok-seed.seed c.in_ok-found.found plan.now c.in_ok-answer.answer
-    c.live-live.ensures.valid c.in_ok-tables.ensures.starts kept c.in_ok-seed.ensures.owner c.solve_levels.ensures.same c.solve_levels.ensures.sound c.in_ok-found.ensures.found c.put_back-origin.ensures.same c.put_back-origin.ensures.kept c.put_back-origin.ensures.origin.1 c.in_ok-answer.ensures.kept)
+    c.facts.ensures c.in_ok-tables.ensures.starts kept c.in_ok-seed.ensures.owner c.solve_levels.ensures.same c.solve_levels.ensures.sound c.in_ok-found.ensures.found c.put_back-origin.ensures.same c.put_back-origin.ensures.kept c.put_back-origin.ensures.origin.1 c.in_ok-answer.ensures.kept)
 
 pub returns-clause-paid : goal.returns-clause-paid
 returns-clause-paid c =

@@ -12,10 +12,10 @@ pub returns-in-Planned-clause-best : goal.returns-in-Planned-clause-best
 returns-in-Planned-clause-best c =
     let i = c.args.input.now in
     let S : Answer → Type 0 = Shown i in
-    on_ok c.check_plan.result (Best i c.args.answer.now) (λ ok. shown_best i c.args.answer.now c.live-live.ensures.valid (subst S (sym c.in-Planned.is) (c.check_plan.ensures.ok.0 ok)))
+    on_ok c.check_plan.result (Best i c.args.answer.now) (λ ok. shown_best i c.args.answer.now c.facts.ensures (subst S (sym c.in-Planned.is) (c.check_plan.ensures.ok.0 ok)))
 
 pub returns-then-is_short-clause-best : goal.returns-then-is_short-clause-best
 returns-then-is_short-clause-best c =
     let i = c.args.input.now in
     let S : Answer → Type 0 = Shown i in
-    shown_best i c.args.answer.now c.live-live.ensures.valid (subst S (sym c.in-NoPlan.is) (c.is_short.ensures.0 c.if-is_short.true))
+    shown_best i c.args.answer.now c.facts.ensures (subst S (sym c.in-NoPlan.is) (c.is_short.ensures.0 c.if-is_short.true))

@@ -1,5 +1,5 @@
-use Rattle.std.proofs.Common.{◌≡◌, ◌<◌, ◌&&◌, ◌+◌, take, ℕ, Bool, leb, length, max, fold, get_or, sym, ap, ◌∙◌, arith}
-use Rattle.std.specs.List.{list_all, range_with_len}
+use Rattle.std.proofs.Common.{◌≡◌, ◌<◌, ◌&&◌, ℕ, Bool, leb, length, max, fold, get_or, sym, ap, ◌∙◌, arith}
+use Rattle.std.specs.List.{list_all}
 use Rattle.plan_model.specs.Planning.{workers_on, counted_waiting, cost, assigned}
 use Rattle.plan_model.proofs.Ranges.{list_all-range_more, fold-range_more, take-range_all}
 use Rattle.plan_model.proofs.checker.outcome_of.Goals.{then-meets_least, else-meets_least, then-meets_most, else-meets_most}

@@ -1,4 +1,4 @@
-use Rattle.std.proofs.Common.{rules, ◌↔◌, ℕ, List, ltb, map, subst}
+use Rattle.std.proofs.Common.{rules, ◌↔◌, ℕ, List, ltb, subst}
 use Rattle.std.specs.Prelude.{IsTrue}
 use Rattle.std.specs.List.Sorted.{IsStrictlyIncreasing}
 use Rattle.std.proofs.lemmas.Fn.{always_returns_same}
