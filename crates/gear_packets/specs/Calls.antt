@@ -38,7 +38,8 @@ Leads from (gave m ∷ calls) to = (next : Reading) × (from ≡ after_message m
 -- However the stream was cut, and whenever the responses were taken: those that were given, those that are still to
 -- be given, and the rest or the fault behind them are what the stream so far says.
 abbrev pub GivesItsStream : Type 0
-GivesItsStream = (calls : List Call) (reader : Reading) → Leads nothing_read calls reader → reading (stream calls) ≡ behind (responses calls) reader
+GivesItsStream = (calls : List Call) (reader : Reading)
+    → Leads nothing_read calls reader → reading (stream calls) ≡ behind (responses calls) reader
 
 -- what a stream leaves unread is no whole packet
 abbrev pub LeavesNoPacket : Type 0

@@ -1,6 +1,7 @@
 -- A packet of either side: four bytes of magic, its type, the size of its body, and the body. Both numbers
 -- have four bytes, the highest first.
-use Rattle.std.specs.Prelude.{◌≡◌, ◌<◌, ◌^◌, All, ℕ, ◌+◌, Bool, true, ◌&&◌, ◌==◌, nat_lt, if◌then◌else◌, List, [], ◌∷◌, ◌++◌, length, take, drop}
+use Rattle.std.specs.Prelude.{◌≡◌, ◌<◌, ◌^◌, All, ℕ, ◌+◌, Bool, true, ◌&&◌, ◌==◌, nat_lt, if◌then◌else◌, List, [], ◌∷◌, ◌++◌, length}
+use Rattle.std.specs.Prelude.{take, drop}
 use Rattle.byteorder.specs.Endian.{big_bytes, big_number}
 
 abbrev pub request_magic : List ℕ

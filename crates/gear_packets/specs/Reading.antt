@@ -3,16 +3,22 @@ use Rattle.std.specs.Prelude.{◌≡◌, ℕ, List, [], Option, Some, None, Resu
 use Rattle.gear_packets.specs.declared.fault.StreamFault.{StreamFault}
 use Rattle.gear_packets.specs.declared.fault.FeedError.{FeedError}
 use Rattle.gear_packets.specs.declared.fault.FeedError.TheVariants.{Fault, Memory}
+use Rattle.gear_packets.specs.declared.response.Assignment.{Assignment}
 use Rattle.gear_packets.specs.declared.response.Response.{Response}
 use Rattle.gear_packets.specs.declared.response.Response.TheVariants as response
-use Rattle.gear_packets.specs.Response.{Message, noop, no_job, assign, server_error, other}
+use Rattle.gear_packets.specs.Response.{AssignedJob, Message, noop, no_job, assign, server_error, other}
 use Rattle.gear_packets.specs.Text.{Ending, unread, broken, Reading, further}
+
+-- an assignment without where it lies in memory
+abbrev pub job_of : Assignment → AssignedJob
+job_of a = record { handle = a.handle; function = a.function.items; unique = a.unique.items; payload = a.payload.items }
 
 -- a response without where it lies in memory
 abbrev pub message_of : Response → Message
 message_of response.Noop = noop
 message_of response.NoJob = no_job
-message_of (response.Assign handle function unique payload) = assign (record { handle = handle; function = function.items; unique = unique.items; payload = payload.items })
+message_of (response.Assign handle function unique payload) =
+    assign (job_of (record { handle = handle; function = function; unique = unique; payload = payload }))
 message_of (response.Fault code text) = server_error code.items text.items
 message_of (response.Other kind) = other kind
 

@@ -1,7 +1,8 @@
 -- A request of the code, without where it lies in memory.
 use Rattle.gear_packets.specs.declared.request.Request.{Request}
 use Rattle.gear_packets.specs.declared.request.Request.TheVariants as request
-use Rattle.gear_packets.specs.Request.{Packet, can_do, cant_do, pre_sleep, grab_job, set_client_id, work_status, work_complete, work_fail, work_data, work_warning}
+use Rattle.gear_packets.specs.Request.{Packet, can_do, cant_do, pre_sleep, grab_job, set_client_id, work_status, work_complete, work_fail}
+use Rattle.gear_packets.specs.Request.{work_data, work_warning}
 
 abbrev pub packet_of : Request → Packet
 packet_of (request.CanDo name) = can_do name.now

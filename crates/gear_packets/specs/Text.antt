@@ -1,10 +1,13 @@
 -- Whole texts of packets: what a stream from the server says, and what a worker has sent.
-use Rattle.std.specs.Prelude.{◌≡◌, ℕ, zero, suc, Bool, true, false, not, nat_eq, if◌then◌else◌, List, [], ◌∷◌, ◌++◌, length, Option, Some, None}
+use Rattle.std.specs.Prelude.{◌≡◌, ℕ, zero, suc, Bool, true, false, not, nat_eq, if◌then◌else◌, List, [], ◌∷◌, ◌++◌, length, Option, Some}
+use Rattle.std.specs.Prelude.{None}
 use Rattle.std.specs.List.{filter, flat_map, filter_map, list_any, AllByRecursion}
 use Rattle.std.specs.Cmp.Lexicographic.{pointwise}
 use Rattle.gear_packets.specs.declared.fault.StreamFault.{StreamFault}
-use Rattle.gear_packets.specs.Request.{Packet, can_do, cant_do, pre_sleep, grab_job, set_client_id, work_status, work_complete, work_fail, work_data, work_warning, spelling, IsSent, first_request}
-use Rattle.gear_packets.specs.Response.{AssignedJob, Message, noop, no_job, assign, server_error, other, gives, faulty, waits, first_response}
+use Rattle.gear_packets.specs.Request.{Packet, can_do, cant_do, pre_sleep, grab_job, set_client_id, work_status, work_complete, work_fail}
+use Rattle.gear_packets.specs.Request.{work_data, work_warning, spelling, IsSent, first_request}
+use Rattle.gear_packets.specs.Response.{AssignedJob, Message, noop, no_job, assign, server_error, other, gives, faulty, waits}
+use Rattle.gear_packets.specs.Response.{first_response}
 
 -- how a stream ends: with bytes that are no whole packet yet, or at a fault
 pub data Ending : Type 0 where
@@ -129,7 +132,8 @@ SaysItsPackets = (ps : List Packet) → AllByRecursion IsSent ps → (sent (text
 -- that packet alone.
 abbrev pub GrowsByARequest : Type 0
 GrowsByARequest = (text : List ℕ) (p : Packet) → (sent text).rest ≡ [] → IsSent p
-    → (work_requests (text ++ spelling p) ≡ work_requests text ++ filter is_work (p ∷ [])) × (registered (text ++ spelling p) ≡ register (registered text) p)
+    → (work_requests (text ++ spelling p) ≡ work_requests text ++ filter is_work (p ∷ []))
+    × (registered (text ++ spelling p) ≡ register (registered text) p)
 
 -- the same of a stream of whole responses
 abbrev pub GrowsByAResponse : Type 0

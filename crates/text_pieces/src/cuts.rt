@@ -3,7 +3,7 @@
 ghost use Rattle.std.specs.Prelude.{◌≡◌, ◌<◌, ℕ, List, IfSome, length, option_map};
 ghost use Rattle.text_pieces.specs.Cuts as spec;
 
-/// The text before and behind the first byte of one kind, and none where the text has no such byte.
+/// The text before the first such byte, and the text after it. `None` if the text has no such byte.
 pub fn cut_first(byte: u8, text: &[u8]) -> Option<(&[u8], &[u8])>
     ensures parts { option_map {U = List ℕ × List ℕ} (λ p. (p.0.now, p.1.now)) result ≡ spec.cut_first byte text.now }
     ensures shorter { IfSome result (λ p. length p.1.now < length text.now) }
@@ -12,7 +12,7 @@ pub fn cut_first(byte: u8, text: &[u8]) -> Option<(&[u8], &[u8])>
     Some((&text[..at], &text[at + 1..]))
 }
 
-/// The text before and behind the last byte of one kind, and none where the text has no such byte. It looks from the end, so a
+/// The text before the last such byte, and the text after it. `None` if the text has no such byte. It looks from the end, so a
 /// short last part is found at once.
 pub fn cut_last(byte: u8, text: &[u8]) -> Option<(&[u8], &[u8])>
     ensures { option_map (λ p. (p.0.now, p.1.now)) result ≡ spec.cut_last byte text.now }

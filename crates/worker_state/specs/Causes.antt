@@ -3,7 +3,8 @@ use Rattle.std.specs.Prelude.{ℕ, List, [], ◌∷◌, Option, find, codes}
 use Rattle.std.specs.Str.{bytes_eq}
 use Rattle.refusal.specs.Label.{Label, label}
 use Rattle.worker_state.specs.declared.cause.Cause.{Cause}
-use Rattle.worker_state.specs.declared.cause.Cause.TheVariants.{BadPacket, ServerError, ReadFault, WriteFault, TurnsUsed, Memory, HistoryFull, Closed, Stopped, Late}
+use Rattle.worker_state.specs.declared.cause.Cause.TheVariants.{BadPacket, ServerError, ReadFault, WriteFault, TurnsUsed, Memory}
+use Rattle.worker_state.specs.declared.cause.Cause.TheVariants.{HistoryFull, Closed, Stopped, Late}
 
 abbrev pub cause_label : Cause → Label
 cause_label BadPacket = label 3 (codes "BadPacket")
