@@ -1,8 +1,7 @@
 -- A session between its reads.
-use Rattle.std.specs.Prelude.{◌≡◌, ◌≢◌, ℕ, ◌<◌, ◌⊎◌, List, [], ◌∷◌, length, Option, None}
+use Rattle.std.specs.Prelude.{◌≡◌, ℕ, ◌<◌, List, [], ◌∷◌, length, Option, None}
 use Rattle.gear_packets.specs.Response.{Message, server_error}
-use Rattle.gear_packets.specs.Text.{Reading, reading, assignments_in, assignments}
-use Rattle.gear_packets.specs.Reading.{fault_of}
+use Rattle.gear_packets.specs.Text.{Reading, assignments_in, assignments}
 use Rattle.gear_status.specs.Sides.{and_then}
 use Rattle.worker_state.specs.declared.slot.WorkerName.{WorkerName}
 use Rattle.pool_settings.specs.Settings.{Settings}
