@@ -11,7 +11,7 @@ use Rattle.job_runner.specs.Told.{replies}
 use Rattle.job_runner.specs.declared.end.EndCause.{EndCause}
 use Rattle.job_runner.specs.declared.end.SessionEnd.{SessionEnd}
 use Rattle.worker_state.specs.declared.cause.Cause.{Cause}
-use Rattle.job_runner.specs.declared.session.Tally.{Tally}
+use Rattle.job_runner.specs.declared.answering.Tally.{Tally}
 use Rattle.job_runner.specs.Book.{Ledger, after_loss}
 use Rattle.job_runner.specs.Course.{Duty, asks, Ends, OneAtATime}
 use Rattle.job_runner.specs.Ends.{loss_of}

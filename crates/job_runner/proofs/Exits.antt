@@ -7,7 +7,7 @@ use Rattle.gear_packets.specs.Response.{AssignedJob}
 use Rattle.gear_packets.specs.Text.{text_of}
 use Rattle.job_runner.specs.declared.end.EndCause.{EndCause}
 use Rattle.job_runner.specs.declared.end.EndCause.TheVariants.{WriteFault}
-use Rattle.job_runner.specs.declared.session.Tally.{Tally}
+use Rattle.job_runner.specs.declared.answering.Tally.{Tally}
 use Rattle.job_runner.specs.Told.{reply}
 use Rattle.job_runner.specs.Book.{Ledger}
 use Rattle.job_runner.specs.Course.{Duty, Wrote, Even, Chain, Ends}

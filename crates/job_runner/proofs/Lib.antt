@@ -1,3 +1,4 @@
+pub mod Labels
 pub mod Told
 pub mod Steps
 pub mod Counts

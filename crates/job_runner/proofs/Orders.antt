@@ -12,7 +12,7 @@ use Rattle.job_runner.specs.declared.end.EndCause.{EndCause}
 use Rattle.job_runner.specs.declared.end.EndCause.TheVariants as cause
 use Rattle.job_runner.specs.declared.end.EndCause.TheVariants.{WriteFault, Memory}
 use Rattle.worker_state.specs.OrderParts.{OrderParts}
-use Rattle.job_runner.specs.declared.session.Tally.{Tally}
+use Rattle.job_runner.specs.declared.answering.Tally.{Tally}
 use Rattle.job_runner.specs.Told.{Told}
 use Rattle.job_runner.specs.Book.{Ledger, after_order}
 use Rattle.gear_status.specs.Sides.{and_then}

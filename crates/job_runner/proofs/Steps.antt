@@ -7,7 +7,7 @@ use Rattle.gear_packets.specs.Response.{AssignedJob}
 use Rattle.gear_packets.specs.Text.{text_of, is_work, register, registered_by}
 use Rattle.job_runner.specs.declared.end.EndCause.{EndCause}
 use Rattle.job_runner.specs.declared.end.EndCause.TheVariants.{WriteFault}
-use Rattle.job_runner.specs.declared.session.Tally.{Tally}
+use Rattle.job_runner.specs.declared.answering.Tally.{Tally}
 use Rattle.job_runner.specs.Told.{Told, Remark, piece, warning, progress, Finish, complete, fail, remark_packet, finish_packet, told_packets, can_send, answer_to, reply, replies}
 use Rattle.job_runner.specs.Book.{Ledger}
 use Rattle.job_runner.specs.Course.{Duty, asks, OneAtATime, Introduces, MayIntroduce, Wrote, Chain, Ends}

@@ -14,14 +14,14 @@ use Rattle.job_runner.specs.declared.end.EndCause.TheVariants.{WriteFault, Memor
 use Rattle.job_runner.specs.declared.order.Phase.{Phase}
 use Rattle.job_runner.specs.declared.order.Phase.TheVariants.{Waiting, Asleep}
 use Rattle.job_runner.specs.declared.port.PortAnswer.{PortAnswer}
-use Rattle.job_runner.specs.declared.run.State.{State}
-use Rattle.job_runner.specs.declared.session.Tally.{Tally}
+use Rattle.job_runner.specs.declared.state.State.{State}
+use Rattle.job_runner.specs.declared.answering.Tally.{Tally}
 use Rattle.job_runner.specs.Told.{Told}
 use Rattle.job_runner.specs.Book.{Ledger, no_calls}
 use Rattle.job_runner.specs.Course.{Duty, Even, Ends, GoesOnOrEnds, Sends, PortReason, known, IsServing}
 use Rattle.job_runner.specs.Listening.{SaysFirst, IsReadEnd}
-use Rattle.job_runner.specs.Run.{AreAnswered, Acts, Link, Reason}
-use Rattle.job_runner.specs.Loop.{first_state, IsSendFault, StepReason, ReadReason, Stands, Halts}
+use Rattle.job_runner.specs.Run.{AreAnswered, Acts, Link, Reason, ReadReason}
+use Rattle.job_runner.specs.Loop.{first_state, IsSendFault, StepReason, Stands, Halts}
 use Rattle.gear_status.specs.Sides.{and_then}
 use Rattle.gear_status.proofs.Devices.{told_nothing}
 use Rattle.job_runner.proofs.Steps.{Leads, left_over}

@@ -1,8 +1,10 @@
 -- A session by what it wrote, what it read, and what its port answered.
-use Rattle.std.specs.Prelude.{◌≡◌, ◌≢◌, ℕ, ◌+◌, ◌<◌, ◌≤◌, Bool, true, false, List, [], ◌∷◌, ◌++◌, length, take, Option, Some, None, Result, Ok, Err, IsTrue, slice_get}
+use Rattle.std.specs.Prelude.{◌≡◌, ◌≢◌, ℕ, ◌+◌, ◌<◌, ◌≤◌, ◌^◌, Bool, true, false, List, [], ◌∷◌, ◌++◌, length, take, Option, Some, None}
+use Rattle.std.specs.Prelude.{Result, Ok, Err, IsTrue, slice_get}
 use Rattle.std.specs.Option.{option_to_list, option_and_then}
 use Rattle.std.specs.List.{filter, filter_map, AllByRecursion}
-use Rattle.gear_packets.specs.Request.{Packet, can_do, cant_do, pre_sleep, grab_job, set_client_id, work_status, work_complete, work_fail, work_data, work_warning, IsSent}
+use Rattle.gear_packets.specs.Request.{Packet, can_do, cant_do, pre_sleep, grab_job, set_client_id, work_status, work_complete, work_fail}
+use Rattle.gear_packets.specs.Request.{work_data, work_warning, IsSent}
 use Rattle.gear_packets.specs.PacketRefusals.{request_refusal}
 use Rattle.gear_packets.specs.Response.{AssignedJob}
 use Rattle.gear_packets.specs.Text.{text_of, is_work, register, registered_by}
@@ -15,7 +17,7 @@ use Rattle.job_runner.specs.declared.port.PortAnswer.{PortAnswer}
 use Rattle.job_runner.specs.declared.port.PortAnswer.TheVariants as answer
 use Rattle.job_runner.specs.declared.order.Phase.{Phase}
 use Rattle.job_runner.specs.declared.order.Phase.TheVariants.{Idle}
-use Rattle.job_runner.specs.declared.session.Tally.{Tally}
+use Rattle.job_runner.specs.declared.answering.Tally.{Tally}
 use Rattle.gear_status.specs.Sides.{and_then}
 use Rattle.worker_state.specs.Registration.{change_of}
 use Rattle.pool_settings.specs.Names.{is_name}
@@ -44,7 +46,8 @@ asks (work_warning handle bytes) = false
 -- After each packet at most one function is registered, and exactly one where the packet asks for a job.
 abbrev pub OneAtATime : List (List ℕ) → List Packet → Type 0
 OneAtATime names [] = Unit {0}
-OneAtATime names (p ∷ ps) = (length (register names p) ≤ 1) × (asks p ≡ true → length (register names p) ≡ 1) × OneAtATime (register names p) ps
+OneAtATime names (p ∷ ps) =
+    (length (register names p) ≤ 1) × (asks p ≡ true → length (register names p) ≡ 1) × OneAtATime (register names p) ps
 
 -- a text begins with the worker's name
 abbrev pub Introduces : List ℕ → List Packet → Type 0
@@ -90,6 +93,14 @@ pub record Even (tally : Tally) (book : Ledger) (count : ℕ) : Type 0 where
   pub grabs : book.grabs ≡ count
   pub begins : book.begins ≡ count
   pub reports : book.reports ≡ count
+
+-- There is room to count one more job.
+abbrev pub CanCount : Tally → Type 0
+CanCount tally = (tally.grabbed + 1 < 2 ^ 64) × (tally.answered + 1 < 2 ^ 64) × (tally.reported + 1 < 2 ^ 64)
+
+-- A port has room to book one more job.
+abbrev pub CanBook : Ledger → Type 0
+CanBook book = (book.grabs + 1 < 2 ^ 64) × (book.begins + 1 < 2 ^ 64) × (book.reports + 1 < 2 ^ 64)
 
 -- At the end of a session the counts are in this order.
 pub record Chain (tally : Tally) (book : Ledger) (answered begun : ℕ) : Type 0 where
@@ -177,6 +188,7 @@ IsAccepted p = request_refusal p ≡ None
 -- What sending packets leaves, by what the link told before and after: all of them, a front of their text, or nothing.
 abbrev pub Sends : Option (List ℕ) → Option (List ℕ) → List Packet → Result (Unit {0}) EndCause → Type 0
 Sends old new packets (Ok r) = (new ≡ and_then old (text_of packets)) × AllByRecursion IsSent packets
-Sends old new packets (Err WriteFault) = (count : ℕ) × (count < length (text_of packets)) × (new ≡ and_then old (take count (text_of packets))) × AllByRecursion IsSent packets
+Sends old new packets (Err WriteFault) =
+    (count : ℕ) × (count < length (text_of packets)) × (new ≡ and_then old (take count (text_of packets))) × AllByRecursion IsSent packets
 Sends old new packets (Err Memory) = new ≡ old
 Sends old new packets (Err other) = ⊥

@@ -1,8 +1,7 @@
 -- A session between its reads.
-use Rattle.std.specs.Prelude.{◌≡◌, ◌≢◌, ℕ, ◌<◌, ◌⊎◌, List, [], ◌∷◌, length, Option, None}
+use Rattle.std.specs.Prelude.{◌≡◌, ℕ, ◌<◌, List, [], ◌∷◌, length, Option, None}
 use Rattle.gear_packets.specs.Response.{Message, server_error}
-use Rattle.gear_packets.specs.Text.{Reading, reading, assignments_in, assignments}
-use Rattle.gear_packets.specs.Reading.{fault_of}
+use Rattle.gear_packets.specs.Text.{Reading, assignments_in, assignments}
 use Rattle.gear_status.specs.Sides.{and_then}
 use Rattle.worker_state.specs.declared.slot.WorkerName.{WorkerName}
 use Rattle.pool_settings.specs.Settings.{Settings}
@@ -11,19 +10,29 @@ use Rattle.job_runner.specs.declared.end.EndCause.{EndCause}
 use Rattle.job_runner.specs.declared.end.EndCause.TheVariants as cause
 use Rattle.job_runner.specs.declared.order.Phase.TheVariants.{Idle}
 use Rattle.job_runner.specs.declared.port.PortAnswer.{PortAnswer}
-use Rattle.job_runner.specs.declared.run.State.{State}
-use Rattle.job_runner.specs.declared.session.Tally.{Tally}
+use Rattle.job_runner.specs.declared.state.State.{State}
+use Rattle.job_runner.specs.declared.answering.Tally.{Tally}
+use Rattle.job_runner.specs.declared.worker.Worker.{Worker}
 use Rattle.job_runner.specs.Told.{Told}
 use Rattle.job_runner.specs.Book.{Ledger}
 use Rattle.job_runner.specs.Course.{Duty, Ends, PortReason}
-use Rattle.job_runner.specs.Run.{Rests, HasError}
+use Rattle.job_runner.specs.Run.{Rests}
 
 abbrev pub first_state : State
 first_state = record { registered = None; phase = Idle; tally = record { grabbed = 0; answered = 0; reported = 0 } }
 
 abbrev pub duty_of : (List ℕ → List ℕ → Option Told) → Settings → WorkerName → Duty
 duty_of told settings worker =
-    record { told = told; worker = worker_text settings worker.slot worker.generation; generation = worker.generation; functions = settings.functions }
+    record {
+      told = told;
+      worker = worker_text settings worker.slot worker.generation;
+      generation = worker.generation;
+      functions = settings.functions;
+    }
+
+-- what the session of a worker is for
+abbrev pub duty_in : {J : Type 0} → (J → List ℕ → List ℕ → Option Told) → Worker J → Duty
+duty_in told worker = duty_of (told worker.place.jobs.now) worker.place.settings.now worker.pass.now
 
 -- the ends that sending one packet may have
 abbrev pub IsSendFault : EndCause → Type 0
@@ -39,20 +48,16 @@ StepReason generation m old new last other = PortReason generation other last
 
 -- After `read` was read and `written` stood on the link, all messages that were given are served. `before` is what
 -- stood there when the session began.
-pub record Stands (duty : Duty) (before : Option (List ℕ)) (read : List ℕ) (written : Option (List ℕ)) (reader : Reading) (s : State) (book : Ledger) : Type 0 where
+pub record Stands (duty : Duty) (before : Option (List ℕ)) (read : List ℕ) (written : Option (List ℕ)) (reader : Reading)
+    (s : State) (book : Ledger) : Type 0 where
   pub bytes : List ℕ
   pub given : List Message
   pub at : written ≡ and_then before bytes
   pub rests : Rests duty read bytes given reader s book
 
 -- the session is at its end
-pub record Halts (duty : Duty) (before : Option (List ℕ)) (read : List ℕ) (written : Option (List ℕ)) (tally : Tally) (book : Ledger) (reason : EndCause) : Type 0 where
+pub record Halts (duty : Duty) (before : Option (List ℕ)) (read : List ℕ) (written : Option (List ℕ)) (tally : Tally)
+    (book : Ledger) (reason : EndCause) : Type 0 where
   pub bytes : List ℕ
   pub at : written ≡ and_then before bytes
   pub ends : Ends duty bytes (assignments read) tally book reason
-
--- why a session ends at what was read
-abbrev pub ReadReason : ℕ → List ℕ → ℕ → Option PortAnswer → EndCause → Type 0
-ReadReason generation read grabbed last cause.BadPacket = (fault_of (reading read).ending ≢ None) ⊎ (grabbed < length (assignments read))
-ReadReason generation read grabbed last cause.ServerError = HasError (reading read).messages
-ReadReason generation read grabbed last other = PortReason generation other last

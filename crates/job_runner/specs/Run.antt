@@ -1,5 +1,6 @@
 -- A whole session.
-use Rattle.std.specs.Prelude.{◌≡◌, ◌≢◌, ℕ, ◌+◌, ◌<◌, ◌≤◌, ◌⊎◌, true, List, [], ◌∷◌, ◌++◌, length, take, Option, Some, None, Result}
+use Rattle.std.specs.Prelude.{◌≡◌, ◌≢◌, ℕ, ◌+◌, ◌<◌, ◌≤◌, ◌⊎◌, true, List, [], ◌∷◌, ◌++◌, length, take, Option, Some, None, Result, Err}
+use Rattle.std.specs.Prelude.{OnOk}
 use Rattle.gear_packets.specs.Request.{Packet}
 use Rattle.gear_packets.specs.Response.{AssignedJob, Message, server_error}
 use Rattle.gear_packets.specs.Text.{Reading, reading, behind, assignments_in, assignments, sent, text_of, registered, work_requests}
@@ -10,8 +11,8 @@ use Rattle.job_runner.specs.declared.end.EndCause.TheVariants as cause
 use Rattle.job_runner.specs.declared.end.SessionEnd.{SessionEnd}
 use Rattle.worker_state.specs.declared.cause.Cause.{Cause}
 use Rattle.job_runner.specs.declared.port.PortAnswer.{PortAnswer}
-use Rattle.job_runner.specs.declared.run.State.{State}
-use Rattle.job_runner.specs.declared.session.Tally.{Tally}
+use Rattle.job_runner.specs.declared.state.State.{State}
+use Rattle.job_runner.specs.declared.answering.Tally.{Tally}
 use Rattle.job_runner.specs.Ends.{loss_of}
 use Rattle.job_runner.specs.Told.{replies}
 use Rattle.job_runner.specs.Book.{Ledger}
@@ -41,15 +42,30 @@ pub record Link : Type 0 where
   pub input : Input
   pub output : Output
 
+-- what a device tells of its two sides
+abbrev pub seen_link : {D : Type 0} → (D → Input) → (D → Output) → D → Link
+seen_link input output device = record { input = input device; output = output device }
+
+-- A step that writes and does not read leaves the input as it was. A write fails only where the step ends as WriteFault, and once then.
+pub record LinkKept {T : Type 0} (old new : Link) (result : Result T EndCause) : Type 0 where
+  pub input : new.input ≡ old.input
+  pub no_failure : OnOk result (new.output.failures ≡ old.output.failures)
+  pub write_fault : result ≡ Err cause.WriteFault → new.output.failures ≡ old.output.failures + 1
+
+-- why a session ends at what was read, or at its port
+abbrev pub ReadReason : ℕ → List ℕ → ℕ → Option PortAnswer → EndCause → Type 0
+ReadReason generation read grabbed last cause.BadPacket =
+    (fault_of (reading read).ending ≢ None) ⊎ (grabbed < length (assignments read))
+ReadReason generation read grabbed last cause.ServerError = HasError (reading read).messages
+ReadReason generation read grabbed last other = PortReason generation other last
+
 -- Each cause stands only where its reason did. `old` and `new` are what the link tells before and after.
 abbrev pub Reason : ℕ → List ℕ → ℕ → Link → Link → Option PortAnswer → EndCause → Type 0
 Reason generation read grabbed old new last cause.Closed = new.input.has_ended ≡ true
-Reason generation read grabbed old new last cause.BadPacket = (fault_of (reading read).ending ≢ None) ⊎ (grabbed < length (assignments read))
-Reason generation read grabbed old new last cause.ServerError = HasError (reading read).messages
 Reason generation read grabbed old new last cause.ReadFault = new.input.failures ≡ old.input.failures + 1
 Reason generation read grabbed old new last cause.WriteFault = new.output.failures ≡ old.output.failures + 1
 Reason generation read grabbed old new last cause.TurnsUsed = Unit {0}
-Reason generation read grabbed old new last other = PortReason generation other last
+Reason generation read grabbed old new last other = ReadReason generation read grabbed last other
 
 -- no call of `lose`, or one with this cause
 abbrev pub Lost : Option Cause → Ledger → Type 0
@@ -67,6 +83,7 @@ pub record Served (duty : Duty) (read bytes : List ℕ) (old new : Link) (book :
   pub whole : e.cause ≢ cause.WriteFault → (sent bytes).packets ≡ ends.cut.sent
   pub work : e.cause ≢ cause.WriteFault → work_requests bytes ≡ replies duty.told (take e.answered (assignments read))
   pub registers : (k : ℕ) → length (registered (text_of (take k (ends.cut.sent ++ ends.cut.next)))) ≤ 1
-  pub asking : (before after : List Packet) (p : Packet) → ends.cut.sent ++ ends.cut.next ≡ before ++ p ∷ after → asks p ≡ true → length (registered (text_of (before ++ p ∷ []))) ≡ 1
+  pub asking : (before after : List Packet) (p : Packet)
+      → ends.cut.sent ++ ends.cut.next ≡ before ++ p ∷ after → asks p ≡ true → length (registered (text_of (before ++ p ∷ []))) ≡ 1
   pub reason : Reason duty.generation read e.grabbed old new book.last_answer e.cause
   pub lost : Lost (loss_of e.cause) book

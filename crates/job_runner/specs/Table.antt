@@ -10,7 +10,8 @@ use Rattle.job_runner.specs.Told.{Told}
 
 -- what the entry of a name tells for an input, and none where there is no such name
 abbrev pub told_by : {E : Type 0} → (E → List ℕ) → (E → List ℕ → Told) → List E → List ℕ → List ℕ → Option Told
-told_by name_of meaning_of entries name input = option_map (λ entry. meaning_of entry input) (find (λ entry. bytes_eq (name_of entry) name) entries)
+told_by name_of meaning_of entries name input =
+    option_map (λ entry. meaning_of entry input) (find (λ entry. bytes_eq (name_of entry) name) entries)
 
 -- an entry has this name
 abbrev pub is_named : {E : Type 0} → (E → List ℕ) → List ℕ → List E → Bool

@@ -9,53 +9,32 @@ use worker_state::Cause;
 
 /// Why a session ended.
 ///
-/// `loss` gives the cause for which the session lost its worker at the pool; it has the same number and name.
+/// `Retired` and `Gone` lose no worker. Each other end is told at the [`Cause`] of its name, for which the session lost its worker at
+/// the pool (`loss`), and has its number. No session ends as `Late`.
 #[derive(Clone, Copy, Debug, PartialEq, Eq)]
 pub enum EndCause {
     /// The worker has made all its runs, and the pool has retired it.
     Retired,
     /// The worker is not in its slot any more: the pool gave it up, as where its job took too long.
     Gone,
-    /// The server sent what is no response, or a job that nobody asked for.
+    /// [`Cause::BadPacket`]
     BadPacket,
-    /// The server sent an ERROR packet.
+    /// [`Cause::ServerError`]
     ServerError,
-    /// The link failed at a read.
+    /// [`Cause::ReadFault`]
     ReadFault,
-    /// The link failed at a write.
+    /// [`Cause::WriteFault`]
     WriteFault,
-    /// The session made as many reads as it was given.
+    /// [`Cause::TurnsUsed`]
     TurnsUsed,
-    /// There was no memory.
+    /// [`Cause::Memory`]
     Memory,
-    /// The pool's history had no room for one more job.
+    /// [`Cause::HistoryFull`]
     HistoryFull,
-    /// The server closed the link.
+    /// [`Cause::Closed`]
     Closed,
-    /// The worker was ordered to stop.
+    /// [`Cause::Stopped`]
     Stopped,
-}
-
-impl Labelled for EndCause {
-    ghost use Rattle.job_runner.specs.Ends.{end_label};
-
-    ghost label = { end_label };
-
-    fn label(&self) -> Label {
-        match self {
-            EndCause::Retired => Label::new(1, "Retired"),
-            EndCause::Gone => Label::new(2, "Gone"),
-            EndCause::BadPacket => Label::new(3, "BadPacket"),
-            EndCause::ServerError => Label::new(4, "ServerError"),
-            EndCause::ReadFault => Label::new(5, "ReadFault"),
-            EndCause::WriteFault => Label::new(6, "WriteFault"),
-            EndCause::TurnsUsed => Label::new(7, "TurnsUsed"),
-            EndCause::Memory => Label::new(8, "Memory"),
-            EndCause::HistoryFull => Label::new(9, "HistoryFull"),
-            EndCause::Closed => Label::new(10, "Closed"),
-            EndCause::Stopped => Label::new(11, "Stopped"),
-        }
-    }
 }
 
 impl EndCause {
@@ -75,6 +54,21 @@ impl EndCause {
             EndCause::HistoryFull => Some(Cause::HistoryFull),
             EndCause::Closed => Some(Cause::Closed),
             EndCause::Stopped => Some(Cause::Stopped),
+        }
+    }
+}
+
+impl Labelled for EndCause {
+    ghost use Rattle.job_runner.specs.Ends.{end_label};
+
+    ghost label = { end_label };
+
+    #[tactic(auto, using(crate::proofs::Labels::gone_label))]
+    fn label(&self) -> Label {
+        match self.loss() {
+            Some(cause) => cause.label(),
+            None if *self == EndCause::Retired => Label::new(1, "Retired"),
+            None => Label::new(2, "Gone"),
         }
     }
 }

@@ -29,7 +29,8 @@ pub fn hear<L: Source>(
     requires countable { (L.input link.old).failures < 2 ^ 64 - 1 }
     ensures hears { (before : Option (List ℕ)) (read : List ℕ) (given : List Message) →
         (L.input link.old).given ≡ and_then before read → reading read ≡ behind given reader.old →
-        (more : List ℕ) × ((L.input link.new).given ≡ and_then before more) × (length more ≤ length read + length buffer.old) × Hears more given reader.new result }
+        (more : List ℕ) × ((L.input link.new).given ≡ and_then before more)
+        × (length more ≤ length read + length buffer.old) × Hears more given reader.new result }
     ensures output { L.output link.new ≡ L.output link.old }
     ensures failures { OnOk result ((L.input link.new).failures ≡ (L.input link.old).failures) }
     ensures closed { result ≡ Err EndCause.Closed → (L.input link.new).has_ended ≡ true }

@@ -9,8 +9,10 @@ ghost use Rattle.gear_packets.specs.Requests.{packet_of};
 ghost use Rattle.gear_packets.specs.Text.{text_of};
 ghost use Rattle.gear_status.specs.Sides.{and_then};
 ghost use Rattle.worker_state.specs.Registration.{seen_name};
-ghost use Rattle.job_runner.specs.Course.{Duty, Wrote, Even, Ends, GoesOnOrEnds, IsAccepted, IsFunctionName, Sends, asking, known, name_of, obeying, IsStop, PortReason, IsServing};
-ghost use Rattle.job_runner.specs.declared.session.Tally.{Tally};
+ghost use Rattle.job_runner.specs.Course.{Duty, Wrote, Even, Ends, GoesOnOrEnds, IsAccepted, IsFunctionName, Sends, asking, known};
+ghost use Rattle.job_runner.specs.Course.{name_of, obeying, IsStop, PortReason, IsServing};
+ghost use Rattle.job_runner.specs.Run.{LinkKept, seen_link};
+ghost use Rattle.job_runner.specs.declared.answering.Tally.{Tally};
 
 use crate::end::EndCause;
 use crate::port::PoolPort;
@@ -107,10 +109,9 @@ fn write_change<L: Sink>(
     to: Option<u32>,
 ) -> Result<(), EndCause>
     requires { (L.output link.old).failures < 2 ^ 64 - 1 }
-    ensures sends { Sends (L.output link.old).got (L.output link.new).got (obeying (name_of settings.now.functions from) (name_of settings.now.functions to)) result }
-    ensures input { L.input link.new ≡ L.input link.old }
-    ensures no_failure { OnOk result ((L.output link.new).failures ≡ (L.output link.old).failures) }
-    ensures write_fault { result ≡ Err EndCause.WriteFault → (L.output link.new).failures ≡ (L.output link.old).failures + 1 }
+    ensures sends { Sends (L.output link.old).got (L.output link.new).got
+        (obeying (name_of settings.now.functions from) (name_of settings.now.functions to)) result }
+    ensures link { LinkKept (seen_link L.input L.output link.old) (seen_link L.input L.output link.new) result }
 {
     let from = name_of(settings, from);
     let to = name_of(settings, to);
@@ -132,23 +133,28 @@ pub fn obey<L: Sink, P: PoolPort, J>(
 ) -> Result<Phase, EndCause>
     requires { (L.output link.old).failures < 2 ^ 64 - 1 }
     ensures obeys { (duty : Duty) (before : Option (List ℕ)) (bytes : List ℕ) (done : List AssignedJob) (tally : Tally) →
-        duty.functions ≡ worker.now.settings.now.functions → (L.output link.old).got ≡ and_then before bytes
+        duty.functions ≡ worker.now.place.settings.now.functions → (L.output link.old).got ≡ and_then before bytes
         → Wrote duty bytes (known duty.functions registered.old) done → Even tally (P.book port.old) (length done) →
         (more : List ℕ) × ((L.output link.new).got ≡ and_then before more)
-        × GoesOnOrEnds (Wrote duty more (known duty.functions registered.new) done × Even tally (P.book port.new) (length done)) (Ends duty more done tally (P.book port.new)) result }
-    ensures serving { IfOk result (λ phase. IsServing (length worker.now.settings.now.functions) phase registered.new) }
+        × GoesOnOrEnds (Wrote duty more (known duty.functions registered.new) done × Even tally (P.book port.new) (length done))
+        (Ends duty more done tally (P.book port.new)) result }
+    ensures serving { IfOk result (λ phase. IsServing (length worker.now.place.settings.now.functions) phase registered.new) }
     ensures reason { IfErr result (λ cause. PortReason worker.now.pass.now.generation cause (P.book port.new).last_answer) }
-    ensures input { L.input link.new ≡ L.input link.old }
-    ensures no_failure { OnOk result ((L.output link.new).failures ≡ (L.output link.old).failures) }
-    ensures write_fault { result ≡ Err EndCause.WriteFault → (L.output link.new).failures ≡ (L.output link.old).failures + 1 }
+    ensures link { LinkKept (seen_link L.input L.output link.old) (seen_link L.input L.output link.new) result }
     ensures losses { (P.book port.new).losses ≡ (P.book port.old).losses }
 {
     let order = port.order(worker.pass);
     if stops(&order, worker.pass) {
         return Err(EndCause::Stopped);
     }
-    let wanted = wanted_of(&order, worker.pass, worker.settings);
-    match write_change(worker.alloc, link, worker.settings, *registered, wanted) {
+    let wanted = wanted_of(&order, worker.pass, worker.place.settings);
+    match write_change(
+        worker.place.alloc,
+        link,
+        worker.place.settings,
+        *registered,
+        wanted,
+    ) {
         Ok(()) => {}
         Err(cause) => return Err(cause),
     }

@@ -6,7 +6,8 @@ ghost use Rattle.std.specs.Option.{option_map};
 ghost use Rattle.gear_packets.specs.Request.{IsSent};
 ghost use Rattle.gear_packets.specs.Requests.{packet_of};
 ghost use Rattle.gear_packets.specs.Text.{text_of};
-ghost use Rattle.job_runner.specs.Told.{told_of, remark_of, finish_of, remark_packet, finish_packet, told_packets, can_send, answer_to, end_kind_of, kind_of_answer};
+ghost use Rattle.job_runner.specs.Told.{told_of, remark_of, finish_of, remark_packet, finish_packet, told_packets, can_send, answer_to};
+ghost use Rattle.job_runner.specs.Told.{end_kind_of, kind_of_answer};
 
 use crate::job::{End, Note, Outcome};
 use gear_packets::{EncodeError, Handle, Request, encode, encode_into};
@@ -57,7 +58,8 @@ fn end_kind(end: &End) -> EndKind
 fn spell_outcome(alloc: Global, handle: &Handle, outcome: &Outcome) -> Result<Vec<u8>, EncodeError>
     ensures text { IfOk result (λ text. text.items ≡ text_of (told_packets handle.now (told_of outcome.now))) }
     ensures each { IfOk result (λ _. AllByRecursion IsSent (told_packets handle.now (told_of outcome.now))) }
-    ensures refused { IfErr result (λ e. e ≢ EncodeError.Memory → list_all can_send (told_packets handle.now (told_of outcome.now)) ≡ false) }
+    ensures refused { IfErr result
+        (λ e. e ≢ EncodeError.Memory → list_all can_send (told_packets handle.now (told_of outcome.now)) ≡ false) }
 {
     let mut text = Vec::new(alloc);
     for note in &outcome.notes {

@@ -7,6 +7,7 @@ ghost use Rattle.std.specs.Option.{option_map, option_to_list};
 ghost use Rattle.gear_packets.specs.Requests.{packet_of};
 ghost use Rattle.gear_packets.specs.Text.{text_of};
 ghost use Rattle.job_runner.specs.Course.{IsAccepted, Sends};
+ghost use Rattle.job_runner.specs.Run.{LinkKept, seen_link};
 
 use crate::end::EndCause;
 use gear_packets::{EncodeError, Request, encode, encode_into};
@@ -39,9 +40,7 @@ pub fn send<L: Sink>(alloc: Global, link: &mut L, request: &Request) -> Result<(
     requires count { (L.output link.old).failures < 2 ^ 64 - 1 }
     requires accepted { IsAccepted (packet_of request.now) }
     ensures sends { Sends (L.output link.old).got (L.output link.new).got (packet_of request.now ∷ []) result }
-    ensures input { L.input link.new ≡ L.input link.old }
-    ensures no_failure { OnOk result ((L.output link.new).failures ≡ (L.output link.old).failures) }
-    ensures write_fault { result ≡ Err EndCause.WriteFault → (L.output link.new).failures ≡ (L.output link.old).failures + 1 }
+    ensures link { LinkKept (seen_link L.input L.output link.old) (seen_link L.input L.output link.new) result }
 {
     let text = match encode(alloc, request) {
         Ok(text) => text,

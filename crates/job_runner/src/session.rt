@@ -1,99 +1,254 @@
-//! An assignment, from the port to its answer.
+//! A whole session: from its worker's name to its end.
 
-ghost use Rattle.std.specs.Prelude.{◌≡◌, ◌+◌, ◌-◌, ◌<◌, ◌≤◌, ◌^◌, ◌++◌, [], ◌∷◌, ℕ, List, length, IfErr, IfOk, OnOk, Option};
-ghost use Rattle.std.specs.Option.{option_map};
-ghost use Rattle.gear_packets.specs.Response.{AssignedJob};
+ghost use Rattle.std.specs.Prelude.{◌≡◌, ◌+◌, ◌-◌, ◌<◌, ◌≤◌, ◌^◌, [], ℕ, List, length, IfErr, IfOk, OnOk, Option, string_bytes};
+ghost use Rattle.gear_packets.specs.Request.{set_client_id};
 ghost use Rattle.gear_status.specs.Sides.{and_then};
-ghost use Rattle.job_runner.specs.Book.{Ledger};
-ghost use Rattle.job_runner.specs.Told.{told_of};
-ghost use Rattle.job_runner.specs.Course.{Duty, Wrote, Even, Ends, GoesOnOrEnds, PortReason};
+ghost use Rattle.pool_settings.specs.Slots.{slots, worker_text};
+ghost use Rattle.job_runner.specs.Told.{Told};
+ghost use Rattle.job_runner.specs.Book.{no_calls};
+ghost use Rattle.job_runner.specs.Course.{GoesOnOrEnds, IsAccepted, PortReason};
+ghost use Rattle.job_runner.specs.Run.{Acts, ReadReason, Reason, Served, seen_link, LinkKept};
+ghost use Rattle.job_runner.specs.Loop.{first_state, duty_of, duty_in, Stands, Halts};
 
-use crate::end::EndCause;
-use crate::job::Outcome;
-use crate::port::{GrabRefusal, PoolPort};
-use crate::reply::spell;
+use crate::answering::Tally;
+use crate::end::{EndCause, SessionEnd};
+use crate::listen::{Heard, hear};
+use crate::messages::{act, glance};
+use crate::order::Phase;
+use crate::port::PoolPort;
+use crate::sending::send;
+use crate::state::{State, follow};
 use crate::table::Jobs;
-use crate::worker::Worker;
-use gear_packets::Handle;
-use gear_status::{Sink, give_all};
-use pool_core::StayOrRetire;
-use std::alloc::AllocError;
+use crate::worker::{Worker, Workplace};
+use gear_packets::{Reader, Request, says_its_packets};
+use gear_status::{Sink, Source};
+use pool_core::Pass;
+use pool_settings::Settings;
+use std::alloc::{AllocError, Global};
 
-/// How many jobs a session took, answered and reported.
-#[derive(Clone, Copy, Debug, PartialEq, Eq)]
-pub struct Tally {
-    /// Jobs that the port booked.
-    pub grabbed: u64,
-    /// Answers that were written whole.
-    pub answered: u64,
-    /// Answers that the port booked.
-    pub reported: u64,
-}
-
-/// Runs the job of a function. Its payload is given up before the answer is spelled, so that a great one is not held beside it.
-fn run_job<J: Jobs>(
-    worker: &Worker<'_, J>,
-    function: &[u8],
-    payload: Vec<u8>,
-) -> Result<Option<Outcome>, AllocError>
-    ensures { IfOk result (λ outcome. option_map told_of outcome ≡ J.told worker.now.jobs.now function.now payload.items) }
+/// The name by which the server's lists show a worker.
+fn spell_worker<J>(worker: &Worker<'_, J>) -> Result<String, AllocError>
+    requires slot { worker.now.pass.now.slot < slots worker.now.place.settings.now }
+    ensures text { IfOk result (λ text. string_bytes text
+        ≡ worker_text worker.now.place.settings.now worker.now.pass.now.slot worker.now.pass.now.generation) }
+    ensures accepted { IsAccepted
+        (set_client_id (worker_text worker.now.place.settings.now worker.now.pass.now.slot worker.now.pass.now.generation)) }
 {
-    worker.jobs.run(worker.alloc, function, &payload)
+    let name = worker.pass.name();
+    worker
+        .place
+        .settings
+        .worker_text(worker.place.alloc, name.slot, name.generation)
 }
 
-/// Answers an assignment: takes it at the port, runs its job, and writes what it tells once the port has let it.
-pub fn answer<L: Sink, P: PoolPort, J: Jobs>(
+/// Gives the worker's name, and obeys the first order.
+fn begin<L: Sink, P: PoolPort, J>(
     worker: &Worker<'_, J>,
     link: &mut L,
     port: &mut P,
-    tally: &mut Tally,
-    handle: &Handle,
-    function: &[u8],
-    payload: Vec<u8>,
+    state: &mut State,
 ) -> Result<(), EndCause>
+    requires slot { worker.now.pass.now.slot < slots worker.now.place.settings.now }
     requires link { (L.output link.old).failures < 2 ^ 64 - 1 }
-    requires tally { (tally.old.grabbed + 1 < 2 ^ 64) × (tally.old.answered + 1 < 2 ^ 64) × (tally.old.reported + 1 < 2 ^ 64) }
-    requires port { ((P.book port.old).grabs + 1 < 2 ^ 64) × ((P.book port.old).begins + 1 < 2 ^ 64) × ((P.book port.old).reports + 1 < 2 ^ 64) }
-    ensures answers { (duty : Duty) (before : Option (List ℕ)) (bytes : List ℕ) (registered : List (List ℕ)) (done : List AssignedJob) (unique : List ℕ) →
-        duty.told ≡ J.told worker.now.jobs.now → (L.output link.old).got ≡ and_then before bytes → Wrote duty bytes registered done → Even tally.old (P.book port.old) (length done) →
-        (more : List ℕ) × ((L.output link.new).got ≡ and_then before more)
-        × GoesOnOrEnds (Wrote duty more registered (done ++ record { handle = handle.now; function = function.now; unique = unique; payload = payload.items } ∷ []) × Even tally.new (P.book port.new) (length done + 1))
-        (Ends duty more (done ++ record { handle = handle.now; function = function.now; unique = unique; payload = payload.items } ∷ []) tally.new (P.book port.new)) result }
+    requires first { state.old ≡ first_state }
+    requires fresh { P.book port.old ≡ no_calls }
+    ensures acts { (told : List ℕ → List ℕ → Option Told) →
+        (more : List ℕ) × ((L.output link.new).got ≡ and_then (L.output link.old).got more)
+        × Acts (duty_of told worker.now.place.settings.now worker.now.pass.now) more [] state.new (P.book port.new) result }
     ensures reason { IfErr result (λ cause. PortReason worker.now.pass.now.generation cause (P.book port.new).last_answer) }
-    ensures input { L.input link.new ≡ L.input link.old }
-    ensures no_failure { OnOk result ((L.output link.new).failures ≡ (L.output link.old).failures) }
-    ensures write_fault { result ≡ Err EndCause.WriteFault → (L.output link.new).failures ≡ (L.output link.old).failures + 1 }
+    ensures link { LinkKept (seen_link L.input L.output link.old) (seen_link L.input L.output link.new) result }
     ensures losses { (P.book port.new).losses ≡ (P.book port.old).losses }
 {
-    let ticket = match port.grab(worker.pass, handle.copy(), function) {
-        Ok(ticket) => ticket,
-        Err(GrabRefusal::Gone) => return Err(EndCause::Gone),
-        Err(GrabRefusal::HistoryFull) => return Err(EndCause::HistoryFull),
-        Err(GrabRefusal::Memory) => return Err(EndCause::Memory),
-    };
-    tally.grabbed += 1;
-    let Ok(outcome) = run_job(worker, function, payload) else {
+    let Ok(name) = spell_worker(worker) else {
         return Err(EndCause::Memory);
     };
-    let Ok(spelled) = spell(worker.alloc, handle, outcome) else {
-        return Err(EndCause::Memory);
-    };
-    let Ok(()) = port.begin_report(worker.pass, ticket) else {
-        return Err(EndCause::Gone);
-    };
-    let Ok(()) = give_all(link, spelled.text.as_slice()) else {
-        return Err(EndCause::WriteFault);
-    };
-    tally.answered += 1;
-    match port.reported(worker.pass, ticket, spelled.end) {
-        Ok(StayOrRetire::Stay) => {
-            tally.reported += 1;
-            Ok(())
-        }
-        Ok(StayOrRetire::Retire) => {
-            tally.reported += 1;
-            Err(EndCause::Retired)
-        }
-        Err(_) => Err(EndCause::Gone),
+    match send(
+        worker.place.alloc,
+        link,
+        &Request::SetClientId(name.as_bytes()),
+    ) {
+        Ok(()) => follow(worker, link, port, state),
+        Err(cause) => Err(cause),
     }
+}
+
+/// Acts on each message that was read, and then on the fault at which the stream ended.
+fn drain<L: Sink, P: PoolPort, J: Jobs>(
+    worker: &Worker<'_, J>,
+    link: &mut L,
+    port: &mut P,
+    reader: &mut Reader,
+    state: &mut State,
+) -> Result<(), EndCause>
+    requires link { (L.output link.old).failures < 2 ^ 64 - 1 }
+    requires stands { (before : Option (List ℕ)) × (read : List ℕ) × (length read < 2 ^ 60)
+        × Stands (duty_in J.told worker.now) before read (L.output link.old).got reader.old state.old (P.book port.old) }
+    ensures leaves { (before : Option (List ℕ)) (read : List ℕ)
+        → Stands (duty_in J.told worker.now) before read (L.output link.old).got reader.old state.old (P.book port.old)
+        → GoesOnOrEnds (Stands (duty_in J.told worker.now) before read (L.output link.new).got reader.new state.new (P.book port.new))
+        (Halts (duty_in J.told worker.now) before read (L.output link.new).got state.new.tally (P.book port.new)) result }
+    ensures reason { (before : Option (List ℕ)) (read : List ℕ)
+        → Stands (duty_in J.told worker.now) before read (L.output link.old).got reader.old state.old (P.book port.old)
+        → IfErr result (ReadReason worker.now.pass.now.generation read state.new.tally.grabbed (P.book port.new).last_answer) }
+    ensures link { LinkKept (seen_link L.input L.output link.old) (seen_link L.input L.output link.new) result }
+    ensures losses { (P.book port.new).losses ≡ (P.book port.old).losses }
+{
+    while let Some(message) = reader.next() {
+        match act(worker, link, port, state, message) {
+            Ok(()) => {}
+            Err(cause) => return Err(cause),
+        }
+    }
+    match reader.fault() {
+        Some(_) => Err(EndCause::BadPacket),
+        None => Ok(()),
+    }
+}
+
+/// One read of the link, and what it brings.
+fn turn<L: Source + Sink, P: PoolPort, J: Jobs>(
+    worker: &Worker<'_, J>,
+    link: &mut L,
+    port: &mut P,
+    reader: &mut Reader,
+    state: &mut State,
+    buffer: &mut [u8],
+) -> Result<(), EndCause>
+    requires output { (L.output link.old).failures < 2 ^ 64 - 1 }
+    requires input { (L.input link.old).failures < 2 ^ 64 - 1 }
+    requires room { length buffer.old ≡ 4096 }
+    requires stands { (before start : Option (List ℕ)) × (read : List ℕ)
+        × ((L.input link.old).given ≡ and_then start read) × (length read < 2 ^ 59)
+        × Stands (duty_in J.told worker.now) before read (L.output link.old).got reader.old state.old (P.book port.old) }
+    ensures turns { (before start : Option (List ℕ)) (read : List ℕ) → (L.input link.old).given ≡ and_then start read
+        → Stands (duty_in J.told worker.now) before read (L.output link.old).got reader.old state.old (P.book port.old)
+        → (more : List ℕ) × ((L.input link.new).given ≡ and_then start more) × (length more ≤ length read + 4096)
+        × GoesOnOrEnds (Stands (duty_in J.told worker.now) before more (L.output link.new).got reader.new state.new (P.book port.new))
+        (λ cause. Halts (duty_in J.told worker.now) before more (L.output link.new).got state.new.tally (P.book port.new) cause
+        × Reason worker.now.pass.now.generation more state.new.tally.grabbed
+        (seen_link L.input L.output link.old) (seen_link L.input L.output link.new) (P.book port.new).last_answer cause) result }
+    ensures no_read_failure { OnOk result ((L.input link.new).failures ≡ (L.input link.old).failures) }
+    ensures no_failure { OnOk result ((L.output link.new).failures ≡ (L.output link.old).failures) }
+    ensures losses { (P.book port.new).losses ≡ (P.book port.old).losses }
+{
+    match drain(worker, link, port, reader, state) {
+        Ok(()) => {}
+        Err(cause) => return Err(cause),
+    }
+    match hear(link, reader, buffer) {
+        Ok(Heard::Piece) => Ok(()),
+        Ok(Heard::Lull) => glance(worker, link, port, state),
+        Err(cause) => Err(cause),
+    }
+}
+
+/// Goes through a session, to its end.
+fn serve<L: Source + Sink, P: PoolPort, J: Jobs>(
+    worker: &Worker<'_, J>,
+    link: &mut L,
+    port: &mut P,
+    state: &mut State,
+) -> EndCause
+    requires slot { worker.now.pass.now.slot < slots worker.now.place.settings.now }
+    requires output { (L.output link.old).failures < 2 ^ 64 - 1 }
+    requires input { (L.input link.old).failures < 2 ^ 64 - 1 }
+    requires first { state.old ≡ first_state }
+    requires fresh { P.book port.old ≡ no_calls }
+    ensures ran { (read : List ℕ) × ((L.input link.new).given ≡ and_then (L.input link.old).given read)
+        × (Halts (duty_in J.told worker.now) (L.output link.old).got read (L.output link.new).got state.new.tally (P.book port.new) result
+        × Reason worker.now.pass.now.generation read state.new.tally.grabbed
+        (seen_link L.input L.output link.old) (seen_link L.input L.output link.new) (P.book port.new).last_answer result) }
+    ensures losses { (P.book port.new).losses ≡ 0 }
+{
+    match begin(worker, link, port, state) {
+        Ok(()) => {}
+        Err(cause) => return cause,
+    }
+    let mut reader = Reader::new(worker.place.alloc);
+    let mut buffer = [0; 4096];
+    let turns = worker.place.turns;
+    let mut made = 0;
+    while made < turns {
+        match turn(worker, link, port, &mut reader, state, &mut buffer) {
+            Ok(()) => made += 1,
+            Err(cause) => return cause,
+        }
+    }
+    match drain(worker, link, port, &mut reader, state) {
+        Ok(()) => EndCause::TurnsUsed,
+        Err(cause) => cause,
+    }
+}
+
+/// A worker's session at its place over a link, to its end: it takes jobs, runs them and answers them, as the pool orders.
+///
+/// The port has not been called before, the pass is of a slot that the settings have, and the link has failed less than 2^64 - 1 times
+/// on each side. A session of no turns ends as `TurnsUsed` once it has given its name and obeyed its first order.
+pub fn serve_worker<L: Source + Sink, P: PoolPort, J: Jobs>(
+    place: Workplace<'_, J>,
+    pass: Pass,
+    link: &mut L,
+    port: &mut P,
+) -> SessionEnd
+    requires slot { pass.slot < slots place.settings.now }
+    requires output { (L.output link.old).failures < 2 ^ 64 - 1 }
+    requires input { (L.input link.old).failures < 2 ^ 64 - 1 }
+    requires fresh { P.book port.old ≡ no_calls }
+    ensures served { (read bytes : List ℕ)
+        × ((L.input link.new).given ≡ and_then (L.input link.old).given read)
+        × ((L.output link.new).got ≡ and_then (L.output link.old).got bytes)
+        × Served (duty_of (J.told place.entry.jobs.now) place.entry.settings.now pass) read bytes
+        (seen_link L.input L.output link.old) (seen_link L.input L.output link.new) (P.book port.new) result }
+{
+    let mut state = State {
+        registered: None,
+        phase: Phase::Idle,
+        tally: Tally {
+            grabbed: 0,
+            answered: 0,
+            reported: 0,
+        },
+    };
+    says_its_packets();
+    let worker = Worker { place, pass: &pass };
+    let cause = serve(&worker, link, port, &mut state);
+    match cause.loss() {
+        Some(loss) => port.lose(pass, loss),
+        None => drop(pass),
+    }
+    SessionEnd {
+        cause,
+        grabbed: state.tally.grabbed,
+        answered: state.tally.answered,
+        reported: state.tally.reported,
+    }
+}
+
+/// [`serve_worker`] with the parts of the place one by one.
+pub fn run_session<L: Source + Sink, P: PoolPort, J: Jobs>(
+    alloc: Global,
+    link: &mut L,
+    port: &mut P,
+    jobs: &J,
+    settings: &Settings,
+    pass: Pass,
+    turns: u32,
+) -> SessionEnd
+    requires slot { pass.slot < slots settings.now }
+    requires output { (L.output link.old).failures < 2 ^ 64 - 1 }
+    requires input { (L.input link.old).failures < 2 ^ 64 - 1 }
+    requires fresh { P.book port.old ≡ no_calls }
+    ensures served { (read bytes : List ℕ)
+        × ((L.input link.new).given ≡ and_then (L.input link.old).given read)
+        × ((L.output link.new).got ≡ and_then (L.output link.old).got bytes)
+        × Served (duty_of (J.told jobs.now) settings.now pass) read bytes
+        (seen_link L.input L.output link.old) (seen_link L.input L.output link.new) (P.book port.new) result }
+{
+    let place = Workplace {
+        alloc,
+        jobs,
+        settings,
+        turns,
+    };
+    serve_worker(place, pass, link, port)
 }

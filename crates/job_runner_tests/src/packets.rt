@@ -29,7 +29,8 @@ pub const COMPLETE: &[u8] = b"\0REQ\0\0\0\x0d\0\0\0\x09H:a:1\0c\0a";
 
 /// What a job tells that talks: WORK_STATUS 1 of 2, WORK_DATA `p`, WORK_WARNING `w`, and WORK_COMPLETE as above.
 pub const TALKED: &[u8] =
-    b"\0REQ\0\0\0\x0c\0\0\0\x09H:a:1\x001\x002\0REQ\0\0\0\x1c\0\0\0\x07H:a:1\0p\0REQ\0\0\0\x1d\0\0\0\x07H:a:1\0w\0REQ\0\0\0\x0d\0\0\0\x09H:a:1\0c\0a";
+    b"\0REQ\0\0\0\x0c\0\0\0\x09H:a:1\x001\x002\0REQ\0\0\0\x1c\0\0\0\x07H:a:1\0p\
+    \0REQ\0\0\0\x1d\0\0\0\x07H:a:1\0w\0REQ\0\0\0\x0d\0\0\0\x09H:a:1\0c\0a";
 
 /// WORK_FAIL of `H:a:1`.
 pub const FAIL: &[u8] = b"\0REQ\0\0\0\x0e\0\0\0\x05H:a:1";
@@ -40,4 +41,5 @@ pub const ASKED: &[u8] =
 
 /// What it has written once it has answered the job and asked for another: 81 bytes.
 pub const ANSWERED: &[u8] =
-    b"\0REQ\0\0\0\x16\0\0\0\x05a/0#1\0REQ\0\0\0\x01\0\0\0\x07reverse\0REQ\0\0\0\x1e\0\0\0\0\0REQ\0\0\0\x0d\0\0\0\x09H:a:1\0c\0a\0REQ\0\0\0\x1e\0\0\0\0";
+    b"\0REQ\0\0\0\x16\0\0\0\x05a/0#1\0REQ\0\0\0\x01\0\0\0\x07reverse\0REQ\0\0\0\x1e\0\0\0\0\
+    \0REQ\0\0\0\x0d\0\0\0\x09H:a:1\0c\0a\0REQ\0\0\0\x1e\0\0\0\0";

@@ -1,0 +1,50 @@
+use Rattle.std.proofs.Common.{◌≡◌, ℕ, ◌<◌, ◌++◌, [], ◌∷◌, List, length, refl, sym, ap, subst, ◌∙◌, arith}
+use Rattle.std.proofs.lemmas.List.{append-nil}
+use Rattle.gear_packets.specs.Response.{AssignedJob}
+use Rattle.gear_packets.specs.Reading.{message_of}
+use Rattle.gear_packets.specs.Text.{assignments_in}
+use Rattle.gear_packets.specs.declared.response.Response.{Response}
+use Rattle.job_runner.specs.declared.end.EndCause.TheVariants.{BadPacket, ServerError}
+use Rattle.gear_status.specs.Sides.{and_then}
+use Rattle.job_runner.specs.Course.{known}
+use Rattle.job_runner.specs.Run.{Acts}
+use Rattle.job_runner.proofs.Orders.{ends_at_rest}
+use Rattle.job_runner.proofs.Turning.{ends_later}
+use Rattle.job_runner.proofs.messages.act.Goals as goal
+
+pub returns-in-Asleep-clause-acts : goal.returns-in-Asleep-clause-acts
+returns-in-Asleep-clause-acts g c = λ duty before bytes done told fs at holds.
+    subst (λ (d : List AssignedJob). (x : List ℕ) × ((g.L.Device.output c.follow.new.link).got ≡ and_then before x) × Acts duty x d c.follow.new.state (g.P.PoolPort.book c.follow.new.port) c.follow.result)
+    (sym (append-nil done) ∙ ap (λ (m : Response). done ++ assignments_in (message_of m ∷ [])) (sym c.in-Noop.is)) (c.follow.ensures.acts duty before bytes done fs at holds)
+
+pub returns-in-Waiting-clause-acts : goal.returns-in-Waiting-clause-acts
+returns-in-Waiting-clause-acts g c = λ duty before bytes done told fs at holds.
+    subst (λ (d : List AssignedJob). (x : List ℕ) × ((g.L.Device.output c.sleep.new.link).got ≡ and_then before x) × Acts duty x d c.sleep.new.state (g.P.PoolPort.book c.args.port.now) c.sleep.result)
+    (sym (append-nil done) ∙ ap (λ (m : Response). done ++ assignments_in (message_of m ∷ [])) (sym c.in-NoJob.is)) (c.sleep.ensures.acts duty before bytes done (g.P.PoolPort.book c.args.port.now) at holds)
+
+pub returns-in-Waiting-phase-clause-acts : goal.returns-in-Waiting-phase-clause-acts
+returns-in-Waiting-phase-clause-acts g c = λ duty before bytes done told fs at holds.
+    subst (λ (d : List AssignedJob). (x : List ℕ) × ((g.L.Device.output c.serve_job.new.link).got ≡ and_then before x) × Acts duty x d c.serve_job.new.state (g.P.PoolPort.book c.serve_job.new.port) c.serve_job.result)
+    (ap (λ (m : Response). done ++ assignments_in (message_of m ∷ [])) (sym c.in-Assign.is))
+    (c.serve_job.ensures.acts duty before bytes done told fs at holds)
+
+pub returns-in-Fault-clause-acts : goal.returns-in-Fault-clause-acts
+returns-in-Fault-clause-acts g c = λ duty before bytes done told fs at holds. (
+  bytes,
+  at,
+  ends_later duty bytes done (assignments_in (message_of c.args.message ∷ [])) (done ++ assignments_in (message_of c.args.message ∷ [])) c.args.state.now.tally (g.P.PoolPort.book c.args.port.now) ServerError
+      (ends_at_rest duty bytes (known duty.functions c.args.state.now.registered) done c.args.state.now.tally (g.P.PoolPort.book c.args.port.now) ServerError holds.wrote holds.even (λ e. cc)) refl,
+)
+
+pub returns-in-Assign : goal.returns-in-Assign
+returns-in-Assign g c = record {
+  acts = λ duty before bytes done told fs at holds. (
+    bytes,
+    at,
+    ends_later duty bytes done (assignments_in (message_of c.args.message ∷ [])) (done ++ assignments_in (message_of c.args.message ∷ [])) c.args.state.now.tally (g.P.PoolPort.book c.args.port.now) BadPacket
+        (ends_at_rest duty bytes (known duty.functions c.args.state.now.registered) done c.args.state.now.tally (g.P.PoolPort.book c.args.port.now) BadPacket holds.wrote holds.even (λ e. cc)) refl,
+  );
+  link = record { input = refl; no_failure = tt; write_fault = λ x. absurd cc };
+  reason = (refl, subst (λ (m : Response). 0 < length (assignments_in (message_of m ∷ []))) (sym c.in-Assign.is) (omega arith));
+  losses = refl;
+}

@@ -1,0 +1,54 @@
+use Rattle.std.proofs.Common.{inl, refl, sym, ap, ◌∙◌}
+use Rattle.gear_packets.specs.Reading.{message_of, fault_of}
+use Rattle.gear_packets.specs.Text.{assignments_in, Reading}
+use Rattle.job_runner.specs.declared.end.EndCause.TheVariants.{BadPacket}
+use Rattle.job_runner.specs.Loop.{duty_of}
+use Rattle.job_runner.proofs.Turning.{tally_room, port_room, stands_next, halts_next, reason_next, stands_halts, broken_says}
+use Rattle.job_runner.proofs.session.drain.Goals as goal
+
+pub act-requires-clause-tally : goal.act-requires-clause-tally
+act-requires-clause-tally g c =
+    let w = c.requires.stands in
+    tally_room (duty_of (g.J.Jobs.told c.args.worker.now.place.jobs.now) c.args.worker.now.place.settings.now c.args.worker.now.pass.now) w.0 w.1 _ _ c.loop-message.state _ (c.loop-message.invariant.stands w.0 w.1 w.3) w.2
+
+pub act-requires-clause-port : goal.act-requires-clause-port
+act-requires-clause-port g c =
+    let w = c.requires.stands in
+    port_room (duty_of (g.J.Jobs.told c.args.worker.now.place.jobs.now) c.args.worker.now.place.settings.now c.args.worker.now.pass.now) w.0 w.1 _ _ c.loop-message.state _ (c.loop-message.invariant.stands w.0 w.1 w.3) w.2
+
+pub returns-in-Err-clause-leaves : goal.returns-in-Err-clause-leaves
+returns-in-Err-clause-leaves g c = λ before read start.
+    let duty = duty_of (g.J.Jobs.told c.args.worker.now.place.jobs.now) c.args.worker.now.place.settings.now c.args.worker.now.pass.now in
+    let st = c.loop-message.invariant.stands before read start in
+    halts_next duty before read _ _ (message_of c.in-Some.message) _ _ c.loop-message.state c.act.new.state.tally _ _ c.in-Err.cause st c.in-Some.ensures.given
+    (c.in-Err.ensures.acts duty before st.bytes (assignments_in st.given) refl refl st.at st.rests.holds)
+
+pub returns-in-Err-clause-reason : goal.returns-in-Err-clause-reason
+returns-in-Err-clause-reason g c = λ before read start.
+    let duty = duty_of (g.J.Jobs.told c.args.worker.now.place.jobs.now) c.args.worker.now.place.settings.now c.args.worker.now.pass.now in
+    let st = c.loop-message.invariant.stands before read start in
+    reason_next c.args.worker.now.pass.now.generation duty before read _ (message_of c.in-Some.message) _ _ c.loop-message.state c.act.new.state.tally _ _ c.in-Err.cause st c.in-Some.ensures.given c.in-Err.ensures.reason
+
+pub loop-message-preserved : goal.loop-message-preserved
+loop-message-preserved g c =
+    let duty = duty_of (g.J.Jobs.told c.args.worker.now.place.jobs.now) c.args.worker.now.place.settings.now c.args.worker.now.pass.now in
+    record {
+      stands = λ before read start.
+          let st = c.loop-message.invariant.stands before read start in
+          stands_next duty before read _ _ (message_of c.in-Some.message) _ _ c.loop-message.state c.act.new.state _ _ st c.in-Some.ensures.given
+          (c.in-Ok.ensures.acts duty before st.bytes (assignments_in st.given) refl refl st.at st.rests.holds);
+      input = c.act.ensures.link.input ∙ c.loop-message.invariant.input;
+      failures = c.in-Ok.ensures.link.no_failure ∙ c.loop-message.invariant.failures;
+      losses = c.act.ensures.losses ∙ c.loop-message.invariant.losses;
+    }
+
+pub returns-in-Some-fault-clause-leaves : goal.returns-in-Some-fault-clause-leaves
+returns-in-Some-fault-clause-leaves g c = λ before read start.
+    let duty = duty_of (g.J.Jobs.told c.args.worker.now.place.jobs.now) c.args.worker.now.place.settings.now c.args.worker.now.pass.now in
+    let st = c.loop-message.invariant.stands before read start in
+    stands_halts duty before read _ _ c.loop-message.state _ BadPacket st (λ e. cc)
+
+pub returns-in-Some-fault-clause-reason : goal.returns-in-Some-fault-clause-reason
+returns-in-Some-fault-clause-reason g c = λ before read start.
+    let st = c.loop-message.invariant.stands before read start in
+    inl (broken_says read st.given c.loop-message.reader c.in-Some-fault.field-0 st.rests.heard (sym c.in-Some-fault.is ∙ c.fault.ensures ∙ ap (λ (x : Reading). fault_of x.ending) (sym c.next.ensures.given)))

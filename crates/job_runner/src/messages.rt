@@ -1,0 +1,120 @@
+//! What a session does at a message.
+
+ghost use Rattle.std.specs.Prelude.{◌≡◌, ◌+◌, ◌-◌, ◌<◌, ◌^◌, ◌++◌, [], ◌∷◌, ℕ, List, IfErr, OnOk, Option};
+ghost use Rattle.gear_packets.specs.Response.{AssignedJob};
+ghost use Rattle.gear_packets.specs.Reading.{message_of};
+ghost use Rattle.gear_packets.specs.Text.{assignments_in};
+ghost use Rattle.gear_status.specs.Sides.{and_then};
+ghost use Rattle.job_runner.specs.Book.{Ledger};
+ghost use Rattle.job_runner.specs.Course.{Duty, PortReason, CanCount, CanBook};
+ghost use Rattle.job_runner.specs.Run.{AreAnswered, Acts, LinkKept, seen_link};
+ghost use Rattle.job_runner.specs.Loop.{StepReason, IsSendFault};
+
+use crate::end::EndCause;
+use crate::order::{Phase, stops, wanted_of};
+use crate::port::PoolPort;
+use crate::sending::send;
+use crate::state::{State, follow, serve_job};
+use crate::table::Jobs;
+use crate::worker::Worker;
+use gear_packets::{Assignment, Request, Response};
+use gear_status::Sink;
+use std::alloc::Global;
+
+/// Asks to be woken when there is work.
+fn sleep<L: Sink>(alloc: Global, link: &mut L, state: &mut State) -> Result<(), EndCause>
+    requires link { (L.output link.old).failures < 2 ^ 64 - 1 }
+    requires waits { state.old.phase ≡ Phase.Waiting }
+    ensures acts { (duty : Duty) (before : Option (List ℕ)) (bytes : List ℕ) (done : List AssignedJob) (book : Ledger) →
+        (L.output link.old).got ≡ and_then before bytes → AreAnswered duty bytes done state.old book →
+        (more : List ℕ) × ((L.output link.new).got ≡ and_then before more) × Acts duty more done state.new book result }
+    ensures link { LinkKept (seen_link L.input L.output link.old) (seen_link L.input L.output link.new) result }
+    ensures reason { IfErr result IsSendFault }
+{
+    match send(alloc, link, &Request::PreSleep) {
+        Ok(()) => {
+            state.phase = Phase::Asleep;
+            Ok(())
+        }
+        Err(cause) => Err(cause),
+    }
+}
+
+/// Does what a message asks for.
+pub fn act<L: Sink, P: PoolPort, J: Jobs>(
+    worker: &Worker<'_, J>,
+    link: &mut L,
+    port: &mut P,
+    state: &mut State,
+    message: Response,
+) -> Result<(), EndCause>
+    requires link { (L.output link.old).failures < 2 ^ 64 - 1 }
+    requires tally { CanCount state.old.tally }
+    requires port { CanBook (P.book port.old) }
+    ensures acts { (duty : Duty) (before : Option (List ℕ)) (bytes : List ℕ) (done : List AssignedJob) →
+        duty.told ≡ J.told worker.now.place.jobs.now → duty.functions ≡ worker.now.place.settings.now.functions
+        → (L.output link.old).got ≡ and_then before bytes → AreAnswered duty bytes done state.old (P.book port.old) →
+        (more : List ℕ) × ((L.output link.new).got ≡ and_then before more)
+        × Acts duty more (done ++ assignments_in (message_of message ∷ [])) state.new (P.book port.new) result }
+    ensures link { LinkKept (seen_link L.input L.output link.old) (seen_link L.input L.output link.new) result }
+    ensures reason { IfErr result (StepReason worker.now.pass.now.generation (message_of message) state.old.tally state.new.tally
+        (P.book port.new).last_answer) }
+    ensures losses { (P.book port.new).losses ≡ (P.book port.old).losses }
+{
+    match message {
+        Response::Noop => match state.phase {
+            Phase::Asleep => follow(worker, link, port, state),
+            _ => Ok(()),
+        },
+        Response::NoJob => match state.phase {
+            Phase::Waiting => sleep(worker.place.alloc, link, state),
+            _ => Ok(()),
+        },
+        Response::Assign {
+            handle,
+            function,
+            unique,
+            payload,
+        } => match state.phase {
+            Phase::Waiting => {
+                let job = Assignment {
+                    handle,
+                    function,
+                    unique,
+                    payload,
+                };
+                serve_job(worker, link, port, state, job)
+            }
+            _ => Err(EndCause::BadPacket),
+        },
+        Response::Fault { .. } => Err(EndCause::ServerError),
+        Response::Other(_) => Ok(()),
+    }
+}
+
+/// Looks at the order where nothing came.
+pub fn glance<L: Sink, P: PoolPort, J>(
+    worker: &Worker<'_, J>,
+    link: &mut L,
+    port: &mut P,
+    state: &mut State,
+) -> Result<(), EndCause>
+    requires { (L.output link.old).failures < 2 ^ 64 - 1 }
+    ensures acts { (duty : Duty) (before : Option (List ℕ)) (bytes : List ℕ) (done : List AssignedJob) →
+        duty.functions ≡ worker.now.place.settings.now.functions
+        → (L.output link.old).got ≡ and_then before bytes → AreAnswered duty bytes done state.old (P.book port.old) →
+        (more : List ℕ) × ((L.output link.new).got ≡ and_then before more) × Acts duty more done state.new (P.book port.new) result }
+    ensures link { LinkKept (seen_link L.input L.output link.old) (seen_link L.input L.output link.new) result }
+    ensures reason { IfErr result (λ cause. PortReason worker.now.pass.now.generation cause (P.book port.new).last_answer) }
+    ensures losses { (P.book port.new).losses ≡ (P.book port.old).losses }
+{
+    let order = port.order(worker.pass);
+    if stops(&order, worker.pass) {
+        return Err(EndCause::Stopped);
+    }
+    let wanted = wanted_of(&order, worker.pass, worker.place.settings);
+    if state.phase == Phase::Waiting || wanted == state.registered {
+        return Ok(());
+    }
+    follow(worker, link, port, state)
+}

@@ -1,0 +1,82 @@
+//! What a session knows between two messages, and the order that it then obeys.
+
+ghost use Rattle.std.specs.Prelude.{◌≡◌, ◌≢◌, ◌+◌, ◌-◌, ◌<◌, ◌≤◌, ◌^◌, ◌++◌, [], ◌∷◌, ℕ, List, length, IfOk, IfErr, OnOk, Option, Some};
+ghost use Rattle.std.specs.Prelude.{None};
+ghost use Rattle.gear_packets.specs.Reading.{job_of};
+ghost use Rattle.gear_packets.specs.Response.{AssignedJob};
+ghost use Rattle.gear_status.specs.Sides.{and_then};
+ghost use Rattle.job_runner.specs.Book.{Ledger};
+ghost use Rattle.job_runner.specs.Course.{Duty, PortReason, CanCount, CanBook};
+ghost use Rattle.job_runner.specs.Run.{AreAnswered, Acts, LinkKept, seen_link};
+
+use crate::answering::{Tally, answer};
+use crate::end::EndCause;
+use crate::order::{Phase, obey};
+use crate::port::PoolPort;
+use crate::table::Jobs;
+use crate::worker::Worker;
+use gear_packets::Assignment;
+use gear_status::Sink;
+
+/// What a session knows between two messages, its reader aside.
+#[derive(Drop)]
+pub struct State {
+    /// The number of the function that the server has registered for the worker.
+    pub registered: Option<u32>,
+    /// What it waits for.
+    pub phase: Phase,
+    /// Its counts.
+    pub tally: Tally,
+}
+
+/// Obeys the order that stands.
+pub fn follow<L: Sink, P: PoolPort, J>(
+    worker: &Worker<'_, J>,
+    link: &mut L,
+    port: &mut P,
+    state: &mut State,
+) -> Result<(), EndCause>
+    requires { (L.output link.old).failures < 2 ^ 64 - 1 }
+    ensures acts { (duty : Duty) (before : Option (List ℕ)) (bytes : List ℕ) (done : List AssignedJob) →
+        duty.functions ≡ worker.now.place.settings.now.functions
+        → (L.output link.old).got ≡ and_then before bytes → AreAnswered duty bytes done state.old (P.book port.old) →
+        (more : List ℕ) × ((L.output link.new).got ≡ and_then before more) × Acts duty more done state.new (P.book port.new) result }
+    ensures link { LinkKept (seen_link L.input L.output link.old) (seen_link L.input L.output link.new) result }
+    ensures reason { IfErr result (λ cause. PortReason worker.now.pass.now.generation cause (P.book port.new).last_answer) }
+    ensures losses { (P.book port.new).losses ≡ (P.book port.old).losses }
+{
+    match obey(worker, link, port, &mut state.registered) {
+        Ok(phase) => {
+            state.phase = phase;
+            Ok(())
+        }
+        Err(cause) => Err(cause),
+    }
+}
+
+/// Answers an assignment, and then obeys the order that stands.
+pub fn serve_job<L: Sink, P: PoolPort, J: Jobs>(
+    worker: &Worker<'_, J>,
+    link: &mut L,
+    port: &mut P,
+    state: &mut State,
+    job: Assignment,
+) -> Result<(), EndCause>
+    requires link { (L.output link.old).failures < 2 ^ 64 - 1 }
+    requires tally { CanCount state.old.tally }
+    requires port { CanBook (P.book port.old) }
+    ensures acts { (duty : Duty) (before : Option (List ℕ)) (bytes : List ℕ) (done : List AssignedJob) →
+        duty.told ≡ J.told worker.now.place.jobs.now → duty.functions ≡ worker.now.place.settings.now.functions
+        → (L.output link.old).got ≡ and_then before bytes → AreAnswered duty bytes done state.old (P.book port.old) →
+        (more : List ℕ) × ((L.output link.new).got ≡ and_then before more)
+        × Acts duty more (done ++ job_of job ∷ []) state.new (P.book port.new) result }
+    ensures link { LinkKept (seen_link L.input L.output link.old) (seen_link L.input L.output link.new) result }
+    ensures reason { IfErr result (λ cause. PortReason worker.now.pass.now.generation cause (P.book port.new).last_answer) }
+    ensures losses { (P.book port.new).losses ≡ (P.book port.old).losses }
+{
+    match answer(worker, link, port, &mut state.tally, job) {
+        Ok(()) => {}
+        Err(cause) => return Err(cause),
+    }
+    follow(worker, link, port, state)
+}
