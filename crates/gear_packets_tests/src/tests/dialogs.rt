@@ -287,7 +287,9 @@ fn requests_of_a_session(rt: HostRuntime) -> Result<(), Fail> {
 #[test]
 fn responses_of_a_session(rt: HostRuntime) {
     let text =
-        b"\0RES\0\0\0\x0a\0\0\0\0\0RES\0\0\0\x06\0\0\0\0\0RES\0\0\0\x1f\0\0\0\x15H:vm:1\0reverse\0u1\0a\0c\0RES\0\0\0\x1f\0\0\0\x10H:vm:2\0reverse\0\0\0RES\0\0\0\x13\0\0\0\x30JOB_NOT_FOUND\0Job given in work result not found";
+        b"\0RES\0\0\0\x0a\0\0\0\0\0RES\0\0\0\x06\0\0\0\0\0RES\0\0\0\x1f\0\0\0\x15H:vm:1\0reverse\0u1\0a\0c\
+          \0RES\0\0\0\x1f\0\0\0\x10H:vm:2\0reverse\0\0\
+          \0RES\0\0\0\x13\0\0\0\x30JOB_NOT_FOUND\0Job given in work result not found";
     let mut reader = Reader::new(rt.alloc());
     for byte in text {
         assert_eq!(rt; reader.feed(&[*byte]), Ok(()));
@@ -336,8 +338,8 @@ fn requests_refused(rt: HostRuntime) -> Result<(), Fail> {
 
 #[test]
 fn requests_read(rt: HostRuntime) {
-    let text =
-        b"\0REQ\0\0\0\x16\0\0\0\x05a/0#1\0REQ\0\0\0\x01\0\0\0\x07reverse\0REQ\0\0\0\x1e\0\0\0\0\0REQ\0\0\0\x0d\0\0\0\x09H:a:1\0c\0a\0REQ\0\0\0\x1e\0\0\0\0";
+    let text = b"\0REQ\0\0\0\x16\0\0\0\x05a/0#1\0REQ\0\0\0\x01\0\0\0\x07reverse\
+          \0REQ\0\0\0\x1e\0\0\0\0\0REQ\0\0\0\x0d\0\0\0\x09H:a:1\0c\0a\0REQ\0\0\0\x1e\0\0\0\0";
     assert_eq!(rt; text.len(), 81);
     let first = decode(text);
     assert!(rt; matches!(&first, Some((Request::SetClientId(_), 17))));
