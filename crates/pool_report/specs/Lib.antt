@@ -1,5 +1,4 @@
 pub mod Report
-pub mod Kept
 pub mod Outcome
 pub mod Lines
 pub mod Told

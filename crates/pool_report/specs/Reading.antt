@@ -67,22 +67,70 @@ is_complete stage.Leftovers = true
 is_complete _ = false
 
 abbrev pub moved : Stage → Draft → Draft
-moved s d = record { stage = s; backlog = d.backlog; entries = d.entries; set = d.set; next_slot = d.next_slot; next_function = d.next_function; next_stranded = d.next_stranded }
+moved s d = record {
+  stage = s;
+  backlog = d.backlog;
+  entries = d.entries;
+  set = d.set;
+  next_slot = d.next_slot;
+  next_function = d.next_function;
+  next_stranded = d.next_stranded;
+}
 
 abbrev pub with_backlog : ℕ → Draft → Draft
-with_backlog k d = record { stage = stage.Tasks; backlog = Some k; entries = d.entries; set = d.set; next_slot = d.next_slot; next_function = d.next_function; next_stranded = d.next_stranded }
+with_backlog k d = record {
+  stage = stage.Tasks;
+  backlog = Some k;
+  entries = d.entries;
+  set = d.set;
+  next_slot = d.next_slot;
+  next_function = d.next_function;
+  next_stranded = d.next_stranded;
+}
 
 abbrev pub with_entry : ℕ → Option ℕ → Draft → Draft
-with_entry slot function d = record { stage = d.stage; backlog = d.backlog; entries = d.entries ++ (slot, function) ∷ []; set = d.set; next_slot = slot + 1; next_function = d.next_function; next_stranded = d.next_stranded }
+with_entry slot function d = record {
+  stage = d.stage;
+  backlog = d.backlog;
+  entries = d.entries ++ (slot, function) ∷ [];
+  set = d.set;
+  next_slot = slot + 1;
+  next_function = d.next_function;
+  next_stranded = d.next_stranded;
+}
 
 abbrev pub with_set : Draft → Draft
-with_set d = record { stage = stage.Set; backlog = d.backlog; entries = d.entries; set = Some []; next_slot = d.next_slot; next_function = d.next_function; next_stranded = d.next_stranded }
+with_set d = record {
+  stage = stage.Set;
+  backlog = d.backlog;
+  entries = d.entries;
+  set = Some [];
+  next_slot = d.next_slot;
+  next_function = d.next_function;
+  next_stranded = d.next_stranded;
+}
 
 abbrev pub with_needed : ℕ → Draft → Draft
-with_needed f d = record { stage = d.stage; backlog = d.backlog; entries = d.entries; set = option_map (λ set. set ++ f ∷ []) d.set; next_slot = d.next_slot; next_function = f + 1; next_stranded = d.next_stranded }
+with_needed f d = record {
+  stage = d.stage;
+  backlog = d.backlog;
+  entries = d.entries;
+  set = option_map (λ set. set ++ f ∷ []) d.set;
+  next_slot = d.next_slot;
+  next_function = f + 1;
+  next_stranded = d.next_stranded;
+}
 
 abbrev pub with_stranded : ℕ → Draft → Draft
-with_stranded f d = record { stage = stage.Leftovers; backlog = d.backlog; entries = d.entries; set = d.set; next_slot = d.next_slot; next_function = d.next_function; next_stranded = f + 1 }
+with_stranded f d = record {
+  stage = stage.Leftovers;
+  backlog = d.backlog;
+  entries = d.entries;
+  set = d.set;
+  next_slot = d.next_slot;
+  next_function = d.next_function;
+  next_stranded = f + 1;
+}
 
 -- a line out of place is bad; a name that the settings do not have is unknown
 abbrev pub in_place : Bool → Result Draft Misread → Result Draft Misread

@@ -1,7 +1,8 @@
 -- The text of a report: its lines in order, each ended by a line feed.
-use Rattle.std.specs.Prelude.{ℕ, ◌-◌, ◌^◌, List, [], ◌++◌, Option, Some, None, nat_lt, codes, if◌then◌else◌}
+use Rattle.std.specs.Prelude.{ℕ, List, [], ◌++◌, Option, Some, None, codes}
 use Rattle.std.specs.List.{flat_map}
 use Rattle.std.specs.Fmt.{decimal}
+use Rattle.plan_model.specs.Backlogs.{as_backlog, backlog_words}
 use Rattle.text_pieces.specs.Lines.{ended}
 
 -- what a report tells, with names in the place of numbers
@@ -30,9 +31,7 @@ pub data Finding : Type 0 where
 
 -- a backlog above all numbers of jobs counts what nobody serves
 abbrev pub backlog_line : ℕ → List ℕ
-backlog_line k =
-    if nat_lt k (2 ^ 32) then ended (codes "backlog " ++ decimal k)
-    else ended (codes "unserved " ++ decimal (k - 2 ^ 32))
+backlog_line k = ended (backlog_words (as_backlog k))
 
 abbrev pub name_of_worker : Worker → List ℕ
 name_of_worker w = w.machine ++ codes "/" ++ decimal w.number

@@ -4,7 +4,6 @@ ghost use Rattle.std.specs.Prelude.{◌≡◌, ◌≢◌, [], OnOk, IfErr, IfOk,
 ghost use Rattle.pool_report.specs.Reading as spec;
 ghost use Rattle.pool_report.specs.Told.{line_view};
 ghost use Rattle.std.specs.Prelude.{option_map};
-ghost use Rattle.std.specs.List.Sorted.{IsStrictlyIncreasing};
 
 use crate::line::{Line, read_line};
 use crate::stage::{Misread, Stage};
@@ -32,9 +31,25 @@ impl Model for Draft {
 
     ghost Value = { Value_ };
 
-    ghost view = { λ d. record { stage = d.stage; backlog = d.backlog; entries = d.entries.items; set = option_map (λ s. s.items) d.set; next_slot = d.next_slot; next_function = d.next_function; next_stranded = d.next_stranded } };
+    ghost view = { λ d. record {
+      stage = d.stage;
+      backlog = d.backlog;
+      entries = d.entries.items;
+      set = option_map (λ s. s.items) d.set;
+      next_slot = d.next_slot;
+      next_function = d.next_function;
+      next_stranded = d.next_stranded;
+    } };
 
-    ghost invariant = { λ d. IsDraft (record { stage = d.stage; backlog = d.backlog; entries = d.entries.items; set = option_map (λ s. s.items) d.set; next_slot = d.next_slot; next_function = d.next_function; next_stranded = d.next_stranded }) };
+    ghost invariant = { λ d. IsDraft (record {
+      stage = d.stage;
+      backlog = d.backlog;
+      entries = d.entries.items;
+      set = option_map (λ s. s.items) d.set;
+      next_slot = d.next_slot;
+      next_function = d.next_function;
+      next_stranded = d.next_stranded;
+    }) };
 }
 
 fn is_complete(stage: Stage) -> bool
@@ -53,17 +68,6 @@ fn before_set(stage: Stage) -> bool
         Stage::Tasks | Stage::Bare => true,
         _ => false,
     }
-}
-
-/// The set of functions in rising order.
-fn set_of(functions: Vec<FuncId>) -> FuncSet
-    requires { IsStrictlyIncreasing functions.items }
-    ensures { result ≡ functions.items }
-{
-    let Ok(set) = FuncSet::new(functions) else {
-        unreachable!()
-    };
-    set
 }
 
 impl Draft {
@@ -153,7 +157,8 @@ impl Draft {
         requires order { nat_lt slot self.old.next_slot ≡ false }
         requires few { slot < 4096 }
         ensures ok { OnOk result (spec.place_function settings.now slot (option_map (λ f. f.now) function.entry) self.old ≡ Ok self.new) }
-        ensures err { IfErr result (λ e. e ≢ Misread.Memory → spec.place_function settings.now slot (option_map (λ f. f.now) function.entry) self.old ≡ Err e) }
+        ensures err { IfErr result (λ e. e ≢ Misread.Memory
+            → spec.place_function settings.now slot (option_map (λ f. f.now) function.entry) self.old ≡ Err e) }
     {
         let function = match function {
             Some(name) => match settings.function_named(name) {
@@ -174,7 +179,8 @@ impl Draft {
         function: Option<&[u8]>,
     ) -> Result<(), Misread>
         ensures ok { OnOk result (spec.place_task settings.now worker.now (option_map (λ f. f.now) function.entry) self.old ≡ Ok self.new) }
-        ensures err { IfErr result (λ e. e ≢ Misread.Memory → spec.place_task settings.now worker.now (option_map (λ f. f.now) function.entry) self.old ≡ Err e) }
+        ensures err { IfErr result (λ e. e ≢ Misread.Memory
+            → spec.place_task settings.now worker.now (option_map (λ f. f.now) function.entry) self.old ≡ Err e) }
     {
         if !matches!(self.stage, Stage::Tasks) {
             return Err(Misread::Bad);
@@ -195,7 +201,7 @@ impl Draft {
         if !matches!(self.stage, Stage::Set) {
             return Err(Misread::Bad);
         }
-        let _few = settings.functions();
+        settings.facts();
         let Some(function) = settings.function_named(name) else {
             return Err(Misread::Unknown);
         };
@@ -216,7 +222,7 @@ impl Draft {
         if !is_complete(self.stage) {
             return Err(Misread::Bad);
         }
-        let _few = settings.functions();
+        settings.facts();
         let Some(function) = settings.function_named(name) else {
             return Err(Misread::Unknown);
         };
@@ -269,22 +275,20 @@ impl Draft {
             next_stranded: _,
         } = self;
         let alloc = *entries.allocator();
-        let Ok(plan) = Plan::new(entries) else {
-            unreachable!()
-        };
+        let plan = Plan::of_rising(entries);
         match backlog {
             Some(backlog) => Answer::Planned {
                 plan,
                 backlog,
                 short: match set {
-                    Some(set) => Some(set_of(set)),
+                    Some(set) => Some(FuncSet::of_rising(set)),
                     None => None,
                 },
             },
             None => Answer::NoPlan {
                 short: match set {
-                    Some(set) => set_of(set),
-                    None => set_of(Vec::new(alloc)),
+                    Some(set) => FuncSet::of_rising(set),
+                    None => FuncSet::of_rising(Vec::new(alloc)),
                 },
             },
         }

@@ -27,7 +27,7 @@ pub fn lines_are_spelled()
 pub fn names_read_back(settings: &Settings)
     ensures { AreNamesFound settings.now }
 {
-    let _functions = settings.functions();
+    settings.facts();
 }
 
 /// The law of the whole text, which does nothing that is seen: a text means an answer exactly where it is a report that tells it,
@@ -35,7 +35,7 @@ pub fn names_read_back(settings: &Settings)
 pub fn texts_are_reports(settings: &Settings)
     ensures { AreTextsReports settings.now }
 {
-    let _functions = settings.functions();
+    settings.facts();
 }
 
 /// The law of a report, which does nothing that is seen: the report of an answer that is shown for a planning
@@ -48,6 +48,6 @@ pub fn report_reads_back(settings: &Settings, input: &Input, answer: &Answer)
     ensures same { meaning settings.now (report_text settings.now input.now answer.now) ≡ Ok (retold input.now answer.now) }
     ensures one { IsTheOnlyOne settings.now input.now answer.now }
 {
-    let _functions = settings.functions();
-    let _live = input.live();
+    settings.facts();
+    input.facts();
 }

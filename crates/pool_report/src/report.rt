@@ -6,16 +6,12 @@ ghost use Rattle.std.specs.List.{flat_map};
 ghost use Rattle.plan_model.specs.Planning.{assigned, is_stranded};
 ghost use Rattle.plan_model.specs.Shown.{IsEvidence, Shown};
 ghost use Rattle.pool_report.specs.Answered as spec;
-ghost use Rattle.pool_report.specs.Kept.{needed_view, stranded_view, worker_view};
 ghost use Rattle.pool_report.specs.Outcome.{WroteText};
 ghost use Rattle.pool_report.specs.Report.{needed_line, short_if, short_lines, stranded_line, finding_lines, worker_line};
 ghost use Rattle.pool_settings.specs.Names.{name_at};
 
 use crate::error::WriteError;
-use crate::lines::{
-    Needed, Stranded, Worker, push_backlog, push_needed, push_short_line, push_stranded_line,
-    push_worker,
-};
+use crate::lines::{push_backlog, push_short_line};
 use gear_status::{Sink, give_all};
 use plan_model::{
     Answer, FuncId, FuncSet, Input, MachineId, Plan, SlotId, TOP_LEVEL, count_neighbours,
@@ -23,6 +19,7 @@ use plan_model::{
 };
 use pool_settings::Settings;
 use std::alloc::{AllocError, Global};
+use std::fmt::Write;
 
 fn task_of<'s>(settings: &'s Settings, plan: &Plan, slot: SlotId) -> Option<&'s str>
     ensures { option_map (λ f. f.now) result ≡ option_map (name_at settings.now.functions) (assigned plan.now slot) }
@@ -33,19 +30,23 @@ fn task_of<'s>(settings: &'s Settings, plan: &Plan, slot: SlotId) -> Option<&'s 
     }
 }
 
-fn worker_of<'s>(
-    settings: &'s Settings,
+/// The line of a live worker: `work` with its function, or `idle`.
+fn push_worker(
+    out: &mut String,
+    settings: &Settings,
     plan: &Plan,
-    slot: SlotId,
-    machine: MachineId,
-) -> Worker<'s>
-    requires { machine < length settings.now.machines }
-    ensures { worker_view result ≡ spec.reported_worker settings.now (assigned plan.now) (slot, machine) }
+    worker: (SlotId, MachineId),
+) -> Result<(), AllocError>
+    requires { worker.1 < length settings.now.machines }
+    ensures { OnOk result (string_bytes out.new
+        ≡ string_bytes out.old ++ worker_line (spec.reported_worker settings.now (assigned plan.now) worker)) }
 {
-    Worker {
-        machine: settings.machine_name(machine),
-        number: slot.number().saturating_sub(settings.first_slot(machine)),
-        function: task_of(settings, plan, slot),
+    let (slot, machine) = worker;
+    let name = settings.machine_name(machine);
+    let number = slot.number().saturating_sub(settings.first_slot(machine));
+    match task_of(settings, plan, slot) {
+        Some(function) => write!(out, "work {name}/{number} {function}\n"),
+        None => write!(out, "idle {name}/{number}\n"),
     }
 }
 
@@ -56,22 +57,30 @@ fn push_tasks(
     plan: &Plan,
 ) -> Result<(), AllocError>
     requires { All (λ worker. worker.1 < length settings.now.machines) input.now.live }
-    ensures { OnOk result (string_bytes out.new ≡ string_bytes out.old ++ flat_map worker_line (map (spec.reported_worker settings.now (assigned plan.now)) input.now.live)) }
+    ensures { OnOk result (string_bytes out.new ≡ string_bytes out.old
+        ++ flat_map worker_line (map (spec.reported_worker settings.now (assigned plan.now)) input.now.live)) }
 {
-    for (slot, machine) in input.live() {
-        push_worker(out, &worker_of(settings, plan, *slot, *machine))?;
+    for worker in input.live() {
+        push_worker(out, settings, plan, *worker)?;
     }
     Ok(())
 }
 
-fn needed_of<'s>(settings: &'s Settings, input: &Input, level: u64, function: FuncId) -> Needed<'s>
+/// The line of a function of the set, with its need at the level.
+fn push_needed(
+    out: &mut String,
+    settings: &Settings,
+    input: &Input,
+    level: u64,
+    function: FuncId,
+) -> Result<(), AllocError>
     requires { function < length input.now.least }
-    ensures { needed_view result ≡ spec.needed_at settings.now input.now level function }
+    ensures { OnOk result (string_bytes out.new
+        ≡ string_bytes out.old ++ needed_line (spec.needed_at settings.now input.now level function)) }
 {
-    Needed {
-        function: settings.function_name(function),
-        need: input.need(level, function),
-    }
+    let name = settings.function_name(function);
+    let need = input.need(level, function);
+    write!(out, "in {name} need {need}\n")
 }
 
 fn push_set(
@@ -82,13 +91,14 @@ fn push_set(
     set: &FuncSet,
 ) -> Result<(), AllocError>
     requires { All (λ f. f < length input.now.least) set.now }
-    ensures { OnOk result (string_bytes out.new ≡ string_bytes out.old ++ short_lines (spec.short_at settings.now input.now level set.now)) }
+    ensures { OnOk result (string_bytes out.new
+        ≡ string_bytes out.old ++ short_lines (spec.short_at settings.now input.now level set.now)) }
 {
     let need = total_need(input, level, set);
     let have = count_neighbours(input, set);
     push_short_line(out, need, u64::from(have))?;
     for function in set.functions() {
-        push_needed(out, &needed_of(settings, input, level, *function))?;
+        push_needed(out, settings, input, level, *function)?;
     }
     Ok(())
 }
@@ -101,7 +111,8 @@ fn push_evidence(
     short: &Option<FuncSet>,
 ) -> Result<(), AllocError>
     requires { IsEvidence input.now backlog short.now }
-    ensures { OnOk result (string_bytes out.new ≡ string_bytes out.old ++ short_if (option_map (spec.short_at settings.now input.now (backlog - 1)) short.now)) }
+    ensures { OnOk result (string_bytes out.new ≡ string_bytes out.old
+        ++ short_if (option_map (spec.short_at settings.now input.now (backlog - 1)) short.now)) }
 {
     match short {
         Some(set) => push_set(out, settings, input, backlog - 1, set),
@@ -109,16 +120,7 @@ fn push_evidence(
     }
 }
 
-fn stranded_of<'s>(settings: &'s Settings, input: &Input, function: FuncId) -> Stranded<'s>
-    requires { function < length input.now.least }
-    ensures { stranded_view result ≡ spec.stranded_at settings.now input.now function }
-{
-    Stranded {
-        function: settings.function_name(function),
-        waiting: input.waiting()[function.number() as usize],
-    }
-}
-
+/// The line of the function of this number, if no live worker may do it, with its waiting jobs.
 fn push_if_stranded(
     out: &mut String,
     settings: &Settings,
@@ -126,18 +128,21 @@ fn push_if_stranded(
     number: u32,
 ) -> Result<(), AllocError>
     requires { number < length input.now.least }
-    ensures { OnOk result (string_bytes out.new ≡ string_bytes out.old ++ (if is_stranded input.now number then stranded_line (spec.stranded_at settings.now input.now number) else [])) }
+    ensures { OnOk result (string_bytes out.new ≡ string_bytes out.old
+        ++ (if is_stranded input.now number then stranded_line (spec.stranded_at settings.now input.now number) else [])) }
 {
     let function = FuncId::new(number);
-    if input.is_stranded(function) {
-        push_stranded_line(out, &stranded_of(settings, input, function))
-    } else {
-        Ok(())
+    if !input.is_stranded(function) {
+        return Ok(());
     }
+    let name = settings.function_name(function);
+    let waiting = input.waiting()[number as usize];
+    write!(out, "stranded {name} {waiting}\n")
 }
 
 fn push_leftovers(out: &mut String, settings: &Settings, input: &Input) -> Result<(), AllocError>
-    ensures { OnOk result (string_bytes out.new ≡ string_bytes out.old ++ flat_map stranded_line (spec.stranded_all settings.now input.now)) }
+    ensures { OnOk result (string_bytes out.new
+        ≡ string_bytes out.old ++ flat_map stranded_line (spec.stranded_all settings.now input.now)) }
 {
     for number in 0..input.functions() as u32 {
         push_if_stranded(out, settings, input, number)?;
@@ -189,8 +194,8 @@ pub fn report_text(
     requires shown { Shown input.now answer.now }
     ensures { IfOk result (λ s. string_bytes s ≡ spec.report_text settings.now input.now answer.now) }
 {
-    let _live = input.live();
-    let _machines = settings.machines();
+    input.facts();
+    settings.facts();
     let mut out = String::new(alloc);
     out.push_str("report 1\n")?;
     push_told(&mut out, settings, input, answer)?;

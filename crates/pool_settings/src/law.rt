@@ -3,6 +3,7 @@
 ghost use Rattle.std.specs.Prelude.{length};
 ghost use Rattle.pool_settings.specs.Law.{AreOneToOne};
 ghost use Rattle.pool_settings.specs.Names as names;
+ghost use Rattle.pool_settings.specs.Settings.{AreSettings};
 ghost use Rattle.pool_settings.specs.Slots as slots;
 
 use crate::Settings;
@@ -15,4 +16,13 @@ pub fn names_are_one_to_one(settings: &Settings)
     ensures slots { let p = settings.now in AreOneToOne (slots.slots p) (slots.worker_name p) (slots.slot_named p) }
 {
     let _functions = settings.functions();
+}
+
+impl Settings {
+    /// What all settings keep: a law, which does nothing that is seen. Callers call it where a proof needs these facts.
+    pub fn facts(&self)
+        ensures { AreSettings self.now }
+    {
+        let _functions = self.functions();
+    }
 }

@@ -52,8 +52,7 @@ impl Pool {
         let live = rounds::live_marks(self.alloc, &self.slots)?;
         let waiting = self.settings.waiting_jobs(self.alloc, load)?;
         let input = self.settings.input(self.alloc, &live, &waiting)?;
-        // The clause `valid` is one of any input.
-        let _live = input.live();
+        input.facts();
         Ok(input)
     }
 
@@ -111,8 +110,7 @@ impl Pool {
         ensures same { IsTrue result ↔ (input.now ≡ input_of self.now.settings self.now.state load.now) }
         ensures valid { IsInstance input.now }
     {
-        // The clause `valid` is one of any input.
-        let _live = input.live();
+        input.facts();
         rounds::is_input(&self.settings, &self.slots, load, input)
     }
 

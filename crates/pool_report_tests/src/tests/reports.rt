@@ -18,14 +18,16 @@ struct Example<'e> {
 }
 
 const TWO_MACHINES: Example<'static> = Example {
-    settings: "version = 1\n[functions.x]\n[functions.y]\n[machines.a]\nworkers = 1\nfunctions = [\"x\"]\n[machines.b]\nworkers = 1\nfunctions = [\"x\", \"y\"]\n",
+    settings: "version = 1\n[functions.x]\n[functions.y]\n[machines.a]\nworkers = 1\nfunctions = [\"x\"]\n\
+               [machines.b]\nworkers = 1\nfunctions = [\"x\", \"y\"]\n",
     waiting: &[6, 2],
     report: "report 1\nbacklog 6\nwork a/0 x\nwork b/0 y\nshort need 3 have 2\nin x need 2\nin y need 1\nend\n",
 };
 
 /// One worker for two functions, and functions that nobody may do.
 const UNSERVED: Example<'static> = Example {
-    settings: "version = 1\n[functions.t]\n[functions.x]\n[functions.y]\n[functions.z]\n[machines.a]\nworkers = 1\nfunctions = [\"x\", \"y\"]\n",
+    settings: "version = 1\n[functions.t]\n[functions.x]\n[functions.y]\n[functions.z]\n[machines.a]\nworkers = 1\n\
+               functions = [\"x\", \"y\"]\n",
     waiting: &[7, 3, 3, 0],
     report: "report 1\nunserved 3\nwork a/0 x\nshort need 2 have 1\nin x need 1\nin y need 1\nstranded t 7\nstranded z 0\nend\n",
 };

@@ -12,12 +12,12 @@ told_once : (a b : Answer) (r : Result Answer ReadError) → r ≡ Ok a → r �
 told_once a b r left right = cc
 
 pub returns-clause-same : goal.returns-clause-same
-returns-clause-same c = report_read c.args.settings.now c.functions-functions.ensures.valid c.args.input.now c.args.answer.now c.live-live.ensures.valid c.requires.of_these c.requires.shown
+returns-clause-same c = report_read c.args.settings.now c.facts.ensures c.args.input.now c.args.answer.now c.facts-2.ensures c.requires.of_these c.requires.shown
 
 pub returns-clause-one : goal.returns-clause-one
 returns-clause-one c other shown same =
     let p = c.args.settings.now in
     let i = c.args.input.now in
-    let read = report_read p c.functions-functions.ensures.valid i in
-    told_once (retold i other) (retold i c.args.answer.now) (meaning p (report_text p i other)) (read other c.live-live.ensures.valid c.requires.of_these shown)
-    (ap (meaning p) same ∙ read c.args.answer.now c.live-live.ensures.valid c.requires.of_these c.requires.shown)
+    let read = report_read p c.facts.ensures i in
+    told_once (retold i other) (retold i c.args.answer.now) (meaning p (report_text p i other)) (read other c.facts-2.ensures c.requires.of_these shown)
+    (ap (meaning p) same ∙ read c.args.answer.now c.facts-2.ensures c.requires.of_these c.requires.shown)

@@ -6,7 +6,7 @@ use Rattle.pool_report.specs.Report.{worker_line}
 use Rattle.pool_report.proofs.report.push_tasks.Given as goal
 
 -- what is written, and what is left to write
-abbrev pub invariant-loop-slot : goal.invariant-loop-slot
-invariant-loop-slot l =
-    string_bytes l.out ++ flat_map worker_line (map (reported_worker l.settings (assigned l.plan)) (drop l.slot-index l.slot-items))
+abbrev pub invariant-loop-worker : goal.invariant-loop-worker
+invariant-loop-worker l =
+    string_bytes l.out ++ flat_map worker_line (map (reported_worker l.settings (assigned l.plan)) (drop l.worker-index l.worker-items))
     ≡ string_bytes l.fn.out ++ flat_map worker_line (map (reported_worker l.settings (assigned l.plan)) l.input.live)
