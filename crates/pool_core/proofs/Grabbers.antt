@@ -1,6 +1,6 @@
 -- Each job that goes on or is lost does so with the worker that grabbed it.
 use Rattle.std.proofs.Common.{◌≡◌, ◌≢◌, ℕ, ◌+◌, ◌-◌, ◌<◌, ◌≤◌, zero, suc, Bool, true, false, List, [], ◌∷◌, ◌++◌, length, get_or, set, Option, None, Some, ◌⊎◌, inl, inr, refl, sym, ap, ◌∙◌, subst, arith, append_assoc, append-nil, length-append, length-set}
-use Rattle.std.specs.Prelude.{slice_get, ◌==◌, count_by}
+use Rattle.std.specs.Prelude.{slice_get, ◌==◌}
 use Rattle.std.proofs.lemmas.List.{get_or-set_other, get_or_append_left}
 use Rattle.std.proofs.lemmas.List.Elements.{filter_map-append}
 use Rattle.std.proofs.lemmas.Grind.{get_or-set_at}
@@ -19,11 +19,10 @@ use Rattle.pool_core.specs.declared.event.Event.{Event}
 use Rattle.pool_core.specs.declared.event.Event.TheVariants as event
 use Rattle.pool_core.specs.Machine.{State, first, slot_in, standing_in, replay, IsHistory, IsPossible, after, with_lost, open_ticket, slot_after_run}
 use Rattle.pool_core.specs.Kept.{OpensAt, IsOpenTicket, IsSoundState}
-use Rattle.pool_core.specs.Laws.{grabber_of, grabbers, is_report_of, times_reported, IsHeldByGrabber, IsAccountedFor, JobsAreLostWithTheirWorkers, JobsAreAccountedFor}
+use Rattle.pool_core.specs.Laws.{grabber_of, grabbers, IsHeldByGrabber, JobsAreLostWithTheirWorkers}
 use Rattle.pool_core.proofs.Tables.{standing_given, opens_elsewhere, opens_here}
 use Rattle.pool_core.proofs.Sound.{generation_last, worker_within, run_none}
-use Rattle.pool_core.proofs.Lasting.{standing_from, length-with_lost, none_open, histories_are_sound_lem}
-use Rattle.pool_core.proofs.Booked.{jobs_are_booked_once_lem}
+use Rattle.pool_core.proofs.Lasting.{standing_from, length-with_lost, none_open}
 
 -- the worker that a slot with this content had last
 abbrev pub named : ℕ → Slot → WorkerName

@@ -23,8 +23,8 @@ use Rattle.pool_core.specs.declared.event.Event.{Event}
 use Rattle.pool_core.specs.declared.event.Event.TheVariants as event
 use Rattle.pool_core.specs.Machine.{State, first, slot_in, standing_in, replay, IsHistory, IsPossible, after, after_round, with_lost, is_live_in, open_ticket, input_of, slot_after_run}
 use Rattle.plan_model.proofs.Shown.{shown_best}
-use Rattle.pool_core.specs.Kept.{IsBase, IsChapter, IsSoundState, IsOpenTicket, OpensAt}
-use Rattle.pool_core.specs.Book.{Book, IsStep}
+use Rattle.pool_core.specs.Kept.{IsChapter, IsSoundState, IsOpenTicket, OpensAt}
+use Rattle.pool_core.specs.Book.{Book}
 use Rattle.pool_core.specs.Laws.{ExtendsState, is_grab, is_report, next_generation, HistoriesExtend, HistoriesAreSound, WorkersAreNew, HistoriesCount, ChaptersCount, RoundsAreShown, HistoriesJoin, HistoriesCut, BasesAreSound, EventsCount}
 use Rattle.pool_core.proofs.Tables.{standing_given}
 use Rattle.pool_core.proofs.Sound.{sound_after, generation_last, run_generation}

@@ -1,5 +1,5 @@
 -- A history that grows by one event, and what a pool keeps then.
-use Rattle.std.proofs.Common.{◌≡◌, ℕ, ◌+◌, ◌≤◌, List, [], ◌∷◌, ◌++◌, length, refl, sym, ap, ◌∙◌, subst, arith, length-append, append_assoc, append-nil}
+use Rattle.std.proofs.Common.{◌≡◌, ℕ, ◌+◌, ◌≤◌, List, [], ◌∷◌, ◌++◌, length, refl, sym, ap, ◌∙◌, subst, arith, length-append}
 use Rattle.std.specs.Prelude.{count_by}
 use Rattle.pool_settings.specs.Settings.{Settings}
 use Rattle.worker_state.specs.Slots.{is_reported, is_lost}

@@ -1,6 +1,6 @@
 -- What contracts see of a pool, and what its calls answer.
-use Rattle.std.specs.Prelude.{◌≡◌, ℕ, ◌+◌, ◌&&◌, nat_lt, nat_le, List, [], ◌∷◌, ◌++◌, length, Option, None, Some, Result, Ok, Err, is_some}
-use Rattle.std.specs.Prelude.{Bool, true, false, not, if◌then◌else◌, slice_index, count_by, IfSome}
+use Rattle.std.specs.Prelude.{◌≡◌, ℕ, ◌+◌, ◌&&◌, nat_lt, nat_le, List, [], ◌∷◌, ◌++◌, length, Option, None, Some, is_some}
+use Rattle.std.specs.Prelude.{Bool, false, not, if◌then◌else◌, slice_index, count_by, IfSome}
 use Rattle.pool_settings.specs.Settings.{Settings}
 use Rattle.worker_state.specs.declared.slot.Slot.{Slot}
 use Rattle.worker_state.specs.declared.order.Order.{Order}
@@ -26,8 +26,6 @@ use Rattle.pool_core.specs.declared.error.ChapterError.{ChapterError}
 use Rattle.pool_core.specs.declared.error.ChapterError.TheVariants as chapter
 use Rattle.pool_core.specs.declared.error.ViewError.{ViewError}
 use Rattle.pool_core.specs.declared.error.ViewError.TheVariants as view
-use Rattle.pool_core.specs.declared.error.AdoptError.{AdoptError}
-use Rattle.pool_core.specs.declared.error.AdoptError.TheVariants as adopt
 use Rattle.pool_core.specs.declared.error.GrabError.{GrabError}
 use Rattle.pool_core.specs.declared.error.GrabError.TheVariants as grab
 use Rattle.pool_core.specs.declared.error.BeginError.{BeginError}

@@ -1,6 +1,6 @@
 -- What every state that a history leads to has, and what a pool keeps beside its state.
 use Rattle.pool_settings.specs.Slots.{slots as slot_count}
-use Rattle.std.specs.Prelude.{◌≡◌, ℕ, ◌+◌, ◌-◌, ◌<◌, ◌≤◌, List, [], ◌++◌, length, Option, None, Some, true, slice_index_or, count_by}
+use Rattle.std.specs.Prelude.{◌≡◌, ℕ, ◌+◌, ◌-◌, ◌<◌, ◌≤◌, List, [], length, Option, None, Some, true, slice_index_or, count_by}
 use Rattle.pool_settings.specs.Settings.{Settings, AreSettings}
 use Rattle.worker_state.specs.declared.slot.Slot.{Slot}
 use Rattle.worker_state.specs.declared.slot.Slot.TheVariants.{Empty}
