@@ -1,5 +1,6 @@
 -- The program's command line: the words that each command takes, and the command that they ask for.
-use Rattle.std.specs.Prelude.{List, [], ◌∷◌, drop, slice_get, true, Option, Some, None, option_map, option_and_then, unwrap_or, codes, if◌then◌else◌, ℕ, pos}
+use Rattle.std.specs.Prelude.{List, [], ◌∷◌, drop, slice_get, true, codes, if◌then◌else◌, ℕ, pos}
+use Rattle.std.specs.Prelude.{Option, Some, None, option_map, option_and_then, unwrap_or}
 use Rattle.std.specs.Option.{option_map_or}
 use Rattle.std.specs.Str.{bytes_eq}
 use Rattle.std.specs.Str.Parse.{digits_value, without_leading_plus}
@@ -59,13 +60,17 @@ plan_app = with_rules (new_app (codes "plan")) (operand settings ∷ operands lo
 abbrev pub check_app : App
 check_app = with_rules (new_app (codes "check")) (operand settings ∷ operand status ∷ operands lost ∷ [])
 
+-- a command whose one operand is its settings
+abbrev pub settings_alone : Text → App
+settings_alone name = with_rules (new_app name) (operand settings ∷ [])
+
 -- `replay SETTINGS`
 abbrev pub replay_app : App
-replay_app = with_rules (new_app (codes "replay")) (operand settings ∷ [])
+replay_app = settings_alone (codes "replay")
 
 -- `settings SETTINGS`
 abbrev pub settings_app : App
-settings_app = with_rules (new_app (codes "settings")) (operand settings ∷ [])
+settings_app = settings_alone (codes "settings")
 
 -- `run SETTINGS ROUNDS`
 abbrev pub run_app : App

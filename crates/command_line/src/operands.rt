@@ -219,13 +219,19 @@ pub fn check_words<'a, W: AsStr>(
     Ok((settings, status, lost))
 }
 
-/// The text of the word of `replay`: its settings.
-pub fn replay_words<'a, W: AsStr>(alloc: Global, words: &'a [W]) -> Result<&'a str, Error>
-    ensures settings { IfOk result (λ m. first_of spec.settings (matches_of spec.replay_app (map W.text words.now)) ≡ Some m.now) }
-    ensures kinds { FailsBy (fault_of spec.replay_app (map W.text words.now)) result }
+/// The text of the word of a command whose one operand is its settings.
+fn settings_alone<'a, W: AsStr>(
+    alloc: Global,
+    name: &'a str,
+    help: Help,
+    words: &'a [W],
+) -> Result<&'a str, Error>
+    ensures settings { IfOk result
+        (λ m. first_of spec.settings (matches_of (spec.settings_alone name.entry.now) (map W.text words.now)) ≡ Some m.now) }
+    ensures kinds { FailsBy (fault_of (spec.settings_alone name.entry.now) (map W.text words.now)) result }
 {
     let settings = settings(alloc);
-    let command = command(alloc, "replay", REPLAY);
+    let command = command(alloc, name, help);
     let command = command.arg(settings)?;
     let matches = command.try_get_matches_from(words)?;
     let Some(settings) = matches.get_str("SETTINGS") else {
@@ -234,19 +240,20 @@ pub fn replay_words<'a, W: AsStr>(alloc: Global, words: &'a [W]) -> Result<&'a s
     Ok(settings)
 }
 
+/// The text of the word of `replay`: its settings.
+pub fn replay_words<'a, W: AsStr>(alloc: Global, words: &'a [W]) -> Result<&'a str, Error>
+    ensures settings { IfOk result (λ m. first_of spec.settings (matches_of spec.replay_app (map W.text words.now)) ≡ Some m.now) }
+    ensures kinds { FailsBy (fault_of spec.replay_app (map W.text words.now)) result }
+{
+    settings_alone(alloc, "replay", REPLAY, words)
+}
+
 /// The text of the word of `settings`: the settings.
 pub fn settings_words<'a, W: AsStr>(alloc: Global, words: &'a [W]) -> Result<&'a str, Error>
     ensures settings { IfOk result (λ m. first_of spec.settings (matches_of spec.settings_app (map W.text words.now)) ≡ Some m.now) }
     ensures kinds { FailsBy (fault_of spec.settings_app (map W.text words.now)) result }
 {
-    let settings = settings(alloc);
-    let command = command(alloc, "settings", SETTINGS);
-    let command = command.arg(settings)?;
-    let matches = command.try_get_matches_from(words)?;
-    let Some(settings) = matches.get_str("SETTINGS") else {
-        unreachable!()
-    };
-    Ok(settings)
+    settings_alone(alloc, "settings", SETTINGS, words)
 }
 
 /// What the words of `run` give: its settings and its rounds.

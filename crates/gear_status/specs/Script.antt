@@ -1,5 +1,6 @@
 -- A scripted device, as a value: what each of its calls does, and the script that it leaves.
-use Rattle.std.specs.Prelude.{◌≡◌, ℕ, ◌+◌, ◌-◌, ◌<◌, ◌≤◌, ◌==◌, ◌⊎◌, List, [], ◌++◌, Bool, true, false, Option, None, Some, Result, Ok, Err, drop, get_or, if◌then◌else◌, length, min, take}
+use Rattle.std.specs.Prelude.{◌≡◌, ℕ, ◌+◌, ◌-◌, ◌<◌, ◌≤◌, ◌==◌, ◌⊎◌, List, [], ◌++◌, Bool, true, false, Option, None, Some, Result, Ok}
+use Rattle.std.specs.Prelude.{Err, drop, get_or, if◌then◌else◌, length, min, take}
 use Rattle.std.specs.List.{concat}
 use Rattle.gear_status.specs.declared.device.DeviceFault.{DeviceFault}
 use Rattle.gear_status.specs.declared.device.Took.{Took}

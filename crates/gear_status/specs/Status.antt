@@ -1,5 +1,6 @@
 -- The text that answers `status`: what a line means, and what the whole text means.
-use Rattle.std.specs.Prelude.{ℕ, ◌+◌, ◌-◌, ◌^◌, List, [], ◌∷◌, Bool, ◌&&◌, nat_lt, ◌==◌, length, slice_index, take, Option, Some, None, Result, Ok, Err, if◌then◌else◌}
+use Rattle.std.specs.Prelude.{ℕ, ◌+◌, ◌-◌, ◌^◌, List, [], ◌∷◌, Bool, ◌&&◌, nat_lt, ◌==◌, length, slice_index, take, Option, Some, None}
+use Rattle.std.specs.Prelude.{Result, Ok, Err, if◌then◌else◌}
 use Rattle.std.specs.List.{slice_split}
 use Rattle.std.specs.Option.{option_and_then, option_map, option_map_or}
 use Rattle.std.specs.Str.{bytes_eq}

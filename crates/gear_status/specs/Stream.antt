@@ -1,5 +1,6 @@
 -- A status text that has come in part.
-use Rattle.std.specs.Prelude.{ℕ, ◌≡◌, ◌+◌, ◌-◌, ◌*◌, ◌≤◌, List, ◌++◌, take, Bool, true, false, not, length, Option, Some, None, Result, Ok, Err}
+use Rattle.std.specs.Prelude.{ℕ, ◌≡◌, ◌+◌, ◌-◌, ◌*◌, ◌≤◌, List, ◌++◌, take, Bool, true, false, not, length, Option, Some, None, Result}
+use Rattle.std.specs.Prelude.{Ok, Err}
 use Rattle.std.specs.List.{list_all, slice_split}
 use Rattle.gear_status.specs.Sides.{GaveUp, Met, Undisturbed}
 use Rattle.gear_status.specs.Status.{Line, meaning_from, status}

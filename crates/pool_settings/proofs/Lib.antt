@@ -5,7 +5,6 @@ pub mod Searches
 pub mod SlotSums
 pub mod Ranges
 pub mod Passing
-pub mod Lines
 pub mod Risen
 pub mod Planned
 pub mod WorkerNames

@@ -1,15 +1,18 @@
 -- The tree of a text, and what it reads as.
-use Rattle.std.proofs.Common.{◌≡◌, ℕ, suc, List, [], Bool, true, false, cond, length, Some, None, Err, refl, subst, sym, ap, ◌∙◌, arith}
-use Rattle.std.specs.Option.{option_map_or}
+use Rattle.std.proofs.Common.{◌≡◌, ℕ, suc, List, [], Bool, true, false, cond, length, Some, None, refl, subst, sym, ap, ◌∙◌, arith}
 use Rattle.std.specs.Str.{IsUtf8, is_utf8}
+use Rattle.std.proofs.lemmas.Option.{none-some}
 use Rattle.std.proofs.lemmas.Str.{IsUtf8-from_is_utf8, is_utf8-from_IsUtf8}
 use Rattle.toml.specs.Data.{Members, no_members}
 use Rattle.toml.specs.Errors.{IsBlank}
 use Rattle.toml.specs.Parse.{parse_document, skip_bom}
 use Rattle.toml.specs.Tables.{no_nodes}
 use Rattle.toml.proofs.Turns.{document_some, lines_end}
-use Rattle.pool_settings.specs.Reading.{first_fault, read_tree, reading, tree_of, version_key}
-use Rattle.pool_settings.specs.declared.error.SettingsError.TheVariants.{Text, Version}
+use Rattle.pool_settings.specs.Fault.{RefusesTree, error_of}
+use Rattle.pool_settings.specs.Reading.{first_fault, tree_of, version_key}
+use Rattle.pool_settings.specs.declared.fault.SettingsFault.{SettingsFault}
+use Rattle.pool_settings.specs.declared.fault.SettingsFault.TheVariants as fault
+use Rattle.pool_settings.specs.declared.error.SettingsError.TheVariants as error
 use Rattle.pool_settings.specs.declared.place.Place.TheVariants.{Key}
 
 pub tree_is : (bytes : List ℕ) (tree : Members) → IsUtf8 bytes → parse_document bytes ≡ Some tree → tree_of bytes ≡ Some tree
@@ -22,23 +25,21 @@ tree_none bytes none = by (is_utf8 bytes) refl
     by true is = ap (λ b. cond b (parse_document bytes) None) is ∙ none (IsUtf8-from_is_utf8 bytes is)
     by false is = ap (λ b. cond b (parse_document bytes) None) is
 
-pub taken_tree : (bytes : List ℕ) (tree : Members) → IsUtf8 bytes → parse_document bytes ≡ Some tree → reading bytes ≡ read_tree tree
-taken_tree bytes tree utf8 parsed =
-    ap (λ b. option_map_or read_tree (cond b (parse_document bytes) None) (Err Text)) (is_utf8-from_IsUtf8 bytes utf8)
-    ∙ ap (λ o. option_map_or read_tree o (Err Text)) parsed
-
-pub no_tree : (bytes : List ℕ) → (IsUtf8 bytes → parse_document bytes ≡ None) → reading bytes ≡ Err Text
-no_tree bytes none = by (is_utf8 bytes) refl
-  where
-    by : (b : Bool) → is_utf8 bytes ≡ b → reading bytes ≡ Err Text
-    by true is =
-        ap (λ b. option_map_or read_tree (cond b (parse_document bytes) None) (Err Text)) is
-        ∙ ap (λ o. option_map_or read_tree o (Err Text)) (none (IsUtf8-from_is_utf8 bytes is))
-    by false is = ap (λ b. option_map_or read_tree (cond b (parse_document bytes) None) (Err Text)) is
+parsed_by : (bytes : List ℕ) (tree : Members) (b : Bool) → cond b (parse_document bytes) None ≡ Some tree → parse_document bytes ≡ Some tree
+parsed_by bytes tree true h = h
+parsed_by bytes tree false h = absurd (none-some tree h)
 
 -- a blank text has no version
-pub blank_fault : (bytes : List ℕ) (tree : Members) → IsBlank bytes → parse_document bytes ≡ Some tree → first_fault tree ≡ Some (Version, Key version_key)
-blank_fault bytes tree blank parsed =
+blank_fault : (bytes : List ℕ) (tree : Members) → IsBlank bytes → tree_of bytes ≡ Some tree → first_fault tree ≡ Some (error.Version, Key version_key)
+blank_fault bytes tree blank read =
+    let parsed : parse_document bytes ≡ Some tree = parsed_by bytes tree (is_utf8 bytes) read in
     let empty : parse_document bytes ≡ Some no_members = document_some bytes (no_nodes, []) (lines_end (suc (length bytes)) (no_nodes, []) (skip_bom bytes) (omega arith) blank) in
     let same : tree ≡ no_members = cc in
-    subst (λ t. first_fault t ≡ Some (Version, Key version_key)) (sym same) refl
+    subst (λ t. first_fault t ≡ Some (error.Version, Key version_key)) (sym same) refl
+
+-- settings that are refused for want of memory alone are not blank
+pub memory_refused : (bytes : List ℕ) (tree : Members) (fault : SettingsFault) → tree_of bytes ≡ Some tree → RefusesTree tree fault
+    → error_of fault ≡ error.Memory → ¬ IsBlank bytes
+memory_refused bytes tree (fault.At e at) read refuses memory blank = absurd (refuses.0 memory)
+memory_refused bytes tree fault.Memory read refuses memory blank =
+    none-some (error.Version, Key version_key) (sym refuses ∙ blank_fault bytes tree blank read)

@@ -1,6 +1,7 @@
 -- Versions 1 and 2 of the settings: the checks, each over the whole file before the next, and the settings
 -- that a file which passes them means.
-use Rattle.std.specs.Prelude.{ℕ, List, [], ◌∷◌, Bool, true, false, not, ◌&&◌, ◌||◌, ◌==◌, nat_le, is_some, length, map, sum, Option, Some, None, unwrap_or, option_and_then, option_map, if◌then◌else◌, codes, Result, Ok, Err}
+use Rattle.std.specs.Prelude.{ℕ, List, [], ◌∷◌, Bool, true, false, not, ◌&&◌, ◌||◌, ◌==◌, nat_le, is_some, length, map, sum, Option, Some}
+use Rattle.std.specs.Prelude.{None, unwrap_or, option_and_then, option_map, if◌then◌else◌, codes, Result, Ok, Err}
 use Rattle.std.specs.List.{filter_map, find, list_all}
 use Rattle.std.specs.Option.{option_map_or}
 use Rattle.std.specs.Str.{bytes_eq, is_utf8}

@@ -1,5 +1,6 @@
 -- Slots, numbered by machine and then by the worker's number in its machine.
-use Rattle.std.specs.Prelude.{◌≡◌, ℕ, ◌≤◌, ◌+◌, ◌-◌, ◌^◌, List, [], ◌∷◌, ◌++◌, take, sum, replicate, slice_index, slice_index_or, Bool, false, nat_lt, Option, Some, None, option_and_then, filter, if◌then◌else◌}
+use Rattle.std.specs.Prelude.{◌≡◌, ℕ, ◌≤◌, ◌+◌, ◌-◌, ◌^◌, List, [], ◌∷◌, ◌++◌, take, sum, replicate, slice_index, slice_index_or, Bool}
+use Rattle.std.specs.Prelude.{false, nat_lt, Option, Some, None, option_and_then, filter, if◌then◌else◌}
 use Rattle.std.specs.List.{enumerate_from}
 use Rattle.std.specs.Fmt.{decimal}
 use Rattle.text_pieces.specs.Cuts.{cut_last}

@@ -1,14 +1,15 @@
 //! The checks of a settings file. Each looks at the whole tree, and answers where the first fault is.
 
-ghost use Rattle.std.specs.Prelude.{◌≡◌, ◌&&◌, is_some, false};
+ghost use Rattle.std.specs.Prelude.{◌≡◌, ◌&&◌, IfOk, is_some, false};
 ghost use Rattle.std.specs.Option.{option_map_or};
 ghost use Rattle.std.specs.List.{list_all};
 ghost use Rattle.toml.specs.Data.{as_str};
 ghost use Rattle.toml.specs.View.{array_view, table_view, view};
-ghost use Rattle.pool_settings.specs.Entries.{AnswersAs, entries_if, shown};
+ghost use Rattle.pool_settings.specs.Entries.{AnswersAs, entries_if, found_in, shown, table_entries};
+ghost use Rattle.pool_settings.specs.Fault.{HasTables};
 ghost use Rattle.pool_settings.specs.Place as places;
 ghost use Rattle.pool_settings.specs.Reading as spec;
-ghost use Rattle.pool_settings.specs.Tree.{Entry, values_of};
+ghost use Rattle.pool_settings.specs.Tree.{Entry, entries_at, values_of};
 ghost use Rattle.std.specs.Prelude.{Option};
 
 use crate::bounds::MAX_WORKERS;
@@ -17,6 +18,13 @@ use crate::place::{Place, Section};
 use crate::spelling::{is_machine_name, is_name};
 use crate::tree::{number_between, table_at, value_at};
 use toml::{Table, Value};
+
+/// The two tables of a settings file whose keys are names.
+#[derive(Clone, Copy)]
+pub struct Tables<'t> {
+    pub functions: &'t Table,
+    pub machines: &'t Table,
+}
 
 /// A fault there, unless all is good.
 pub fn unless(good: bool, place: Place<&str>) -> Option<Place<&str>>
@@ -30,7 +38,8 @@ pub fn first_in<'t, F>(table: Option<&'t Table>, check: F) -> Option<Place<&'t s
 where
     F: Fn(&'t str, &'t Value) -> Option<Place<&'t str>>,
     requires { F.IsAlwaysCallable check }
-    ensures { (find : Entry → Option spec.Where) → AnswersAs (F.post check) find → shown result ≡ places.first_in find (entries_if table.entry) }
+    ensures { (find : Entry → Option spec.Where) → AnswersAs (F.post check) find
+        → shown result ≡ places.first_in find (entries_if table.entry) }
 {
     let entries = table?;
     for (key, value) in entries {
@@ -303,22 +312,55 @@ fn bad_machine_of<'t>(name: &'t str, value: &'t Value) -> Option<Place<&'t str>>
     ))
 }
 
-fn bad_table<'t, F>(tree: &'t Table, key: &'t str, check: F) -> Option<Place<&'t str>>
+/// The table at a key, if it is one and a check finds no fault in its entries. Else where the first fault is.
+fn sound_table<'t, F>(tree: &'t Table, key: &'t str, check: F) -> Result<&'t Table, Place<&'t str>>
 where
     F: Fn(&'t str, &'t Value) -> Option<Place<&'t str>>,
     requires { F.IsAlwaysCallable check }
-    ensures { (find : Entry → Option spec.Where) → AnswersAs (F.post check) find → shown result ≡ spec.bad_table key.now find (table_view tree.now) }
+    ensures fault { (find : Entry → Option spec.Where) → AnswersAs (F.post check) find
+        → found_in result ≡ spec.bad_table key.now find (table_view tree.now) }
+    ensures table { IfOk result (λ table. table_entries table.now ≡ entries_at key.now (table_view tree.now)) }
 {
-    match table_at(tree, key) {
-        Some(table) => first_in(Some(table), check),
-        None => Some(Place::Key(key)),
+    let Some(table) = table_at(tree, key) else {
+        return Err(Place::Key(key));
+    };
+    match first_in(Some(table), check) {
+        Some(place) => Err(place),
+        None => Ok(table),
     }
 }
 
-pub fn bad_value(tree: &Table) -> Option<Place<&str>>
-    ensures { shown result ≡ spec.bad_value (table_view tree.now) }
+fn function_table(tree: &Table) -> Result<&Table, Place<&str>>
+    ensures fault { found_in result ≡ spec.bad_table spec.functions_key spec.bad_count_of (table_view tree.now) }
+    ensures table { IfOk result (λ table. table_entries table.now ≡ entries_at spec.functions_key (table_view tree.now)) }
 {
-    bad_limit(tree)
-        .or_else(|| bad_table(tree, "functions", bad_count_of))
-        .or_else(|| bad_table(tree, "machines", bad_machine_of))
+    sound_table(tree, "functions", bad_count_of)
+}
+
+fn machine_table(tree: &Table) -> Result<&Table, Place<&str>>
+    ensures fault { found_in result ≡ spec.bad_table spec.machines_key spec.bad_machine_of (table_view tree.now) }
+    ensures table { IfOk result (λ table. table_entries table.now ≡ entries_at spec.machines_key (table_view tree.now)) }
+{
+    sound_table(tree, "machines", bad_machine_of)
+}
+
+/// The tables of functions and machines of a tree whose values are good. Else where the first bad value is.
+pub fn tables_of(tree: &Table) -> Result<Tables<'_>, Place<&str>>
+    ensures fault { found_in result ≡ spec.bad_value (table_view tree.now) }
+    ensures tables { IfOk result (HasTables (table_view tree.now)) }
+{
+    if let Some(place) = bad_limit(tree) {
+        return Err(place);
+    }
+    let functions = match function_table(tree) {
+        Ok(functions) => functions,
+        Err(place) => return Err(place),
+    };
+    match machine_table(tree) {
+        Ok(machines) => Ok(Tables {
+            functions,
+            machines,
+        }),
+        Err(place) => Err(place),
+    }
 }

@@ -1,72 +1,54 @@
-//! The first fault of a settings file, and where it is.
+//! Why the settings of a file are not taken, and where in the file its first fault is.
 
-ghost use Rattle.std.specs.Prelude.{◌≡◌, ◌≤◌, IfOk, filter, Some, length, option_map};
-ghost use Rattle.std.specs.List.{after_last};
-ghost use Rattle.toml.specs.View.{table_view};
+ghost use Rattle.std.specs.Prelude.{◌≡◌, ◌≤◌, Some, filter, length};
 ghost use Rattle.pool_settings.specs.Fault as spec;
 ghost use Rattle.text_pieces.specs.Lines.{is_line_feed};
-ghost use Rattle.pool_settings.specs.Reading.{first_fault};
 
 use crate::SettingsError;
 use crate::place::Place;
-use crate::settings::first_fault;
-use std::alloc::{AllocError, Global};
-use toml::Table;
+use std::alloc::AllocError;
+use text_pieces::cut_last;
 
-/// The first fault of a settings file, and where it is.
-#[derive(Debug, PartialEq, Eq, Drop)]
-pub struct Fault {
-    /// What `Settings::read` answers, where memory suffices.
-    pub error: SettingsError,
-    /// Where in the file the fault is: with `Text` a line and a column, with `TooMany` what there are too many of, and else a key
-    /// or a name.
-    pub place: Place<String>,
+/// Why the settings of a file are not taken.
+#[derive(Clone, Copy, Debug, PartialEq, Eq)]
+pub enum SettingsFault<'f> {
+    /// The first fault of the file: what `Settings::read` answers, which is not `Memory`, and where in the file that is. With `Text` it is
+    /// a line and a column, with `TooMany` what there are too many of, and else a key or a name.
+    At(SettingsError, Place<&'f str>),
+    /// An allocation was refused.
+    Memory,
 }
 
-impl Fault {
-    /// Finds the first fault of a settings file, and none where its settings are good. The fault is the one that `Settings::read`
-    /// answers, and its place is the first in the order of `SettingsError`: the top table before `functions`, and that before
-    /// `machines`, keys and names in byte order. A text that is not UTF-8 is at fault behind its last character. The only error is
-    /// want of memory.
-    pub fn find(alloc: Global, text: &[u8]) -> Result<Option<Fault>, AllocError>
-        ensures { IfOk result (λ found. spec.IsFoundIn text.now (option_map spec.fault_view found)) }
+impl SettingsFault<'_> {
+    /// The refusal without its place, as `Settings::read` answers it.
+    pub fn error(&self) -> SettingsError
+        ensures { result ≡ spec.error_of self.now }
     {
-        match std::str::from_utf8(text) {
-            Ok(utf8) => match toml::table_from_str(alloc, utf8) {
-                Ok(tree) => fault_in(alloc, &tree),
-                Err(error) => match error.span() {
-                    Some(span) => Ok(Some(text_fault(&text[..span.start]))),
-                    None => Err(AllocError),
-                },
-            },
-            Err(error) => Ok(Some(text_fault(&text[..error.valid_up_to()]))),
+        match *self {
+            SettingsFault::At(error, _) => error,
+            SettingsFault::Memory => SettingsError::Memory,
         }
     }
 }
 
-/// The first fault of a tree.
-fn fault_in(alloc: Global, tree: &Table) -> Result<Option<Fault>, AllocError>
-    ensures { IfOk result (λ found. option_map spec.fault_view found ≡ first_fault (table_view tree.now)) }
-{
-    match first_fault(tree) {
-        Some((error, place)) => {
-            let place = place.to_owned(alloc)?;
-            Ok(Some(Fault { error, place }))
-        }
-        None => Ok(None),
+impl From<AllocError> for SettingsFault<'_> {
+    ghost use Rattle.std.specs.Prelude.{◌≡◌};
+    ghost use Rattle.pool_settings.specs.declared.fault.SettingsFault.TheVariants.{Memory};
+
+    ghost from_gives = { λ _ fault. fault ≡ Memory };
+
+    fn from(_: AllocError) -> Self {
+        SettingsFault::Memory
     }
 }
 
 /// The fault of a text that is no TOML from behind these bytes on.
-fn text_fault(before: &[u8]) -> Fault
-    ensures { spec.fault_view result ≡ spec.text_fault before.now }
+pub fn text_fault<'f>(before: &[u8]) -> SettingsFault<'f>
+    ensures { spec.fault_of result ≡ Some (spec.text_fault before.now) }
 {
     let line = line_feeds(before) + 1;
     let column = characters(last_line(before)) + 1;
-    Fault {
-        error: SettingsError::Text,
-        place: Place::Text { line, column },
-    }
+    SettingsFault::At(SettingsError::Text, Place::Text { line, column })
 }
 
 /// How many line feeds there are.
@@ -99,14 +81,10 @@ fn begins_character(byte: u8) -> bool
 
 /// What stands behind the last line feed.
 fn last_line(text: &[u8]) -> &[u8]
-    ensures { result.now ≡ after_last is_line_feed text.now }
+    ensures { result.now ≡ spec.last_line text.now }
 {
-    let mut start = text.len();
-    while start > 0 {
-        if text[start - 1] == b'\n' {
-            return &text[start..];
-        }
-        start -= 1;
+    match cut_last(b'\n', text) {
+        Some((_, last)) => last,
+        None => text,
     }
-    text
 }

@@ -3,10 +3,11 @@
 
 mod bounds;
 mod build;
+mod checked;
 mod checks;
 mod error;
 mod fault;
-mod given;
+mod file;
 mod keys;
 mod law;
 mod limits;
@@ -19,8 +20,8 @@ mod spelling;
 mod tree;
 
 pub use error::SettingsError;
-pub use fault::Fault;
-pub use given::Given;
+pub use fault::SettingsFault;
+pub use file::SettingsFile;
 pub use law::names_are_one_to_one;
 pub use place::{Counted, Place, Section};
 pub use settings::Settings;

@@ -27,7 +27,8 @@ fn is_function(tree: &Table, name: &str) -> bool
 
 /// The first text of some values that is no function.
 fn no_function<'t>(tree: &Table, names: &'t Vec<Value>) -> Option<&'t str>
-    ensures { option_map (λ t. t.now) result ≡ find (λ name. not (spec.is_function_of (table_view tree.now) name)) (filter_map as_str (values_of (array_view names.now))) }
+    ensures { option_map (λ t. t.now) result
+        ≡ find (λ name. not (spec.is_function_of (table_view tree.now) name)) (filter_map as_str (values_of (array_view names.now))) }
 {
     for value in names {
         if let Some(name) = value.as_str() {

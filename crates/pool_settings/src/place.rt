@@ -1,10 +1,5 @@
 //! Where in a settings file a fault is.
 
-ghost use Rattle.std.specs.Prelude.{◌≡◌, IfOk, string_bytes};
-ghost use Rattle.pool_settings.specs.Place.{place_view};
-
-use std::alloc::{AllocError, Global};
-
 /// One of the two tables of a settings file whose keys are names.
 #[derive(Clone, Copy, Debug, PartialEq, Eq)]
 pub enum Section {
@@ -25,7 +20,7 @@ pub enum Counted {
     Workers,
 }
 
-/// Where in a settings file a fault is. `T` is how a key or a name is held: `String` in what is handed out.
+/// Where in a settings file a fault is. `T` is how a key or a name is held: `&str`, lent by the file, in what is handed out.
 #[derive(Clone, Copy, Debug, PartialEq, Eq, Drop)]
 pub enum Place<T> {
     /// A line and a column of the text, both from 1. A column counts characters.
@@ -45,26 +40,4 @@ pub enum Place<T> {
     Listed(T, T),
     /// There are too many of these.
     Count(Counted),
-}
-
-impl Place<&str> {
-    /// The same place with texts of its own.
-    pub(crate) fn to_owned(&self, alloc: Global) -> Result<Place<String>, AllocError>
-        ensures { IfOk result (λ place. place_view string_bytes place ≡ place_view (λ t. t.now) self.now) }
-    {
-        Ok(match *self {
-            Place::Text { line, column } => Place::Text { line, column },
-            Place::Key(key) => Place::Key(String::from_str(alloc, key)?),
-            Place::Entry(section, name) => Place::Entry(section, String::from_str(alloc, name)?),
-            Place::EntryKey(section, name, key) => {
-                let name = String::from_str(alloc, name)?;
-                Place::EntryKey(section, name, String::from_str(alloc, key)?)
-            }
-            Place::Listed(machine, function) => {
-                let machine = String::from_str(alloc, machine)?;
-                Place::Listed(machine, String::from_str(alloc, function)?)
-            }
-            Place::Count(counted) => Place::Count(counted),
-        })
-    }
 }

@@ -1,28 +1,25 @@
 //! The settings of a pool.
 
-ghost use Rattle.std.specs.Prelude.{◌≡◌, ◌≢◌, ◌<◌, ◌≤◌, ◌+◌, Err, IfErr, IfOk, IfSome, None, Ok, Some, length, map, slice_index, slice_index_or, string_bytes, []};
+ghost use Rattle.std.specs.Prelude.{◌≡◌, ◌≢◌, ◌<◌, ◌≤◌, ◌+◌, Err, IfErr, IfOk, IfSome, None, Ok, Some, length, map, slice_index};
+ghost use Rattle.std.specs.Prelude.{slice_index_or, string_bytes, []};
 ghost use Rattle.std.specs.List.Sorted.{IsStrictlyIncreasing};
 ghost use Rattle.toml.specs.Errors.{IsBlank};
 ghost use Rattle.toml.specs.View.{table_view};
-ghost use Rattle.pool_settings.specs.Entries.{table_entries, told};
+ghost use Rattle.pool_settings.specs.Fault.{HasTables};
 ghost use Rattle.pool_settings.specs.Names as names;
 ghost use Rattle.pool_settings.specs.Planning.{instance_of, waiting_of};
 ghost use Rattle.pool_settings.specs.Settings.{AreSettings};
 ghost use Rattle.pool_settings.specs.Reading as spec;
 ghost use Rattle.pool_settings.specs.Rows.{may_do};
 ghost use Rattle.pool_settings.specs.Slots as slots;
-ghost use Rattle.pool_settings.specs.Tree.{entries_at};
 
-use crate::SettingsError;
 use crate::build::{read_counts, read_rows};
-use crate::checks::{bad_name, bad_value, bad_version, missing_key, unknown_key};
+use crate::checks::Tables;
 use crate::keys::{history_in, job_timeout_in, lull_in, max_runs_in, round_in, server_in};
-use crate::limits::{too_many, unknown_function};
 use crate::names::Names;
-use crate::place::Place;
 use crate::planning::live_workers;
 use crate::slots::SlotTable;
-use crate::tree::table_at;
+use crate::{SettingsError, SettingsFile};
 use gear_status::Load;
 use plan_model::{FuncId, Input, InputError, MachineId, SlotId};
 use std::alloc::{AllocError, Global};
@@ -61,53 +58,20 @@ impl Model for Settings {
     ghost invariant = { λ s. meant.AreSettings (settings_view s) };
 }
 
-/// The first check that a tree fails, with its place.
-pub fn first_fault(tree: &Table) -> Option<(SettingsError, Place<&str>)>
-    ensures first { told result ≡ spec.first_fault (table_view tree.now) }
-    ensures refusal { IfSome result (λ f. f.0 ≢ SettingsError.Memory) }
-{
-    if let Some(place) = bad_version(tree) {
-        return Some((SettingsError::Version, place));
-    }
-    if let Some(place) = unknown_key(tree) {
-        return Some((SettingsError::UnknownKey, place));
-    }
-    if let Some(place) = missing_key(tree) {
-        return Some((SettingsError::MissingKey, place));
-    }
-    if let Some(place) = bad_name(tree) {
-        return Some((SettingsError::BadName, place));
-    }
-    if let Some(place) = bad_value(tree) {
-        return Some((SettingsError::BadValue, place));
-    }
-    if let Some(place) = unknown_function(tree) {
-        return Some((SettingsError::UnknownFunction, place));
-    }
-    let place = too_many(tree)?;
-    Some((SettingsError::TooMany, place))
-}
-
-/// The settings of a tree that passes the checks.
-fn settings_of(
-    alloc: Global,
-    tree: &Table,
-    functions: &Table,
-    machines: &Table,
-) -> Result<Settings, AllocError>
+/// The settings of a tree that passes the checks, with the tables that it has.
+pub fn settings_of(alloc: Global, tree: &Table, tables: Tables<'_>) -> Result<Settings, AllocError>
     requires passes { spec.first_fault (table_view tree.now) ≡ None }
-    requires functions { table_entries functions.now ≡ entries_at spec.functions_key (table_view tree.now) }
-    requires machines { table_entries machines.now ≡ entries_at spec.machines_key (table_view tree.now) }
+    requires tables { HasTables (table_view tree.now) tables }
     ensures { IfOk result (λ s. s ≡ spec.settings_of (table_view tree.now)) }
 {
     let server = String::from_str(alloc, server_in(tree).unwrap_or(""))?;
-    let names = Names::of_table(alloc, functions)?;
-    let least = read_counts(alloc, functions, "least", 0)?;
-    let machine_names = Names::of_table(alloc, machines)?;
-    let workers = read_counts(alloc, machines, "workers", 0)?;
+    let functions = Names::of_table(alloc, tables.functions)?;
+    let least = read_counts(alloc, tables.functions, "least", 0)?;
+    let machines = Names::of_table(alloc, tables.machines)?;
+    let workers = read_counts(alloc, tables.machines, "workers", 0)?;
     let slots = SlotTable::new(alloc, workers)?;
-    let most = read_counts(alloc, functions, "most", slots.len())?;
-    let may = read_rows(alloc, &names, machines)?;
+    let most = read_counts(alloc, tables.functions, "most", slots.len())?;
+    let may = read_rows(alloc, &functions, tables.machines)?;
     Ok(Settings {
         server,
         job_timeout_ms: job_timeout_in(tree).unwrap_or(0),
@@ -115,31 +79,13 @@ fn settings_of(
         round_ms: round_in(tree).unwrap_or(0),
         lull_ms: lull_in(tree).unwrap_or(0),
         history: history_in(tree).unwrap_or(0),
-        functions: names,
+        functions,
         least,
         most,
-        machines: machine_names,
+        machines,
         slots,
         may,
     })
-}
-
-/// What a tree means, or its refusal.
-fn read_tree(alloc: Global, tree: &Table) -> Result<Settings, SettingsError>
-    ensures ok { IfOk result (λ s. spec.read_tree (table_view tree.now) ≡ Ok s) }
-    ensures refused { IfErr result (λ f. f ≢ SettingsError.Memory → spec.read_tree (table_view tree.now) ≡ Err f) }
-    ensures memory { IfErr result (λ f. f ≡ SettingsError.Memory → spec.first_fault (table_view tree.now) ≡ None) }
-{
-    if let Some((error, _place)) = first_fault(tree) {
-        return Err(error);
-    }
-    let Some(functions) = table_at(tree, "functions") else {
-        unreachable!()
-    };
-    let Some(machines) = table_at(tree, "machines") else {
-        unreachable!()
-    };
-    Ok(settings_of(alloc, tree, functions, machines)?)
 }
 
 impl Settings {
@@ -171,14 +117,13 @@ impl Settings {
         ensures refused { IfErr result (λ f. f ≢ SettingsError.Memory → spec.reading settings_text.now ≡ Err f) }
         ensures memory { IfErr result (λ f. f ≡ SettingsError.Memory → ¬ IsBlank settings_text.now) }
     {
-        match toml::table_from_slice(alloc, settings_text) {
-            Ok(tree) => read_tree(alloc, &tree),
-            Err(error) => {
-                if error.is_memory() {
-                    return Err(SettingsError::Memory);
-                }
-                Err(SettingsError::Text)
-            }
+        let file = match SettingsFile::read(alloc, settings_text) {
+            Ok(file) => file,
+            Err(fault) => return Err(fault.error()),
+        };
+        match file.settings(alloc) {
+            Ok(settings) => Ok(settings),
+            Err(fault) => Err(fault.error()),
         }
     }
 

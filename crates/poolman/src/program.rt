@@ -24,8 +24,8 @@ const USAGE: u8 = 2;
 /// are no command's or ask for help, and then what `clap` says of them is on error output; 3 where input is refused, and
 /// 4 where memory or a device failed.
 ///
-/// The first word is the program's name. Words that are no text in UTF-8 are no command's. A run is on the host; of what
-/// the host does with the attempts of which it is told nothing is said here.
+/// The first word is the program's name. Words that are no text in UTF-8 are no command's. A run is on the host; this
+/// contract says nothing of what the host does with progress reports.
 pub fn program<F: Folder, H: Host, R: Source, W: Sink, E: Sink>(
     files: &F,
     host: &H,

@@ -1,43 +1,38 @@
--- What is found in a settings file that is refused.
-use Rattle.std.proofs.Common.{◌≡◌, ◌∙◌, ℕ, List, Option, None, Some, Ok, Err, ap, refl, subst, sym, take}
+-- What is told of a settings file, from what is told of its text or of its tree.
+use Rattle.std.proofs.Common.{◌≡◌, ◌∙◌, ℕ, List, Some, Ok, Err, ap, inl, inr, refl, sym}
 use Rattle.std.specs.Option.{option_map_or}
-use Rattle.std.specs.Prelude.{is_ok}
-use Rattle.std.proofs.lemmas.Bool.{false≢true}
+use Rattle.gear_status.specs.Sides.{Output}
+use Rattle.plan_commands.specs.declared.ending.Exit.{Exit}
 use Rattle.toml.specs.Data.{Members}
-use Rattle.pool_settings.specs.Fault.{IsFoundIn, column_behind, line_behind}
-use Rattle.pool_settings.specs.Reading.{Fault, Where, first_fault, read_tree, reading, settings_of, tree_of}
-use Rattle.pool_settings.specs.Settings.{Settings}
-use Rattle.pool_settings.specs.declared.error.SettingsError.{SettingsError}
+use Rattle.pool_settings.specs.Fault.{RefusesText}
+use Rattle.pool_settings.specs.Place.{place_view}
+use Rattle.pool_settings.specs.Reading.{read_tree, reading, settings_of, tree_of}
 use Rattle.pool_settings.specs.declared.error.SettingsError.TheVariants.{Text}
-use Rattle.pool_settings.specs.declared.place.Place.TheVariants as place
+use Rattle.pool_settings.specs.declared.fault.SettingsFault.{SettingsFault}
+use Rattle.pool_settings.specs.declared.fault.SettingsFault.TheVariants as first
+use Rattle.pool_settings.proofs.Found.{found_in_tree}
+use Rattle.settings_command.specs.Told.{Explains, Locates, TellsSettings}
 
-first_is : (settings : Settings) (e : SettingsError) (first : Option Fault)
-    → option_map_or (λ f. Err f.0) first (Ok settings) ≡ Err e → (at : Where) × (first ≡ Some (e, at))
-first_is settings e None refused = absurd (false≢true (sym (ap is_ok refused)))
-first_is settings e (Some (error, at)) refused = (at, cc)
+reading_of_tree : (text : List ℕ) (tree : Members) → tree_of text ≡ Some tree → reading text ≡ read_tree tree
+reading_of_tree text tree h = ap (λ o. option_map_or read_tree o (Err Text)) h
 
--- a file that is refused by an error has a place where that is found
-pub found_at : (text : List ℕ) (e : SettingsError) (found : Option Fault)
-    → reading text ≡ Err e → IsFoundIn text found → (at : Where) × (found ≡ Some (e, at))
-found_at text e found refused is = by (tree_of text) refl
-  where
-    by : (tree : Option Members) → tree_of text ≡ tree → (at : Where) × (found ≡ Some (e, at))
-    by (Some tree) h =
-        let read : read_tree tree ≡ Err e = sym (ap (λ o. option_map_or read_tree o (Err Text)) h) ∙ refused in
-        let first = first_is (settings_of tree) e (first_fault tree) read in
-        (first.0, is.in_tree tree h ∙ first.1)
-    by None h =
-        let text_is : Err Text ≡ Err e = sym (ap (λ o. option_map_or read_tree o (Err Text)) h) ∙ refused in
-        let there = is.in_text h in
-        let before = take there.0 text in
-        (place.Text (line_behind before) (column_behind before), cc)
+pub told_of_tree : (text : List ℕ) (tree : Members) (old new : Output) (exit : Exit) → tree_of text ≡ Some tree
+    → Explains tree old new exit → TellsSettings text old new exit
+told_of_tree text tree old new exit h (inl meaning) =
+    inl (meaning.0, reading_of_tree text tree h ∙ meaning.1, (tree, h, meaning.2))
+told_of_tree text tree old new exit h (inr (first.At e at, refuses, inl written)) =
+    let place = place_view (λ t. t.now) at in
+    let refused : read_tree tree ≡ Err e = ap (λ o. option_map_or (λ f. Err f.0) o (Ok (settings_of tree))) refuses.1 in
+    inr (inl (e, reading_of_tree text tree h ∙ refused, (_, (place, found_in_tree text tree (e, place) h refuses.1, refl), written)))
+told_of_tree text tree old new exit h (inr (first.At e at, refuses, inr stops)) = inr (inr stops)
+told_of_tree text tree old new exit h (inr (first.Memory, refuses, stops)) = inr (inr stops)
 
--- what is found is that error, and so it is found with that place
-pub error_found : (text : List ℕ) (e error : SettingsError) (at : Where)
-    → reading text ≡ Err e → IsFoundIn text (Some (error, at)) → IsFoundIn text (Some (e, at))
-error_found text e error at refused is =
-    let there = found_at text e (Some (error, at)) refused is in
-    subst (λ f. IsFoundIn text (Some (f, at))) (same (error, at) (e, there.0) there.1) is
-  where
-    same : (one other : Fault) → Some one ≡ Some other → one.0 ≡ other.0
-    same one other h = cc
+pub told_of_text : (text : List ℕ) (fault : SettingsFault) (old new : Output) (exit : Exit) → RefusesText text fault
+    → Locates fault old new exit → TellsSettings text old new exit
+told_of_text text (first.At e at) old new exit refuses (inl written) =
+    let place = place_view (λ t. t.now) at in
+    let is_text : e ≡ Text = ap (λ f. f.0) (refuses.1.in_text refuses.0).2 in
+    let refused : reading text ≡ Err e = ap (λ o. option_map_or read_tree o (Err Text)) refuses.0 ∙ ap Err (sym is_text) in
+    inr (inl (e, refused, (_, (place, refuses.1, refl), written)))
+told_of_text text (first.At e at) old new exit refuses (inr stops) = inr (inr stops)
+told_of_text text first.Memory old new exit refuses stops = inr (inr stops)

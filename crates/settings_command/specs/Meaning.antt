@@ -7,7 +7,8 @@ use Rattle.toml.specs.Data.{Members}
 use Rattle.toml_writer.specs.Text.{key_text}
 use Rattle.pool_settings.specs.Names.{name_at}
 use Rattle.pool_settings.specs.Settings.{Settings}
-use Rattle.pool_settings.specs.Reading.{function_has_key, has_key, history_key, job_timeout_key, least_key, lull_key, max_runs_key, most_key, round_key, server_key, version_in, version_key}
+use Rattle.pool_settings.specs.Reading.{function_has_key, has_key, history_key, job_timeout_key, least_key, lull_key, max_runs_key}
+use Rattle.pool_settings.specs.Reading.{most_key, round_key, server_key, version_in, version_key}
 use Rattle.pool_settings.specs.Rows.{may_do}
 use Rattle.text_pieces.specs.Lines.{ended}
 
@@ -95,5 +96,6 @@ remarks settings = flat_map (unlisted_remark settings) (functions settings) ++ f
 -- what settings mean, of which the file gives the keys of this tree
 abbrev pub meaning : Members → Settings → List ℕ
 meaning tree settings =
-    version_line tree ++ server_lines tree settings ++ round_lines tree settings ++ flat_map (function_lines tree settings) (functions settings)
+    version_line tree ++ server_lines tree settings ++ round_lines tree settings
+    ++ flat_map (function_lines tree settings) (functions settings)
     ++ flat_map (machine_lines settings) (machines settings) ++ remarks settings

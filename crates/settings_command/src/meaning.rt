@@ -9,7 +9,7 @@ ghost use Rattle.settings_command.specs.Meaning as spec;
 use crate::place::push_key;
 use crate::remarks::push_remarks;
 use plan_model::{FuncId, MachineId};
-use pool_settings::{Given, Settings};
+use pool_settings::{Settings, SettingsFile};
 use std::alloc::{AllocError, Global};
 use std::fmt::Write;
 
@@ -21,10 +21,15 @@ fn mark(is_given: bool) -> &'static str
 }
 
 /// The line of a key and its number.
-fn push_number(out: &mut String, key: &str, number: u32, given: &Given) -> Result<(), AllocError>
-    ensures { OnOk result (string_bytes out.new ≡ string_bytes out.old ++ spec.key_line (table_view given.now.tree) key.now number) }
+fn push_number(
+    out: &mut String,
+    key: &str,
+    number: u32,
+    file: &SettingsFile,
+) -> Result<(), AllocError>
+    ensures { OnOk result (string_bytes out.new ≡ string_bytes out.old ++ spec.key_line (table_view file.now.tree) key.now number) }
 {
-    let mark = mark(given.has_key(key));
+    let mark = mark(file.has_key(key));
     write!(out, "{key} {number}{mark}\n")
 }
 
@@ -61,62 +66,67 @@ fn push_bound(
     function: &str,
     key: &str,
     number: u32,
-    given: &Given,
+    file: &SettingsFile,
 ) -> Result<(), AllocError>
     ensures { OnOk result (string_bytes out.new ≡ string_bytes out.old
-        ++ spec.bound_line (table_view given.now.tree) function.now key.now number) }
+        ++ spec.bound_line (table_view file.now.tree) function.now key.now number) }
 {
-    let mark = mark(given.function_has_key(function, key));
+    let mark = mark(file.function_has_key(function, key));
     write!(out, "function {function} {key} {number}{mark}\n")
 }
 
 /// The version of the file.
-fn push_version(out: &mut String, given: &Given) -> Result<(), AllocError>
-    ensures { OnOk result (string_bytes out.new ≡ string_bytes out.old ++ spec.version_line (table_view given.now.tree)) }
+fn push_version(out: &mut String, file: &SettingsFile) -> Result<(), AllocError>
+    ensures { OnOk result (string_bytes out.new ≡ string_bytes out.old ++ spec.version_line (table_view file.now.tree)) }
 {
-    let version = given.version().unwrap_or(0);
+    let version = file.version().unwrap_or(0);
     write!(out, "version {version}\n")
 }
 
 /// The job server, and what a worker may take and do.
-fn push_server(out: &mut String, settings: &Settings, given: &Given) -> Result<(), AllocError>
-    ensures { OnOk result (string_bytes out.new ≡ string_bytes out.old ++ spec.server_lines (table_view given.now.tree) settings.now) }
+fn push_server(out: &mut String, settings: &Settings, file: &SettingsFile) -> Result<(), AllocError>
+    ensures { OnOk result (string_bytes out.new ≡ string_bytes out.old ++ spec.server_lines (table_view file.now.tree) settings.now) }
 {
-    push_server_line(out, settings.server(), given.has_key("server"))?;
-    push_number(out, "job_timeout_ms", settings.job_timeout_ms(), given)?;
-    push_number(out, "max_runs", settings.max_runs(), given)
+    push_server_line(out, settings.server(), file.has_key("server"))?;
+    push_number(out, "job_timeout_ms", settings.job_timeout_ms(), file)?;
+    push_number(out, "max_runs", settings.max_runs(), file)
 }
 
 /// The times of a round, and how much is kept.
-fn push_rounds(out: &mut String, settings: &Settings, given: &Given) -> Result<(), AllocError>
-    ensures { OnOk result (string_bytes out.new ≡ string_bytes out.old ++ spec.round_lines (table_view given.now.tree) settings.now) }
+fn push_rounds(out: &mut String, settings: &Settings, file: &SettingsFile) -> Result<(), AllocError>
+    ensures { OnOk result (string_bytes out.new ≡ string_bytes out.old ++ spec.round_lines (table_view file.now.tree) settings.now) }
 {
-    push_number(out, "round_ms", settings.round_ms(), given)?;
-    push_number(out, "lull_ms", settings.lull_ms(), given)?;
-    push_number(out, "history", settings.history(), given)
+    push_number(out, "round_ms", settings.round_ms(), file)?;
+    push_number(out, "lull_ms", settings.lull_ms(), file)?;
+    push_number(out, "history", settings.history(), file)
 }
 
 /// A function, with its least and its greatest number.
 fn push_function(
     out: &mut String,
     settings: &Settings,
-    given: &Given,
+    file: &SettingsFile,
     function: FuncId,
 ) -> Result<(), AllocError>
     requires { function < length settings.now.functions }
-    ensures { OnOk result (string_bytes out.new ≡ string_bytes out.old ++ spec.function_lines (table_view given.now.tree) settings.now function) }
+    ensures { OnOk result (string_bytes out.new ≡ string_bytes out.old
+        ++ spec.function_lines (table_view file.now.tree) settings.now function) }
 {
     let name = settings.function_name(function);
-    push_bound(out, name, "least", settings.least(function), given)?;
-    push_bound(out, name, "most", settings.most(function), given)
+    push_bound(out, name, "least", settings.least(function), file)?;
+    push_bound(out, name, "most", settings.most(function), file)
 }
 
-fn push_functions(out: &mut String, settings: &Settings, given: &Given) -> Result<(), AllocError>
+fn push_functions(
+    out: &mut String,
+    settings: &Settings,
+    file: &SettingsFile,
+) -> Result<(), AllocError>
     ensures { OnOk result (string_bytes out.new ≡ string_bytes out.old
-        ++ flat_map (spec.function_lines (table_view given.now.tree) settings.now) (spec.functions settings.now)) }
+        ++ flat_map (spec.function_lines (table_view file.now.tree) settings.now) (spec.functions settings.now)) }
 {
     for number in 0..settings.functions() {
-        push_function(out, settings, given, FuncId::new(number))?;
+        push_function(out, settings, file, FuncId::new(number))?;
     }
     Ok(())
 }
@@ -156,17 +166,22 @@ fn push_machines(out: &mut String, settings: &Settings) -> Result<(), AllocError
     Ok(())
 }
 
-/// What settings mean: a line for the version and each single key, two for each function, one for each machine and behind it one for each function
-/// that its workers may do, all in the order of [`Settings`]; and then the remarks, one for each function that no machine lists and
-/// one for each machine that lists none. A value that the file does not give is marked `(default)`. The only error is want of memory.
-pub fn meaning_text(alloc: Global, settings: &Settings, given: &Given) -> Result<String, AllocError>
-    ensures { IfOk result (λ text. string_bytes text ≡ spec.meaning (table_view given.now.tree) settings.now) }
+/// What settings mean: a line for the version and each single key, two for each function, one for each machine and behind it one for
+/// each function that its workers may do, all in the order of [`Settings`]; and then the remarks, one for each function that no machine
+/// lists and one for each machine that lists none. A value that the file does not give is marked `(default)`. The only error is out of
+/// memory.
+pub fn meaning_text(
+    alloc: Global,
+    settings: &Settings,
+    file: &SettingsFile,
+) -> Result<String, AllocError>
+    ensures { IfOk result (λ text. string_bytes text ≡ spec.meaning (table_view file.now.tree) settings.now) }
 {
     let mut out = String::new(alloc);
-    push_version(&mut out, given)?;
-    push_server(&mut out, settings, given)?;
-    push_rounds(&mut out, settings, given)?;
-    push_functions(&mut out, settings, given)?;
+    push_version(&mut out, file)?;
+    push_server(&mut out, settings, file)?;
+    push_rounds(&mut out, settings, file)?;
+    push_functions(&mut out, settings, file)?;
     push_machines(&mut out, settings)?;
     push_remarks(&mut out, settings)?;
     Ok(out)

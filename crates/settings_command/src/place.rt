@@ -70,19 +70,19 @@ fn push_listed(out: &mut String, machine: &str, function: &str) -> Result<(), Al
     push_key(out, function)
 }
 
-fn push_place(out: &mut String, place: &Place<String>) -> Result<(), AllocError>
-    ensures { OnOk result (string_bytes out.new ≡ string_bytes out.old ++ spec.place_words (place_view string_bytes place.now)) }
+fn push_place(out: &mut String, place: &Place<&str>) -> Result<(), AllocError>
+    ensures { OnOk result (string_bytes out.new ≡ string_bytes out.old ++ spec.place_words (place_view (λ t. t.now) place.now)) }
 {
     match place {
         Place::Text { line, column } => write!(out, "line {line} column {column}"),
-        Place::Key(key) => push_key(out, key.as_str()),
-        Place::Entry(section, name) => push_entry(out, *section, name.as_str()),
+        Place::Key(key) => push_key(out, key),
+        Place::Entry(section, name) => push_entry(out, *section, name),
         Place::EntryKey(section, name, key) => {
-            push_entry(out, *section, name.as_str())?;
+            push_entry(out, *section, name)?;
             out.push_str(".")?;
-            push_key(out, key.as_str())
+            push_key(out, key)
         }
-        Place::Listed(machine, function) => push_listed(out, machine.as_str(), function.as_str()),
+        Place::Listed(machine, function) => push_listed(out, machine, function),
         Place::Count(counted) => out.push_str(counted_name(*counted)),
     }
 }
@@ -90,8 +90,8 @@ fn push_place(out: &mut String, place: &Place<String>) -> Result<(), AllocError>
 /// The line that tells where a fault is: `at` and a line and a column, the path of a key, a machine's list with the name in it that is
 /// no function, or what there are too many of. Each key and each name is written as TOML writes a key, so that the line stays one
 /// line. The only error is want of memory.
-pub fn place_text(alloc: Global, place: &Place<String>) -> Result<String, AllocError>
-    ensures { IfOk result (λ text. string_bytes text ≡ spec.line_of_place (place_view string_bytes place.now)) }
+pub fn place_text(alloc: Global, place: &Place<&str>) -> Result<String, AllocError>
+    ensures { IfOk result (λ text. string_bytes text ≡ spec.line_of_place (place_view (λ t. t.now) place.now)) }
 {
     let mut out = String::new(alloc);
     out.push_str("at ")?;

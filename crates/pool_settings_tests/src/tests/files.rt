@@ -5,8 +5,26 @@ use pool_settings::{Settings, SettingsError};
 use std::alloc::{AllocError, Global};
 
 /// Every key, with tables and lists out of order and a function that is listed twice.
-const ALL: &str =
-    "version = 1\nserver = \"jobs.example:7003\"\njob_timeout_ms = 5000\nmax_runs = 2\nround_ms = 10\nlull_ms = 20\nhistory = 5\n[functions.z]\n[functions.x]\nleast = 3\n[machines.c]\nworkers = 2\nfunctions = [\"z\", \"x\", \"z\"]\n[machines.b]\nworkers = 0\nfunctions = []\n[machines.a]\nworkers = 3\nfunctions = [\"z\"]\n";
+const ALL: &str = "version = 1
+server = \"jobs.example:7003\"
+job_timeout_ms = 5000
+max_runs = 2
+round_ms = 10
+lull_ms = 20
+history = 5
+[functions.z]
+[functions.x]
+least = 3
+[machines.c]
+workers = 2
+functions = [\"z\", \"x\", \"z\"]
+[machines.b]
+workers = 0
+functions = []
+[machines.a]
+workers = 3
+functions = [\"z\"]
+";
 
 /// A file of two machines. The parts stand for the version, a top key, a function's key, and the first machine.
 #[derive(Clone, Copy)]
@@ -40,7 +58,18 @@ impl File<'_> {
         let (version, top, function) = (self.version, self.top, self.function);
         let (machine, workers, listed) = (self.machine, self.workers, self.listed);
         format!(in alloc;
-            "version = {version}\n{top}\n[functions.x]\n{function}\n[functions.y]\n[machines.{machine}]\nworkers = {workers}\nfunctions = [{listed}]\n[machines.b]\nworkers = 1\nfunctions = [\"x\", \"y\"]\n"
+            "version = {version}
+{top}
+[functions.x]
+{function}
+[functions.y]
+[machines.{machine}]
+workers = {workers}
+functions = [{listed}]
+[machines.b]
+workers = 1
+functions = [\"x\", \"y\"]
+"
         )
     }
 

@@ -1,6 +1,8 @@
 //! Where the first fault of a file is, for each refusal, and which keys a file gives.
 
-use pool_settings::{Counted, Fault, Given, Place, Section, SettingsError};
+use pool_settings::{
+    Counted, Place, Section, Settings, SettingsError, SettingsFault, SettingsFile,
+};
 use std::alloc::Global;
 
 /// A file of version 1 with one function and one machine, and room for more lines of each.
@@ -8,28 +10,19 @@ const TOP: &str = "version = 1\n";
 
 const REST: &str = "[functions.x]\n[machines.a]\nworkers = 1\nfunctions = [\"x\"]\n";
 
-/// The place of a fault, with its texts lent.
-fn lent(place: &Place<String>) -> Place<&str> {
-    match place {
-        Place::Text { line, column } => Place::Text {
-            line: *line,
-            column: *column,
-        },
-        Place::Key(key) => Place::Key(key.as_str()),
-        Place::Entry(section, name) => Place::Entry(*section, name.as_str()),
-        Place::EntryKey(section, name, key) => {
-            Place::EntryKey(*section, name.as_str(), key.as_str())
-        }
-        Place::Listed(machine, function) => Place::Listed(machine.as_str(), function.as_str()),
-        Place::Count(counted) => Place::Count(*counted),
-    }
+/// Whether a fault is this one.
+fn is_this(fault: &SettingsFault<'_>, error: SettingsError, place: Place<&str>) -> bool {
+    *fault == SettingsFault::At(error, place)
 }
 
 /// Whether the first fault of a text is this one.
 fn is_at(alloc: Global, text: &[u8], error: SettingsError, place: Place<&str>) -> bool {
-    match Fault::find(alloc, text) {
-        Ok(Some(fault)) => fault.error == error && lent(&fault.place) == place,
-        _ => false,
+    match SettingsFile::read(alloc, text) {
+        Ok(file) => match file.settings(alloc) {
+            Ok(_) => false,
+            Err(fault) => is_this(&fault, error, place),
+        },
+        Err(fault) => is_this(&fault, error, place),
     }
 }
 
@@ -51,11 +44,11 @@ fn is_at_in(
 fn no_fault_in_a_good_file(rt: HostRuntime) {
     let alloc = rt.alloc();
     let text = format!(in alloc; "{TOP}{REST}");
-    let found = match &text {
-        Ok(text) => Fault::find(alloc, text.as_bytes()),
-        Err(_) => Err(std::alloc::AllocError),
+    let is_good = match &text {
+        Ok(text) => Settings::read(alloc, text.as_bytes()).is_ok(),
+        Err(_) => false,
     };
-    assert!(rt; matches!(found, Ok(None)));
+    assert!(rt; is_good);
 }
 
 #[test]
@@ -244,11 +237,9 @@ fn crowd(alloc: Global, functions: u32, machines: u32) -> Result<String, std::al
 /// What there are too many of in such a file.
 fn crowded(alloc: Global, functions: u32, machines: u32) -> Option<Counted> {
     let text = crowd(alloc, functions, machines).ok()?;
-    match Fault::find(alloc, text.as_bytes()) {
-        Ok(Some(fault)) => match fault.place {
-            Place::Count(counted) => Some(counted),
-            _ => None,
-        },
+    let file = SettingsFile::read(alloc, text.as_bytes()).ok()?;
+    match file.settings(alloc) {
+        Err(SettingsFault::At(_, Place::Count(counted))) => Some(counted),
         _ => None,
     }
 }
@@ -266,7 +257,7 @@ fn keys_that_are_given(rt: HostRuntime) {
     let alloc = rt.alloc();
     let file =
         b"version = 2\nlull_ms = 5\n[functions.x]\nmost = 1\n[machines.a]\nworkers = 1\nfunctions = [\"x\"]\n";
-    let read = Given::read(alloc, file);
+    let read = SettingsFile::read(alloc, file);
     assert!(rt; read.is_ok());
     let Ok(given) = read else {
         return;
@@ -274,5 +265,5 @@ fn keys_that_are_given(rt: HostRuntime) {
     assert!(rt; given.has_key("lull_ms") && !given.has_key("round_ms"));
     assert!(rt; given.function_has_key("x", "most") && !given.function_has_key("x", "least"));
     assert!(rt; !given.function_has_key("y", "most"));
-    assert!(rt; Given::read(alloc, b"version = ").is_err());
+    assert!(rt; SettingsFile::read(alloc, b"version = ").is_err());
 }

@@ -14,8 +14,8 @@ pub read_rows-requires : goal.read_rows-requires
 read_rows-requires c =
     let tree = table_view c.args.tree.now in
     let room = room_of tree (passes tree c.requires.passes) in
-    let many : length c.in_ok-names.names ≡ length (entries_at spec.functions_key tree) =
-    ap length c.in_ok-names.ensures.keys ∙ ap (λ (es : List Entry). length (spec.names_of es)) c.requires.functions ∙ length-map (entries_at spec.functions_key tree) (λ e. e.0) in
+    let many : length c.in_ok-functions.functions ≡ length (entries_at spec.functions_key tree) =
+    ap length c.in_ok-functions.ensures.keys ∙ ap (λ (es : List Entry). length (spec.names_of es)) c.requires.tables.0 ∙ length-map (entries_at spec.functions_key tree) (λ e. e.0) in
     omega (arith, many, room.functions)
 
 pub new-requires-clause-few : goal.new-requires-clause-few
@@ -23,7 +23,7 @@ new-requires-clause-few c =
     let tree = table_view c.args.tree.now in
     let room = room_of tree (passes tree c.requires.passes) in
     let same : c.in_ok-workers.workers.items ≡ spec.column_of spec.workers_key 0 (entries_at spec.machines_key tree) =
-    c.in_ok-workers.ensures ∙ ap (spec.column_of spec.workers_key 0) c.requires.machines in
+    c.in_ok-workers.ensures ∙ ap (spec.column_of spec.workers_key 0) c.requires.tables.1 in
     subst (λ (ws : List ℕ). sum ws ≤ 4096) (sym same) room.workers
 
 pub new-requires-clause-machines : goal.new-requires-clause-machines
@@ -31,7 +31,7 @@ new-requires-clause-machines c =
     let tree = table_view c.args.tree.now in
     let room = room_of tree (passes tree c.requires.passes) in
     let many : length c.in_ok-workers.workers.items ≡ length (entries_at spec.machines_key tree) =
-    ap length (c.in_ok-workers.ensures ∙ ap (spec.column_of spec.workers_key 0) c.requires.machines) ∙ length-map (entries_at spec.machines_key tree) (λ e. spec.count_at spec.workers_key 0 e.1) in
+    ap length (c.in_ok-workers.ensures ∙ ap (spec.column_of spec.workers_key 0) c.requires.tables.1) ∙ length-map (entries_at spec.machines_key tree) (λ e. spec.count_at spec.workers_key 0 e.1) in
     omega (arith, many, room.machines)
 
 -- a function that has none may have all workers
@@ -43,10 +43,10 @@ MostRead c =
 most_read : (c : goal.After-unwrap_or-6) → MostRead c
 most_read c =
     let tree = table_view c.args.tree.now in
-    let workers : c.in_ok-workers.workers.items ≡ spec.workers_in tree = c.in_ok-workers.ensures ∙ ap (spec.column_of spec.workers_key 0) c.requires.machines in
+    let workers : c.in_ok-workers.workers.items ≡ spec.workers_in tree = c.in_ok-workers.ensures ∙ ap (spec.column_of spec.workers_key 0) c.requires.tables.1 in
     let all : c.len.result ≡ sum (spec.workers_in tree) = c.len.ensures.all ∙ ap sum c.in_ok-slots.ensures ∙ ap sum workers in
-    c.in_ok-most.ensures ∙ ap (λ (n : ℕ). spec.column_of spec.most_key n (table_entries c.args.functions.now)) all
-    ∙ ap (spec.column_of spec.most_key (sum (spec.workers_in tree))) c.requires.functions
+    c.in_ok-most.ensures ∙ ap (λ (n : ℕ). spec.column_of spec.most_key n (table_entries c.args.tables.functions.now)) all
+    ∙ ap (spec.column_of spec.most_key (sum (spec.workers_in tree))) c.requires.tables.0
 
 -- what is made
 abbrev made : goal.After-unwrap_or-6 → Settings
@@ -57,10 +57,10 @@ made c = record {
   round_ms = c.unwrap_or-4.result;
   lull_ms = c.unwrap_or-5.result;
   history = c.unwrap_or-6.result;
-  functions = c.in_ok-names.names;
+  functions = c.in_ok-functions.functions;
   least = c.in_ok-least.least.items;
   most = c.in_ok-most.most.items;
-  machines = c.in_ok-machine_names.machine_names;
+  machines = c.in_ok-machines.machines;
   workers = c.in_ok-slots.slots;
   may = map (λ row. row.items) c.in_ok-may.may.items;
 }
@@ -71,8 +71,8 @@ is_meant c = search (rules, most_read c)
 pub invariant_of-result : goal.invariant_of-result
 invariant_of-result c =
     let tree = table_view c.args.tree.now in
-    let functions = subst IsInByteOrder (c.in_ok-names.ensures.keys ∙ ap spec.names_of c.requires.functions) c.in_ok-names.ensures.ordered in
-    let machines = subst IsInByteOrder (c.in_ok-machine_names.ensures.keys ∙ ap spec.names_of c.requires.machines) c.in_ok-machine_names.ensures.ordered in
+    let functions = subst IsInByteOrder (c.in_ok-functions.ensures.keys ∙ ap spec.names_of c.requires.tables.0) c.in_ok-functions.ensures.ordered in
+    let machines = subst IsInByteOrder (c.in_ok-machines.ensures.keys ∙ ap spec.names_of c.requires.tables.1) c.in_ok-machines.ensures.ordered in
     keeps (made c) tree (is_meant c) (AreSettings-settings_of tree c.requires.passes functions machines)
 
 pub returns : goal.returns

@@ -8,5 +8,5 @@ pub loop-number-preserved : goal.loop-number-preserved
 loop-number-preserved c =
     let settings = c.args.settings.now in
     let k = c.loop-number.number in
-    one_written (spec.function_lines (table_view c.args.given.now.tree) settings) (length settings.functions) k (string_bytes c.loop-number.out) _ _ (omega arith) (rw c.new.ensures at c.in_ok-push_function.ensures)
+    one_written (spec.function_lines (table_view c.args.file.now.tree) settings) (length settings.functions) k (string_bytes c.loop-number.out) _ _ (omega arith) (rw c.new.ensures at c.in_ok-push_function.ensures)
     c.loop-number.invariant

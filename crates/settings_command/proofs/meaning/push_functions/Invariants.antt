@@ -7,5 +7,5 @@ use Rattle.settings_command.proofs.meaning.push_functions.Given as goal
 -- what is written, and what is left to write
 abbrev pub invariant-loop-number : goal.invariant-loop-number
 invariant-loop-number l =
-    string_bytes l.out ++ flat_map (spec.function_lines (table_view l.given.tree) l.settings) (range_with_len l.number (length l.settings.functions - l.number))
-    ≡ string_bytes l.fn.out ++ flat_map (spec.function_lines (table_view l.given.tree) l.settings) (spec.functions l.settings)
+    string_bytes l.out ++ flat_map (spec.function_lines (table_view l.file.tree) l.settings) (range_with_len l.number (length l.settings.functions - l.number))
+    ≡ string_bytes l.fn.out ++ flat_map (spec.function_lines (table_view l.file.tree) l.settings) (spec.functions l.settings)

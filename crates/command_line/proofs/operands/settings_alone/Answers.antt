@@ -8,7 +8,7 @@ use Rattle.clap.proofs.CallerLemmas.{required_in_chain, some_of_text}
 use Rattle.command_line.specs.Words as spec
 use Rattle.command_line.proofs.Rows.{first_of_rows}
 use Rattle.command_line.proofs.Chain.{app_of_one, one_distinct, one_fits, one_in_turn}
-use Rattle.command_line.proofs.operands.settings_words.Goals as goal
+use Rattle.command_line.proofs.operands.settings_alone.Goals as goal
 
 pub returns-in_err-matches-clause-kinds : goal.returns-in_err-matches-clause-kinds
 returns-in_err-matches-clause-kinds g c =
