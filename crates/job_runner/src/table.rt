@@ -34,7 +34,7 @@ pub struct TwiceNamed;
 pub struct JobTable<J = Box<dyn Job + Send + Sync>> {
     /// Each name with its job, in byte order of the names.
     jobs: Vec<(Vec<u8>, J)>,
-    ghost rising: { RiseByName (λ entry. entry.0.items) jobs.items } by { IsStrictlySortedBy-prop (slice_cmp nat_cmp) (map (λ entry. entry.0.items) jobs.items) },
+    ghost rising: { RiseByName (λ entry. entry.0.items) jobs.items } by { IsStrictlySortedBy-prop _ _ },
 }
 
 /// The order of the names of two entries, byte by byte.
