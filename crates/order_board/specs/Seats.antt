@@ -25,7 +25,8 @@ pub record ReaderParts : Type 0 where
   pub seen : List OrderParts
 
 abbrev pub board_code : Coded BoardParts
-board_code = code_by (TableId × ℕ) (coded× table_id_coded coded_ℕ) (λ b. (b.id, b.slots)) (λ p. record { id = p.0; slots = p.1 }) (λ _. refl)
+board_code =
+    code_by (TableId × ℕ) (coded× table_id_coded coded_ℕ) (λ b. (b.id, b.slots)) (λ p. record { id = p.0; slots = p.1 }) (λ _. refl)
 
 abbrev pub source_code : Coded SourceParts
 source_code = code_by TableId table_id_coded (λ s. s.board) (λ p. record { board = p }) (λ _. refl)

@@ -42,7 +42,9 @@ impl Model for Board {
 
     ghost view = { λ b. record { id = b.table.shared.table_id; slots = b.slots } };
 
-    ghost invariant = { λ b. (b.table.shared.key ≡ b.table.shared.table_id.words) × (b.slots ≤ b.table.shared.table_id.words) × (0 < b.table.shared.table_id.words) × (b.slots ≤ 4096) };
+    ghost invariant = { λ b.
+        (b.table.shared.key ≡ b.table.shared.table_id.words) × (b.slots ≤ b.table.shared.table_id.words)
+        × (0 < b.table.shared.table_id.words) × (b.slots ≤ 4096) };
 }
 
 /// Why there is no board. Where both are true the first is answered.
@@ -95,8 +97,8 @@ impl Board {
         self.slots
     }
 
-    /// Posts an order to a slot: from now on it is the slot's last, and no other slot's posts change. It is one atomic store.
-    pub fn post(&self, publisher: PublisherSeat, slot: SlotId, order: Order) -> PublisherSeat
+    /// Posts an order to a slot, as [`Board::post_by`] does.
+    pub fn post(&self, mut publisher: PublisherSeat, slot: SlotId, order: Order) -> PublisherSeat
         requires own { publisher.board ≡ self.now.id }
         requires slot { slot < self.now.slots }
         ensures own { result.board ≡ publisher.board }
@@ -104,83 +106,135 @@ impl Board {
         ensures here { posts_of slot result.posts ≡ posts_of slot publisher.posts ++ order ∷ [] }
         ensures elsewhere { (other : ℕ) → other ≢ slot → posts_of other result.posts ≡ posts_of other publisher.posts }
     {
-        let PublisherSeat { mut seat } = publisher;
-        self.table
-            .shared
-            .store::<Posting>(&mut seat, slot.number() as usize, order.to_word());
-        PublisherSeat { seat }
+        self.post_by(&mut publisher, slot, order);
+        publisher
     }
 
-    /// The last order that was posted to a slot, or [`Order::NONE`] where none was. It is one atomic load.
-    pub fn posted(&self, publisher: PublisherSeat, slot: SlotId) -> (Order, PublisherSeat)
+    /// Posts an order to a slot: from now on it is the slot's last, and no other slot's posts change. It is one atomic store.
+    pub fn post_by(&self, publisher: &mut PublisherSeat, slot: SlotId, order: Order)
+        requires own { publisher.old.board ≡ self.now.id }
+        requires slot { slot < self.now.slots }
+        ensures own { publisher.new.board ≡ publisher.old.board }
+        ensures posts { publisher.new.posts ≡ publisher.old.posts ++ post slot order ∷ [] }
+        ensures here { posts_of slot publisher.new.posts ≡ posts_of slot publisher.old.posts ++ order ∷ [] }
+        ensures elsewhere { (other : ℕ) → other ≢ slot → posts_of other publisher.new.posts ≡ posts_of other publisher.old.posts }
+    {
+        self.table.shared.store::<Posting>(
+            &mut publisher.seat,
+            slot.number() as usize,
+            order.to_word(),
+        );
+    }
+
+    /// The last order that was posted to a slot, as by [`Board::posted_by`].
+    pub fn posted(&self, mut publisher: PublisherSeat, slot: SlotId) -> (Order, PublisherSeat)
         requires own { publisher.board ≡ self.now.id }
         requires slot { slot < self.now.slots }
         ensures order { result.0 ≡ latest (posts_of slot publisher.posts) }
         ensures publisher { result.1 ≡ publisher }
     {
-        let PublisherSeat { mut seat } = publisher;
+        let order = self.posted_by(&mut publisher, slot);
+        (order, publisher)
+    }
+
+    /// The last order that was posted to a slot, or [`Order::NONE`] if none was. It is one atomic load.
+    pub fn posted_by(&self, publisher: &mut PublisherSeat, slot: SlotId) -> Order
+        requires own { publisher.old.board ≡ self.now.id }
+        requires slot { slot < self.now.slots }
+        ensures order { result ≡ latest (posts_of slot publisher.old.posts) }
+        ensures publisher { publisher.new ≡ publisher.old }
+    {
         let word = self
             .table
             .shared
-            .load::<Looking>(&mut seat, slot.number() as usize);
-        (order_of(word), PublisherSeat { seat })
+            .load::<Looking>(&mut publisher.seat, slot.number() as usize);
+        order_of(word)
+    }
+
+    /// A seat that reads a slot, as by [`Board::seat_reader`].
+    pub fn reader(&self, mut source: SeatSource, slot: SlotId) -> (ReaderSeat, SeatSource)
+        requires own { source.board ≡ self.now.id }
+        requires slot { slot < self.now.slots }
+        ensures reader { (result.0.board ≡ source.board) × (result.0.slot ≡ slot) }
+        ensures seen { result.0.seen ≡ [] }
+        ensures source { result.1 ≡ source }
+    {
+        let reader = self.seat_reader(&mut source, slot);
+        (reader, source)
     }
 
     /// A seat that reads a slot. It has seen nothing yet. Any number of seats may read one slot.
-    pub fn reader(&self, source: SeatSource, slot: SlotId) -> (ReaderSeat, SeatSource)
-        requires own { source.board ≡ self.now.id }
+    pub fn seat_reader(&self, source: &mut SeatSource, slot: SlotId) -> ReaderSeat
+        requires own { source.old.board ≡ self.now.id }
         requires slot { slot < self.now.slots }
-        ensures reader { (result.0.board ≡ source.board) × (result.0.slot ≡ slot) }
-        ensures seen { result.0.seen ≡ [] }
-        ensures source { result.1 ≡ source }
+        ensures reader { (result.board ≡ source.old.board) × (result.slot ≡ slot) }
+        ensures seen { result.seen ≡ [] }
+        ensures source { source.new ≡ source.old }
     {
-        self.reader_at::<Brand>(source, slot)
+        self.seat_reader_at::<Brand>(source, slot)
     }
 
-    fn reader_at<J: Chosen>(&self, source: SeatSource, slot: SlotId) -> (ReaderSeat, SeatSource)
-        requires own { source.board ≡ self.now.id }
+    fn seat_reader_at<J: Chosen>(&self, source: &mut SeatSource, slot: SlotId) -> ReaderSeat
+        requires own { source.old.board ≡ self.now.id }
         requires slot { slot < self.now.slots }
         requires chosen { slot ≡ J.slot }
-        ensures reader { (result.0.board ≡ source.board) × (result.0.slot ≡ slot) }
-        ensures seen { result.0.seen ≡ [] }
-        ensures source { result.1 ≡ source }
+        ensures reader { (result.board ≡ source.old.board) × (result.slot ≡ slot) }
+        ensures seen { result.seen ≡ [] }
+        ensures source { source.new ≡ source.old }
     {
-        let SeatSource { mut seat } = source;
-        let new = self.table.shared.split_seat::<Seating<J>>(&mut seat);
-        (ReaderSeat { seat: new, slot }, SeatSource { seat })
+        let new = self.table.shared.split_seat::<Seating<J>>(&mut source.seat);
+        ReaderSeat { seat: new, slot }
     }
 
-    /// The last order that the seat has seen of its slot's posts, or [`Order::NONE`] where it has seen none. What it has seen
-    /// begins with what it had seen before, so a reader never goes back to an older order. It is one atomic load.
-    pub fn read(&self, reader: ReaderSeat) -> (Order, ReaderSeat)
+    /// The last order that the seat has seen of its slot's posts, as by [`Board::read_by`].
+    pub fn read(&self, mut reader: ReaderSeat) -> (Order, ReaderSeat)
         requires own { reader.board ≡ self.now.id }
         ensures reader { (result.1.board ≡ reader.board) × (result.1.slot ≡ reader.slot) }
         ensures later { BeginsWith result.1.seen reader.seen }
         ensures order { result.0 ≡ latest result.1.seen }
     {
-        let ReaderSeat { mut seat, slot } = reader;
+        let order = self.read_by(&mut reader);
+        (order, reader)
+    }
+
+    /// The last order that the seat has seen of its slot's posts, or [`Order::NONE`] if it has seen none. What it has seen
+    /// begins with what it had seen before, so a reader never goes back to an older order. It is one atomic load.
+    pub fn read_by(&self, reader: &mut ReaderSeat) -> Order
+        requires own { reader.old.board ≡ self.now.id }
+        ensures reader { (reader.new.board ≡ reader.old.board) × (reader.new.slot ≡ reader.old.slot) }
+        ensures later { BeginsWith reader.new.seen reader.old.seen }
+        ensures order { result ≡ latest reader.new.seen }
+    {
         let word = self
             .table
             .shared
-            .load::<Reading>(&mut seat, slot.number() as usize);
-        (order_of(word), ReaderSeat { seat, slot })
+            .load::<Reading>(&mut reader.seat, reader.slot.number() as usize);
+        order_of(word)
     }
 
-    /// Gives a reader's seat back to the source of its board.
-    pub fn retire(&self, reader: ReaderSeat, source: SeatSource) -> SeatSource
+    /// Gives a reader's seat back to the source of its board, as [`Board::give_back`] does.
+    pub fn retire(&self, reader: ReaderSeat, mut source: SeatSource) -> SeatSource
         requires reader { reader.board ≡ self.now.id }
         requires source { source.board ≡ self.now.id }
         ensures { result ≡ source }
+    {
+        self.give_back(reader, &mut source);
+        source
+    }
+
+    /// Gives a reader's seat back to the source of its board.
+    pub fn give_back(&self, reader: ReaderSeat, source: &mut SeatSource)
+        requires reader { reader.board ≡ self.now.id }
+        requires source { source.old.board ≡ self.now.id }
+        ensures { source.new ≡ source.old }
     {
         let ReaderSeat {
             seat: given_back,
             slot: _,
         } = reader;
-        let SeatSource { mut seat } = source;
         self.table
             .shared
-            .join_seat::<Retiring>(&mut seat, given_back);
-        SeatSource { seat }
+            .join_seat::<Retiring>(&mut source.seat, given_back);
     }
 }
 

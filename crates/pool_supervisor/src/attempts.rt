@@ -1,23 +1,23 @@
 //! The steps of an attempt, one after the other.
-ghost use Rattle.std.specs.Prelude.{◌≡◌, ◌+◌, ◌<◌, ◌≤◌, IfSome, OnSome, vec_len, vec_capacity};
+ghost use Rattle.std.specs.Prelude.{◌≡◌, ◌+◌, ◌<◌, ◌≤◌, IfSome, OnOk, vec_len, vec_capacity};
 ghost use Rattle.pool_settings.specs.Slots.{slots as slot_count};
 
 use crate::attempt::Attempt;
 use crate::crew::Crew;
 use crate::dial::Dial;
-use crate::place::{BoardId, Place};
+use crate::place::{Place, RunId};
 use crate::planner::Planner;
 use crate::port::Watch;
 use crate::round::{plan_round, take_load};
-use crate::session::Site;
+use crate::session::{Enrolled, Site};
 use gear_status::{Sink, Source};
 use job_runner::Jobs;
 use order_board::{PublisherSeat, SeatSource};
 use plan_model::SlotId;
-use pool_core::Pass;
+use pool_core::{Chapter, Pass};
+use std::alloc::AllocError;
 use std::marker::PhantomData;
 use std::sync::Wait;
-use std::sync::ledger::Ledger;
 use std::thread::{Scope, Threads};
 use worker_state::{Order, Slot, What};
 
@@ -29,13 +29,13 @@ pub trait Progress {
 
 /// What the supervisor alone has of what a run is lent.
 #[derive(Clone, Copy)]
-pub struct Tools<'e, Y, P, W> {
+pub struct Tools<'e, Y, P> {
     /// What makes links to the job server.
     pub dial: &'e Y,
     /// What finds plans.
     pub planner: &'e P,
-    /// What is told of each attempt.
-    pub progress: &'e W,
+    /// How many attempts it makes.
+    pub rounds: u32,
 }
 
 /// The supervisor's seats at the board.
@@ -47,28 +47,26 @@ pub struct Seats {
     pub source: SeatSource,
 }
 
-/// Ends the chapter of the history where more than half of what it may have is used, so that a long run does not end for want of room.
-/// Whether it did. A refusal changes nothing.
-fn end_chapter_if_due<G: Ledger, D: Ledger, J, C, R: Wait>(site: &Site<'_, G, D, J, C, R>) -> bool {
+/// The chapter of the history, ended if more than half of what it may have is used, so that a long run does not run out of room.
+/// None if it goes on. A refusal changes nothing.
+fn end_chapter_if_due<N: RunId, J, C, R: Wait>(site: &Site<'_, N, J, C, R>) -> Option<Chapter> {
     let mut held = site.shared.hold(site.rt);
     let events = held.pool().totals().events;
-    events > site.settings.history() / 2 && held.end_chapter().is_ok()
+    if events > site.settings.history() / 2 {
+        held.end_chapter().ok()
+    } else {
+        None
+    }
 }
 
 /// Whether no worker is in the slot.
-fn is_empty<G: Ledger, D: Ledger, J, C, R: Wait>(
-    site: &Site<'_, G, D, J, C, R>,
-    slot: SlotId,
-) -> bool {
+fn is_empty<N: RunId, J, C, R: Wait>(site: &Site<'_, N, J, C, R>, slot: SlotId) -> bool {
     let held = site.shared.hold(site.rt);
     slot.number() < held.pool().slots() && !held.pool().slot(slot).is_live()
 }
 
 /// A new worker in the slot, where the pool takes one.
-fn join_worker<G: Ledger, D: Ledger, J, C, R: Wait>(
-    site: &Site<'_, G, D, J, C, R>,
-    slot: SlotId,
-) -> Option<Pass>
+fn join_worker<N: RunId, J, C, R: Wait>(site: &Site<'_, N, J, C, R>, slot: SlotId) -> Option<Pass>
     ensures { IfSome result (λ pass. pass.slot ≡ slot) }
 {
     let mut held = site.shared.hold(site.rt);
@@ -83,9 +81,7 @@ fn join_worker<G: Ledger, D: Ledger, J, C, R: Wait>(
 fn start_all<
     's,
     'e: 's,
-    G: Ledger + Send + Sync,
-    D: Ledger + Send + Sync,
-    B: BoardId + Send + Sync + 's,
+    N: RunId + Send + Sync + 's,
     L: Source + Sink + Send + Drop + 's,
     Y: Dial<L>,
     J: Jobs + Sync,
@@ -93,14 +89,14 @@ fn start_all<
     R: Threads + Wait + Sync,
 >(
     scope: &Scope<'s, &'e ()>,
-    site: Site<'e, G, D, J, C, R>,
+    site: Site<'e, N, J, C, R>,
     dial: &Y,
-    crew: &mut Crew<G, D, B>,
-    mut source: SeatSource,
-) -> SeatSource
-    requires board { (site.board.now.id ≡ B.board) × (source.board ≡ B.board) }
+    crew: &mut Crew<N>,
+    source: &mut SeatSource,
+)
+    requires board { (site.board.now.id ≡ N.board) × (source.old.board ≡ N.board) }
     requires slots { slot_count site.settings.now ≤ site.board.now.slots }
-    ensures source { result.board ≡ B.board }
+    ensures source { source.new.board ≡ N.board }
 {
     for number in 0..site.settings.slots() {
         let slot = SlotId::new(number);
@@ -116,21 +112,19 @@ fn start_all<
         let Some(pass) = join_worker(&site, slot) else {
             continue;
         };
-        let (seat, rest) = site.board.reader(source, slot);
-        source = rest;
         let place = Place {
-            seat,
+            seat: site.board.seat_reader(source, slot),
             of: PhantomData,
         };
-        if crew.start(scope, site, berth, link, pass, place).is_err() {
+        let worker = Enrolled { pass, place };
+        if crew.start(scope, site, berth, link, worker).is_err() {
             break;
         }
     }
-    source
 }
 
 /// Loses each worker whose job is late. It is left out where no time is known.
-fn expire_late<G: Ledger, D: Ledger, J, C: Watch, R: Wait>(site: &Site<'_, G, D, J, C, R>) {
+fn expire_late<N: RunId, J, C: Watch, R: Wait>(site: &Site<'_, N, J, C, R>) {
     let Some(now_ms) = site.watch.now_ms() else {
         return;
     };
@@ -152,11 +146,8 @@ fn expire_late<G: Ledger, D: Ledger, J, C: Watch, R: Wait>(site: &Site<'_, G, D,
 }
 
 /// Posts Stop to the worker of every slot.
-pub fn stop_all<G: Ledger, D: Ledger, J, C, R: Wait>(
-    site: &Site<'_, G, D, J, C, R>,
-    mut publisher: PublisherSeat,
-)
-    requires own { publisher.board ≡ site.now.board.now.id }
+pub fn stop_all<N: RunId, J, C, R: Wait>(site: &Site<'_, N, J, C, R>, publisher: &mut PublisherSeat)
+    requires own { publisher.old.board ≡ site.now.board.now.id }
     requires slots { slot_count site.now.settings.now ≤ site.now.board.now.slots }
 {
     for number in 0..site.settings.slots() {
@@ -173,63 +164,58 @@ pub fn stop_all<G: Ledger, D: Ledger, J, C, R: Wait>(
                 round,
                 what: What::Stop,
             };
-            publisher = site.board.post(publisher, slot, stop);
+            site.board.post_by(publisher, slot, stop);
         }
     }
 }
 
-/// The attempts. None where a thread could not be started; and else how many chapters ended.
+/// The attempts, and how many chapters ended. The error is that a thread could not be started.
 pub fn attempt_all<
     's,
     'e: 's,
-    G: Ledger + Send + Sync,
-    D: Ledger + Send + Sync,
-    B: BoardId + Send + Sync + 's,
+    N: RunId + Send + Sync + 's,
     L: Source + Sink + Send + Drop + 's,
     Y: Dial<L>,
     P: Planner,
-    W: Progress,
     J: Jobs + Sync,
-    C: Watch + Sync,
+    C: Watch + Progress + Sync,
     R: Threads + Wait + Sync,
 >(
     scope: &Scope<'s, &'e ()>,
-    site: Site<'e, G, D, J, C, R>,
-    tools: Tools<'e, Y, P, W>,
-    rounds: u32,
-    crew: &mut Crew<G, D, B>,
-    seats: Seats,
+    site: Site<'e, N, J, C, R>,
+    tools: Tools<'e, Y, P>,
+    crew: &mut Crew<N>,
+    seats: &mut Seats,
     lines: &mut Vec<Attempt>,
-) -> (Option<u32>, Seats)
-    requires board { (site.board.now.id ≡ B.board) × (seats.source.board ≡ B.board) × (seats.publisher.board ≡ B.board) }
+) -> Result<u32, AllocError>
+    requires board { (site.board.now.id ≡ N.board) × (seats.old.source.board ≡ N.board) × (seats.old.publisher.board ≡ N.board) }
     requires slots { slot_count site.settings.now ≤ site.board.now.slots }
-    requires lines { (vec_len lines.old ≡ 0) × (rounds ≤ vec_capacity lines.old) }
-    ensures lines { OnSome result.0 (vec_len lines.new ≡ rounds) }
-    ensures board { (result.1.source.board ≡ B.board) × (result.1.publisher.board ≡ B.board) }
+    requires lines { (vec_len lines.old ≡ 0) × (tools.rounds ≤ vec_capacity lines.old) }
+    ensures lines { OnOk result (vec_len lines.new ≡ tools.entry.rounds) }
+    ensures board { (seats.new.source.board ≡ N.board) × (seats.new.publisher.board ≡ N.board) }
 {
-    let Seats {
-        mut publisher,
-        mut source,
-    } = seats;
+    let Seats { publisher, source } = seats;
     let mut chapters = 0;
-    for number in 0..rounds {
-        source = crew.join_ended(site.rt, site.shared, site.board, source);
-        if end_chapter_if_due(&site) {
+    for number in 0..tools.rounds {
+        crew.join_ended(site.rt, site.shared, site.board, source);
+        // The lock is free when the events of the chapter are dropped.
+        let ended = end_chapter_if_due(&site);
+        if ended.is_some() {
             chapters += 1;
         }
-        source = start_all(scope, site, tools.dial, crew, source);
+        drop(ended);
+        start_all(scope, site, tools.dial, crew, source);
         if crew.is_short() {
-            return (None, Seats { publisher, source });
+            return Err(AllocError);
         }
         expire_late(&site);
-        let (attempt, seat) = match take_load(&site, tools.dial) {
+        let attempt = match take_load(&site, tools.dial) {
             Ok(()) => plan_round(&site, tools.planner, publisher),
-            Err(attempt) => (attempt, publisher),
+            Err(attempt) => attempt,
         };
-        publisher = seat;
-        tools.progress.attempted(number + 1, &attempt);
+        site.watch.attempted(number + 1, &attempt);
         lines.push_reserved(attempt);
         site.watch.pause(site.settings.round_ms());
     }
-    (Some(chapters), Seats { publisher, source })
+    Ok(chapters)
 }

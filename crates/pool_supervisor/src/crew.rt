@@ -2,18 +2,19 @@
 ghost use Rattle.std.specs.Prelude.{◌≡◌, ◌+◌, ◌-◌, ◌<◌, ◌≤◌, ◌^◌, IfOk, IfSome, OnOk, vec_len, vec_capacity};
 ghost use Rattle.pool_settings.specs.Slots.{slots as slot_count};
 
-use crate::place::{BoardId, Place};
+use crate::ends::EndCounts;
+use crate::place::{Grabs, Place, Reports, RunId};
 use crate::port::Watch;
-use crate::session::{Returned, Site, run_worker};
+use crate::session::{Enrolled, Papers, Returned, Site, run_worker};
 use crate::shared::Shared;
 use gear_status::{Sink, Source};
 use job_runner::Jobs;
 use order_board::{Board, SeatSource};
-use pool_core::{Pass, Totals};
+use pool_core::Totals;
 use std::alloc::{AllocError, Global};
 use std::marker::Model;
 use std::sync::atomic::{AtomicBool, Ordering};
-use std::sync::ledger::{Ledger, Share};
+use std::sync::ledger::Share;
 use std::sync::{Arc, Wait};
 use std::thread;
 use std::thread::{JoinHandle, Scope, Threads};
@@ -25,13 +26,10 @@ pub const PARTS: u64 = 1 << 40;
 /// is on the heap.
 const STACK: usize = 256 * 1024;
 
-/// How many reads a session may make.
-const TURNS: u32 = u32::MAX;
-
 /// A session that was started.
 #[derive(Drop)]
-struct Started<G: Ledger, D: Ledger, B: BoardId> {
-    handle: JoinHandle<Returned<G, D, B>>,
+struct Started<N: RunId> {
+    handle: JoinHandle<Returned<N>>,
     /// Set by the session as the last that it does.
     has_ended: Arc<AtomicBool>,
 }
@@ -45,19 +43,20 @@ pub struct Berth {
 
 /// The sessions that run, and what those that ended handed back.
 ///
-/// The shares that came back and those that are out are the whole ledgers, but for the two shares of each session that could not be
-/// started. What came back stands at the sums of what the sessions told.
+/// Our shares and the running sessions' shares make up both ledgers, less two for each session that failed to start. Our shares
+/// stand at the sums of what the sessions told that have ended.
 #[derive(Drop)]
-pub struct Crew<G: Ledger, D: Ledger, B: BoardId> {
-    running: Vec<Started<G, D, B>>,
-    grabs: Share<G>,
-    reports: Share<D>,
+pub struct Crew<N: RunId> {
+    running: Vec<Started<N>>,
+    grabs: Share<Grabs<N>>,
+    reports: Share<Reports<N>>,
     grabbed: u64,
     reported: u64,
+    ends: EndCounts,
     not_started: u64,
 }
 
-impl<G: Ledger, D: Ledger, B: BoardId> Model for Crew<G, D, B> {
+impl<N: RunId> Model for Crew<N> {
     ghost use Rattle.std.specs.Prelude.{◌≡◌, ◌+◌, ◌^◌, vec_len, vec_capacity};
     ghost use Rattle.pool_supervisor.specs.Sessions.{Sessions};
 
@@ -66,8 +65,8 @@ impl<G: Ledger, D: Ledger, B: BoardId> Model for Crew<G, D, B> {
     ghost view = { λ c. record { running = vec_len c.running; room = vec_capacity c.running; not_started = c.not_started } };
 
     ghost invariant = { λ c.
-        (c.grabs.parts + vec_len c.running + c.not_started ≡ G.parts) × (G.parts ≡ 2 ^ 40) × (c.grabs.amount ≡ c.grabbed)
-        × (c.reports.parts + vec_len c.running + c.not_started ≡ D.parts) × (D.parts ≡ 2 ^ 40) × (c.reports.amount ≡ c.reported) };
+        (c.grabs.parts + vec_len c.running + c.not_started ≡ 2 ^ 40) × (c.grabs.amount ≡ c.grabbed)
+        × (c.reports.parts + vec_len c.running + c.not_started ≡ 2 ^ 40) × (c.reports.amount ≡ c.reported) };
 }
 
 /// What all sessions of a run came to: the pool's totals, which are the sums of what the sessions told.
@@ -79,16 +78,18 @@ pub struct Sums {
     pub grabbed: u64,
     /// How many jobs the sessions reported.
     pub reported: u64,
+    /// Why the sessions ended.
+    pub ends: EndCounts,
     pub ghost accounts: { totals.grabbed ≡ totals.running + totals.reported + totals.lost },
     pub ghost grabs_agree: { totals.grabbed ≡ grabbed },
     pub ghost reports_agree: { totals.reported ≡ reported },
 }
 
-impl<G: Ledger, D: Ledger, B: BoardId> Crew<G, D, B> {
+impl<N: RunId> Crew<N> {
     /// No session yet, over the whole shares, which stand at 0.
-    pub fn new(alloc: Global, grabs: Share<G>, reports: Share<D>) -> Crew<G, D, B>
-        requires grabs { (grabs.parts ≡ G.parts) × (grabs.amount ≡ 0) × (G.parts ≡ 2 ^ 40) }
-        requires reports { (reports.parts ≡ D.parts) × (reports.amount ≡ 0) × (D.parts ≡ 2 ^ 40) }
+    pub fn new(alloc: Global, grabs: Share<Grabs<N>>, reports: Share<Reports<N>>) -> Crew<N>
+        requires grabs { (grabs.parts ≡ 2 ^ 40) × (grabs.amount ≡ 0) }
+        requires reports { (reports.parts ≡ 2 ^ 40) × (reports.amount ≡ 0) }
     {
         Crew {
             running: Vec::new(alloc),
@@ -96,6 +97,7 @@ impl<G: Ledger, D: Ledger, B: BoardId> Crew<G, D, B> {
             reports,
             grabbed: 0,
             reported: 0,
+            ends: EndCounts::none(),
             not_started: 0,
         }
     }
@@ -133,20 +135,17 @@ impl<G: Ledger, D: Ledger, B: BoardId> Crew<G, D, B> {
     >(
         &mut self,
         scope: &Scope<'s, &'e ()>,
-        site: Site<'e, G, D, J, C, R>,
+        site: Site<'e, N, J, C, R>,
         berth: Berth,
         link: L,
-        pass: Pass,
-        place: Place<B>,
+        worker: Enrolled<N>,
     ) -> Result<(), AllocError>
     where
-        G: Send + Sync,
-        D: Send + Sync,
-        B: Send + Sync + 's,
+        N: Send + Sync + 's,
         requires room { self.old.running < self.old.room }
         requires parts { self.old.running + self.old.not_started + 2 ≤ 2 ^ 40 }
-        requires board { site.board.now.id ≡ B.board }
-        requires slot { pass.slot < slot_count site.settings.now }
+        requires board { site.board.now.id ≡ N.board }
+        requires slot { worker.pass.slot < slot_count site.settings.now }
         requires link { ((L.output link).failures < 2 ^ 64 - 1) × ((L.input link).failures < 2 ^ 64 - 1) }
     {
         let Crew {
@@ -156,28 +155,22 @@ impl<G: Ledger, D: Ledger, B: BoardId> Crew<G, D, B> {
             not_started,
             ..
         } = self;
-        let grab_share = grabs.split_off(1, 0);
-        let report_share = reports.split_off(1, 0);
+        let papers = Papers {
+            worker,
+            grabbed: grabs.split_off(1, 0),
+            reported: reports.split_off(1, 0),
+        };
         let Berth {
             has_ended,
             of_session,
         } = berth;
-        let work = move || -> Returned<G, D, B>
-            requires board { site.board.now.id ≡ B.board }
-            requires slot { pass.slot < slot_count site.settings.now }
+        let work = move || -> Returned<N>
+            requires board { site.board.now.id ≡ N.board }
+            requires slot { papers.worker.pass.slot < slot_count site.settings.now }
             requires link { ((L.output link).failures < 2 ^ 64 - 1) × ((L.input link).failures < 2 ^ 64 - 1) }
-            requires shares { (grab_share.parts ≡ 1) × (grab_share.amount ≡ 0) × (report_share.parts ≡ 1) × (report_share.amount ≡ 0) }
         {
             let mut link = link;
-            let returned = run_worker(
-                &site,
-                &mut link,
-                pass,
-                place,
-                TURNS,
-                grab_share,
-                report_share,
-            );
+            let returned = run_worker(&site, &mut link, papers);
             drop(link);
             of_session.store(true, Ordering::SeqCst);
             returned
@@ -208,15 +201,15 @@ impl<G: Ledger, D: Ledger, B: BoardId> Crew<G, D, B> {
     fn take_back<R: Threads + Wait>(
         &mut self,
         rt: &R,
-        shared: &Shared<G, D>,
+        shared: &Shared<Grabs<N>, Reports<N>>,
         board: &Board,
-        source: SeatSource,
+        source: &mut SeatSource,
         at: usize,
-    ) -> SeatSource
+    )
         requires at { at < self.old.running }
-        requires board { (board.now.id ≡ B.board) × (source.board ≡ B.board) }
+        requires board { (board.now.id ≡ N.board) × (source.old.board ≡ N.board) }
         ensures one { self.new.running + 1 ≡ self.old.running }
-        ensures source { result ≡ source }
+        ensures source { source.new ≡ source.old }
     {
         let Crew {
             running,
@@ -224,6 +217,7 @@ impl<G: Ledger, D: Ledger, B: BoardId> Crew<G, D, B> {
             reports,
             grabbed,
             reported,
+            ends,
             ..
         } = self;
         let Started {
@@ -239,13 +233,12 @@ impl<G: Ledger, D: Ledger, B: BoardId> Crew<G, D, B> {
         grabs.merge(grab_share);
         reports.merge(report_share);
         // The books bound the shares, and so the sums.
-        let _ = shared.settle(rt, grabs, reports);
+        let _ = shared.hold(rt).settle(grabs, reports);
         *grabbed += end.grabbed;
         *reported += end.reported;
-        match place {
-            Some(Place { seat, of: _ }) => board.retire(seat, source),
-            None => source,
-        }
+        ends.count(end.cause);
+        let Place { seat, of: _ } = place;
+        board.give_back(seat, source);
     }
 
     /// Joins the sessions that have ended, so that none keeps a handle or a thread for longer than an attempt. It waits for no session
@@ -253,36 +246,35 @@ impl<G: Ledger, D: Ledger, B: BoardId> Crew<G, D, B> {
     pub fn join_ended<R: Threads + Wait>(
         &mut self,
         rt: &R,
-        shared: &Shared<G, D>,
+        shared: &Shared<Grabs<N>, Reports<N>>,
         board: &Board,
-        mut source: SeatSource,
-    ) -> SeatSource
-        requires board { (board.now.id ≡ B.board) × (source.board ≡ B.board) }
-        ensures source { result ≡ source }
+        source: &mut SeatSource,
+    )
+        requires board { (board.now.id ≡ N.board) × (source.old.board ≡ N.board) }
+        ensures source { source.new ≡ source.old }
     {
         let mut at = self.running.len();
         while at > 0 {
             at -= 1;
             if self.has_ended(at) {
-                source = self.take_back(rt, shared, board, source, at);
+                self.take_back(rt, shared, board, source, at);
             }
         }
-        source
     }
 
     /// Joins all sessions, as each ends, and takes the totals. None where a session could not be started.
     pub fn join_all<R: Threads + Wait>(
         mut self,
         rt: &R,
-        shared: &Shared<G, D>,
+        shared: &Shared<Grabs<N>, Reports<N>>,
         board: &Board,
-        mut source: SeatSource,
+        source: &mut SeatSource,
     ) -> Option<Sums>
-        requires board { (board.now.id ≡ B.board) × (source.board ≡ B.board) }
+        requires board { (board.now.id ≡ N.board) × (source.old.board ≡ N.board) }
     {
         while self.running.len() > 0 {
             let last = self.running.len() - 1;
-            source = self.take_back(rt, shared, board, source, last);
+            self.take_back(rt, shared, board, source, last);
         }
         if self.not_started > 0 {
             return None;
@@ -293,13 +285,15 @@ impl<G: Ledger, D: Ledger, B: BoardId> Crew<G, D, B> {
             mut reports,
             grabbed,
             reported,
+            ends,
             not_started: _,
         } = self;
-        let totals = shared.settle(rt, &mut grabs, &mut reports);
+        let totals = shared.hold(rt).settle(&mut grabs, &mut reports);
         Some(Sums {
             totals,
             grabbed,
             reported,
+            ends,
         })
     }
 }

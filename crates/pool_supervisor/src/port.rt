@@ -1,15 +1,15 @@
 //! A session's way to the shared pool.
 ghost use Rattle.std.specs.Prelude.{◌≡◌, ◌+◌};
-ghost use Rattle.job_runner.specs.Book.{after_order, no_calls};
+ghost use Rattle.job_runner.specs.Book.{no_calls};
 
-use crate::place::{BoardId, Place};
+use crate::place::{Grabs, Place, Reports, RunId};
 use crate::shared::Shared;
 use gear_packets::Handle;
 use job_runner::{Gone, GrabRefusal, PoolPort, PortAnswer};
 use order_board::Board;
 use pool_core::{GrabError, Pass, StayOrRetire};
 use std::sync::Wait;
-use std::sync::ledger::{Ledger, Share};
+use std::sync::ledger::Share;
 use worker_state::{Cause, EndKind, Order, Ticket};
 
 /// What tells the time, and lets it pass.
@@ -29,50 +29,49 @@ pub trait Watch {
 ///
 /// It counts the calls that succeeded, and each share stands at its count.
 #[derive(Drop)]
-pub struct SharedPort<'a, G: Ledger, D: Ledger, B: BoardId, C, R> {
+pub struct SharedPort<'a, N: RunId, C, R> {
     rt: &'a R,
-    shared: &'a Shared<G, D>,
+    shared: &'a Shared<Grabs<N>, Reports<N>>,
     watch: &'a C,
     board: &'a Board,
-    /// None only while the board is read.
-    place: Option<Place<B>>,
-    grab_share: Share<G>,
-    report_share: Share<D>,
+    place: Place<N>,
+    grab_share: Share<Grabs<N>>,
+    report_share: Share<Reports<N>>,
     grabs: u64,
     begins: u64,
     reports: u64,
     losses: u64,
     last_loss: Option<Cause>,
     last_answer: Option<PortAnswer>,
-    ghost here: { board.now.id ≡ B.board },
+    ghost here: { board.now.id ≡ N.board },
     ghost grab_part: { grab_share.parts ≡ 1 },
     ghost report_part: { report_share.parts ≡ 1 },
     ghost grabs_counted: { grab_share.amount ≡ grabs },
     ghost reports_counted: { report_share.amount ≡ reports },
 }
 
-impl<'a, G: Ledger, D: Ledger, B: BoardId, C: Watch, R: Wait> SharedPort<'a, G, D, B, C, R> {
+impl<'a, N: RunId, C: Watch, R: Wait> SharedPort<'a, N, C, R> {
     /// A port that was not called yet, over shares that stand at 0 and a place at the board.
     pub fn new(
         rt: &'a R,
-        shared: &'a Shared<G, D>,
+        shared: &'a Shared<Grabs<N>, Reports<N>>,
         watch: &'a C,
         board: &'a Board,
-        place: Place<B>,
-        grab_share: Share<G>,
-        report_share: Share<D>,
-    ) -> SharedPort<'a, G, D, B, C, R>
-        requires board { board.now.id ≡ B.board }
-        requires grabbed { (grab_share.parts ≡ 1) × (grab_share.amount ≡ 0) }
-        requires reported { (report_share.parts ≡ 1) × (report_share.amount ≡ 0) }
-        ensures { ⟦<SharedPort<'a, G, D, B, C, R> as PoolPort>⟧.book result ≡ no_calls }
+        place: Place<N>,
+        shares: (Share<Grabs<N>>, Share<Reports<N>>),
+    ) -> SharedPort<'a, N, C, R>
+        requires board { board.now.id ≡ N.board }
+        requires grabbed { (shares.0.parts ≡ 1) × (shares.0.amount ≡ 0) }
+        requires reported { (shares.1.parts ≡ 1) × (shares.1.amount ≡ 0) }
+        ensures { ⟦<SharedPort<'a, N, C, R> as PoolPort>⟧.book result ≡ no_calls }
     {
+        let (grab_share, report_share) = shares;
         SharedPort {
             rt,
             shared,
             watch,
             board,
-            place: Some(place),
+            place,
             grab_share,
             report_share,
             grabs: 0,
@@ -85,10 +84,10 @@ impl<'a, G: Ledger, D: Ledger, B: BoardId, C: Watch, R: Wait> SharedPort<'a, G, 
     }
 
     /// The shares, whose amounts are the numbers of the jobs that it grabbed and reported, and its place at the board.
-    pub fn into_parts(self) -> (Share<G>, Share<D>, Option<Place<B>>)
-        ensures grabbed { (result.0.parts ≡ 1) × (result.0.amount ≡ (⟦<SharedPort<'a, G, D, B, C, R> as PoolPort>⟧.book self.entry).grabs) }
+    pub fn into_parts(self) -> (Share<Grabs<N>>, Share<Reports<N>>, Place<N>)
+        ensures grabbed { (result.0.parts ≡ 1) × (result.0.amount ≡ (⟦<SharedPort<'a, N, C, R> as PoolPort>⟧.book self.entry).grabs) }
         ensures reported { (result.1.parts ≡ 1)
-            × (result.1.amount ≡ (⟦<SharedPort<'a, G, D, B, C, R> as PoolPort>⟧.book self.entry).reports) }
+            × (result.1.amount ≡ (⟦<SharedPort<'a, N, C, R> as PoolPort>⟧.book self.entry).reports) }
     {
         let SharedPort {
             rt: _,
@@ -107,31 +106,9 @@ impl<'a, G: Ledger, D: Ledger, B: BoardId, C: Watch, R: Wait> SharedPort<'a, G, 
         } = self;
         (grab_share, report_share, place)
     }
-
-    /// The last order that was posted to the slot of its place.
-    fn posted(&mut self) -> Order
-        ensures { ⟦<SharedPort<'a, G, D, B, C, R> as PoolPort>⟧.book self.new ≡ ⟦<SharedPort<'a, G, D, B, C, R> as PoolPort>⟧.book self.old }
-    {
-        match self.place.take() {
-            None => Order::NONE,
-            Some(Place { seat, of }) => {
-                let (order, seat) = self.board.read(seat);
-                self.place = Some(Place { seat, of });
-                order
-            }
-        }
-    }
-
-    fn note(&mut self, order: &Order) -> Order
-        ensures { ⟦<SharedPort<'a, G, D, B, C, R> as PoolPort>⟧.book self.new ≡ after_order (⟦<SharedPort<'a, G, D, B, C, R> as PoolPort>⟧.book self.old) result }
-    {
-        self.last_answer = Some(PortAnswer::Ordered(*order));
-        *order
-    }
 }
 
-impl<'a, G: Ledger, D: Ledger, B: BoardId, C: Watch, R: Wait> PoolPort
-    for SharedPort<'a, G, D, B, C, R> {
+impl<'a, N: RunId, C: Watch, R: Wait> PoolPort for SharedPort<'a, N, C, R> {
     ghost use Rattle.job_runner.specs.Book.{Ledger};
 
     ghost book = { λ p. record {
@@ -144,8 +121,9 @@ impl<'a, G: Ledger, D: Ledger, B: BoardId, C: Watch, R: Wait> PoolPort
     } };
 
     fn order(&mut self, _pass: &Pass) -> Order {
-        let order = self.posted();
-        self.note(&order)
+        let order = self.board.read_by(&mut self.place.seat);
+        self.last_answer = Some(PortAnswer::Ordered(order));
+        order
     }
 
     fn grab(
@@ -163,7 +141,8 @@ impl<'a, G: Ledger, D: Ledger, B: BoardId, C: Watch, R: Wait> PoolPort
             last_answer,
             ..
         } = self;
-        match shared.grab(*rt, grab_share, pass, handle, function, now_ms) {
+        let mut held = shared.hold(*rt);
+        match held.grab(grab_share, pass, handle, function, now_ms) {
             Ok(ticket) => {
                 *grabs += 1;
                 *last_answer = Some(PortAnswer::Grabbed(ticket));
@@ -185,7 +164,8 @@ impl<'a, G: Ledger, D: Ledger, B: BoardId, C: Watch, R: Wait> PoolPort
     }
 
     fn begin_report(&mut self, pass: &Pass, ticket: Ticket) -> Result<(), Gone> {
-        match self.shared.begin_report(self.rt, pass, ticket) {
+        let begun = self.shared.hold(self.rt).begin_report(pass, ticket);
+        match begun {
             Ok(()) => {
                 self.begins += 1;
                 self.last_answer = Some(PortAnswer::Began);
@@ -212,7 +192,8 @@ impl<'a, G: Ledger, D: Ledger, B: BoardId, C: Watch, R: Wait> PoolPort
             last_answer,
             ..
         } = self;
-        match shared.reported(*rt, report_share, pass, ticket, end) {
+        let mut held = shared.hold(*rt);
+        match held.reported(report_share, pass, ticket, end) {
             Ok(StayOrRetire::Stay) => {
                 *reports += 1;
                 *last_answer = Some(PortAnswer::Stay);
@@ -233,6 +214,6 @@ impl<'a, G: Ledger, D: Ledger, B: BoardId, C: Watch, R: Wait> PoolPort
     fn lose(&mut self, pass: Pass, cause: Cause) {
         self.losses += 1;
         self.last_loss = Some(cause);
-        let _ = self.shared.lose(self.rt, pass, cause);
+        let _ = self.shared.hold(self.rt).lose(pass, cause);
     }
 }

@@ -3,24 +3,24 @@ ghost use Rattle.std.specs.Prelude.{◌≡◌};
 
 use crate::attempt::{Attempt, PoolRefusal};
 use crate::dial::Dial;
+use crate::place::RunId;
 use crate::planner::Planner;
 use crate::port::Watch;
-use crate::posting::publish;
+use crate::posting::publish_by;
 use crate::session::Site;
 use gear_status::{Sink, Source, give_all, read_status};
 use order_board::PublisherSeat;
 use plan_model::{Certified, Input, Plan};
 use pool_core::{AdoptError, Ran};
 use std::sync::Wait;
-use std::sync::ledger::Ledger;
 
 /// How often a round is planned where the pool changes while the planner is at work.
 const TRIES: u32 = 3;
 
 /// Asks the server for its status over a link of its own, which is closed at once, and gives the pool the load. At `Err` there is no
 /// load to plan for, and why not.
-pub fn take_load<G: Ledger, D: Ledger, L: Source + Sink + Drop, Y: Dial<L>, J, C, R: Wait>(
-    site: &Site<'_, G, D, J, C, R>,
+pub fn take_load<N: RunId, L: Source + Sink + Drop, Y: Dial<L>, J, C, R: Wait>(
+    site: &Site<'_, N, J, C, R>,
     dial: &Y,
 ) -> Result<(), Attempt> {
     let Some(mut link) = dial.dial() else {
@@ -50,56 +50,46 @@ fn planned<P: Planner>(planner: &P, input: Input, previous: Option<Plan>) -> Opt
 }
 
 /// Adopts an answer, and posts its orders in the same hold of the lock, so that no later round's orders come before them.
-fn adopt<G: Ledger, D: Ledger, J, C, R: Wait>(
-    site: &Site<'_, G, D, J, C, R>,
+fn adopt<N: RunId, J, C, R: Wait>(
+    site: &Site<'_, N, J, C, R>,
     certified: Certified,
-    publisher: PublisherSeat,
-) -> (Result<Ran, AdoptError>, PublisherSeat)
-    requires own { publisher.board ≡ site.now.board.now.id }
-    ensures own { result.1.board ≡ publisher.board }
+    publisher: &mut PublisherSeat,
+) -> Result<Ran, AdoptError>
+    requires own { publisher.old.board ≡ site.now.board.now.id }
+    ensures own { publisher.new.board ≡ publisher.old.board }
 {
     let mut held = site.shared.hold(site.rt);
-    let adopted = held.adopt(certified);
-    let has_plan = match &adopted {
-        Ok(ran) => ran.backlog.is_some(),
-        Err(_) => false,
-    };
-    if has_plan && held.pool().slots() <= site.board.slots() {
-        let publisher = publish(held.pool(), site.board, publisher);
-        return (adopted, publisher);
+    let ran = held.adopt(certified)?;
+    if ran.backlog.is_some() && held.pool().slots() <= site.board.slots() {
+        publish_by(held.pool(), site.board, publisher);
     }
-    (adopted, publisher)
+    Ok(ran)
 }
 
-/// Views the pool, plans while the lock is free, and adopts the plan. Where the pool has changed meanwhile all three are done again, three
+/// Views the pool, plans while the lock is free, and adopts the plan. If the pool has changed meanwhile, all three are done again, three
 /// times in all.
-pub fn plan_round<G: Ledger, D: Ledger, P: Planner, J, C, R: Wait>(
-    site: &Site<'_, G, D, J, C, R>,
+pub fn plan_round<N: RunId, P: Planner, J, C, R: Wait>(
+    site: &Site<'_, N, J, C, R>,
     planner: &P,
-    mut publisher: PublisherSeat,
-) -> (Attempt, PublisherSeat)
-    requires own { publisher.board ≡ site.now.board.now.id }
-    ensures own { result.1.board ≡ publisher.board }
+    publisher: &mut PublisherSeat,
+) -> Attempt
+    requires own { publisher.old.board ≡ site.now.board.now.id }
+    ensures own { publisher.new.board ≡ publisher.old.board }
 {
     for _ in 0..TRIES {
         let viewed = site.shared.hold(site.rt).view();
         let (input, previous) = match viewed {
             Ok(viewed) => viewed,
-            Err(error) => return (Attempt::Refused(PoolRefusal::View(error)), publisher),
+            Err(error) => return Attempt::Refused(PoolRefusal::View(error)),
         };
         let Some(certified) = planned(planner, input, previous) else {
-            return (Attempt::Memory, publisher);
+            return Attempt::Memory;
         };
-        let (adopted, seat) = adopt(site, certified, publisher);
-        publisher = seat;
-        match adopted {
-            Ok(ran) => return (Attempt::of_round(&ran), publisher),
+        match adopt(site, certified, publisher) {
+            Ok(ran) => return Attempt::of_round(&ran),
             Err(AdoptError::Stale) => {}
-            Err(error) => return (Attempt::Refused(PoolRefusal::Adopt(error)), publisher),
+            Err(error) => return Attempt::Refused(PoolRefusal::Adopt(error)),
         }
     }
-    (
-        Attempt::Refused(PoolRefusal::Adopt(AdoptError::Stale)),
-        publisher,
-    )
+    Attempt::Refused(PoolRefusal::Adopt(AdoptError::Stale))
 }

@@ -7,7 +7,8 @@ use crate::attempt::Attempt;
 use crate::attempts::{Progress, Seats, Tools, attempt_all, stop_all};
 use crate::crew::{Crew, PARTS};
 use crate::dial::Dial;
-use crate::place::BoardId;
+use crate::ends::EndCounts;
+use crate::place::{Grabs, Reports, RunId};
 use crate::planner::Planner;
 use crate::port::Watch;
 use crate::session::Site;
@@ -20,7 +21,7 @@ use pool_settings::Settings;
 use std::alloc::{AllocError, Global};
 use std::marker::Brand;
 use std::sync::Wait;
-use std::sync::ledger::{Blank, Ledger};
+use std::sync::ledger::Blank;
 use std::thread;
 use std::thread::{Scope, Threads};
 
@@ -33,6 +34,8 @@ pub struct RunEnd {
     pub grabbed: u64,
     /// How many jobs they reported, added up.
     pub reported: u64,
+    /// Why the sessions ended.
+    pub ends: EndCounts,
     /// How many chapters of the history ended.
     pub chapters: u32,
     /// What each attempt came to, the first one first.
@@ -87,39 +90,36 @@ fn make(alloc: Global, settings: &Settings, rounds: u32) -> Result<Made, AllocEr
 fn supervise<
     's,
     'e: 's,
-    G: Ledger + Send + Sync,
-    D: Ledger + Send + Sync,
-    B: BoardId + Send + Sync + 's,
+    N: RunId + Send + Sync + 's,
     L: Source + Sink + Send + Drop + 's,
     Y: Dial<L>,
     P: Planner,
-    W: Progress,
     J: Jobs + Sync,
-    C: Watch + Sync,
+    C: Watch + Progress + Sync,
     R: Threads + Wait + Sync,
 >(
     scope: &Scope<'s, &'e ()>,
-    site: Site<'e, G, D, J, C, R>,
-    tools: Tools<'e, Y, P, W>,
-    rounds: u32,
-    mut crew: Crew<G, D, B>,
-    seats: Seats,
+    site: Site<'e, N, J, C, R>,
+    tools: Tools<'e, Y, P>,
+    mut crew: Crew<N>,
+    mut seats: Seats,
     mut lines: Vec<Attempt>,
 ) -> Result<RunEnd, AllocError>
-    requires board { (site.board.now.id ≡ B.board) × (seats.source.board ≡ B.board) × (seats.publisher.board ≡ B.board) }
+    requires board { (site.board.now.id ≡ N.board) × (seats.source.board ≡ N.board) × (seats.publisher.board ≡ N.board) }
     requires slots { slot_count site.settings.now ≤ site.board.now.slots }
-    requires lines { (vec_len lines ≡ 0) × (rounds ≤ vec_capacity lines) }
-    ensures lines { IfOk result (λ e. vec_len e.lines ≡ rounds) }
+    requires lines { (vec_len lines ≡ 0) × (tools.rounds ≤ vec_capacity lines) }
+    ensures lines { IfOk result (λ e. vec_len e.lines ≡ tools.entry.rounds) }
 {
-    let (chapters, seats) = attempt_all::<G, D, B, L, Y, P, W, J, C, R>(
-        scope, site, tools, rounds, &mut crew, seats, &mut lines,
+    let attempted = attempt_all::<N, L, Y, P, J, C, R>(
+        scope, site, tools, &mut crew, &mut seats, &mut lines,
     );
-    let Seats { publisher, source } = seats;
-    stop_all(&site, publisher);
-    let sums = crew.join_all(site.rt, site.shared, site.board, source);
-    let Some(chapters) = chapters else {
-        return Err(AllocError);
-    };
+    let Seats {
+        mut publisher,
+        mut source,
+    } = seats;
+    stop_all(&site, &mut publisher);
+    let sums = crew.join_all(site.rt, site.shared, site.board, &mut source);
+    let chapters = attempted?;
     let Some(sums) = sums else {
         return Err(AllocError);
     };
@@ -127,6 +127,7 @@ fn supervise<
         totals: sums.totals,
         grabbed: sums.grabbed,
         reported: sums.reported,
+        ends: sums.ends,
         chapters,
         lines,
     })
@@ -135,72 +136,60 @@ fn supervise<
 /// The sessions as threads of one scope. All that they are lent has one lifetime.
 fn in_scope<
     'e,
-    G: Ledger + Send + Sync,
-    D: Ledger + Send + Sync,
-    B: BoardId + Send + Sync + 'e,
+    N: RunId + Send + Sync + 'e,
     L: Source + Sink + Send + Drop,
     Y: Dial<L>,
     P: Planner,
-    W: Progress,
     J: Jobs + Sync,
-    C: Watch + Sync,
+    C: Watch + Progress + Sync,
     R: Threads + Wait + Sync,
 >(
-    site: Site<'e, G, D, J, C, R>,
-    tools: Tools<'e, Y, P, W>,
-    rounds: u32,
-    crew: Crew<G, D, B>,
+    site: Site<'e, N, J, C, R>,
+    tools: Tools<'e, Y, P>,
+    crew: Crew<N>,
     seats: Seats,
     lines: Vec<Attempt>,
 ) -> Result<RunEnd, AllocError>
-    requires board { (site.board.now.id ≡ B.board) × (seats.source.board ≡ B.board) × (seats.publisher.board ≡ B.board) }
+    requires board { (site.board.now.id ≡ N.board) × (seats.source.board ≡ N.board) × (seats.publisher.board ≡ N.board) }
     requires slots { slot_count site.settings.now ≤ site.board.now.slots }
-    requires lines { (vec_len lines ≡ 0) × (rounds ≤ vec_capacity lines) }
-    ensures lines { IfOk result (λ e. vec_len e.lines ≡ rounds) }
+    requires lines { (vec_len lines ≡ 0) × (tools.rounds ≤ vec_capacity lines) }
+    ensures lines { IfOk result (λ e. vec_len e.lines ≡ tools.entry.rounds) }
 {
     thread::scope(
         thread::scope_env(),
         site.rt,
         |scope| -> Result<RunEnd, AllocError>
-            requires board { (site.board.now.id ≡ B.board) × (seats.source.board ≡ B.board) × (seats.publisher.board ≡ B.board) }
+            requires board { (site.board.now.id ≡ N.board) × (seats.source.board ≡ N.board) × (seats.publisher.board ≡ N.board) }
             requires slots { slot_count site.settings.now ≤ site.board.now.slots }
-            requires lines { (vec_len lines ≡ 0) × (rounds ≤ vec_capacity lines) }
-            ensures { IfOk result (λ e. vec_len e.lines ≡ rounds) }
-        {
-            supervise::<G, D, B, L, Y, P, W, J, C, R>(
-                scope, site, tools, rounds, crew, seats, lines,
-            )
-        },
+            requires lines { (vec_len lines ≡ 0) × (tools.rounds ≤ vec_capacity lines) }
+            ensures { IfOk result (λ e. vec_len e.lines ≡ tools.entry.rounds) }
+        { supervise::<N, L, Y, P, J, C, R>(scope, site, tools, crew, seats, lines) },
     )
 }
 
 /// A run whose ledgers and board have names.
 fn run<
-    G: Ledger + Send + Sync,
-    D: Ledger + Send + Sync,
-    B: BoardId + Send + Sync,
+    N: RunId + Send + Sync,
     L: Source + Sink + Send + Drop,
     Y: Dial<L>,
     P: Planner,
-    W: Progress,
     J: Jobs + Sync,
-    C: Watch + Sync,
+    C: Watch + Progress + Sync,
     R: Threads + Wait + Sync,
 >(
     lent: Lent<'_, J, C, R>,
-    tools: Tools<'_, Y, P, W>,
-    rounds: u32,
+    tools: Tools<'_, Y, P>,
     made: Made,
     grabbed: Blank,
     reported: Blank,
 ) -> Result<RunEnd, AllocError>
     requires pool { (totals_of made.pool).grabbed ≡ 0 }
-    requires board { (made.board.id ≡ B.board) × (made.seats.source.board ≡ B.board) × (made.seats.publisher.board ≡ B.board) }
+    requires board { (made.board.id ≡ N.board) × (made.seats.source.board ≡ N.board) × (made.seats.publisher.board ≡ N.board) }
     requires slots { slot_count lent.settings.now ≤ made.board.slots }
-    requires lines { (vec_len made.lines ≡ 0) × (rounds ≤ vec_capacity made.lines) }
-    requires grabbed { (grabbed.name ≡ G.name) × (grabbed.parts ≡ G.parts) × (G.parts ≡ 2 ^ 40) }
-    requires reported { (reported.name ≡ D.name) × (reported.parts ≡ D.parts) × (D.parts ≡ 2 ^ 40) }
-    ensures lines { IfOk result (λ e. vec_len e.lines ≡ rounds) }
+    requires lines { (vec_len made.lines ≡ 0) × (tools.rounds ≤ vec_capacity made.lines) }
+    requires grabbed { (grabbed.name ≡ N.grabs) × (grabbed.parts ≡ 2 ^ 40) }
+    requires reported { (reported.name ≡ N.reports) × (reported.parts ≡ 2 ^ 40) }
+    ensures lines { IfOk result (λ e. vec_len e.lines ≡ tools.entry.rounds) }
 {
     let Made {
         pool,
@@ -208,8 +197,8 @@ fn run<
         seats,
         lines,
     } = made;
-    let (shared, (grabs, reports)) = Shared::<G, D>::new(pool, grabbed, reported);
-    let crew = Crew::<G, D, B>::new(lent.alloc, grabs, reports);
+    let (shared, (grabs, reports)) = Shared::<Grabs<N>, Reports<N>>::new(pool, grabbed, reported);
+    let crew = Crew::<N>::new(lent.alloc, grabs, reports);
     let site = Site {
         rt: lent.rt,
         alloc: lent.alloc,
@@ -219,17 +208,17 @@ fn run<
         jobs: lent.jobs,
         settings: lent.settings,
     };
-    in_scope::<G, D, B, L, Y, P, W, J, C, R>(site, tools, rounds, crew, seats, lines)
+    in_scope::<N, L, Y, P, J, C, R>(site, tools, crew, seats, lines)
 }
 
-/// Runs a pool of these settings for so many attempts, with a session for each slot, and then ends all sessions.
+/// Runs a pool of these settings for so many attempts, with a session for each slot, and then ends all sessions. The watch is told
+/// of each attempt. The only error is that memory or a thread was refused.
 pub fn run_pool<
     L: Source + Sink + Send + Drop,
     Y: Dial<L>,
     P: Planner,
-    W: Progress,
     J: Jobs + Sync,
-    C: Watch + Sync,
+    C: Watch + Progress + Sync,
     R: Threads + Wait + Sync,
 >(
     rt: &R,
@@ -238,7 +227,6 @@ pub fn run_pool<
     watch: &C,
     planner: &P,
     jobs: &J,
-    progress: &W,
     settings: Settings,
     rounds: u32,
 ) -> Result<RunEnd, AllocError>
@@ -255,14 +243,7 @@ pub fn run_pool<
     let tools = Tools {
         dial,
         planner,
-        progress,
-    };
-    run::<Brand, Brand, Brand, L, Y, P, W, J, C, R>(
-        lent,
-        tools,
         rounds,
-        made,
-        Blank::new(PARTS),
-        Blank::new(PARTS),
-    )
+    };
+    run::<Brand, L, Y, P, J, C, R>(lent, tools, made, Blank::new(PARTS), Blank::new(PARTS))
 }

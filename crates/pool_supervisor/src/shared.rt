@@ -1,19 +1,16 @@
 //! The pool that sessions share.
-ghost use Rattle.std.specs.Prelude.{◌≡◌, ◌+◌, ◌<◌, ◌≤◌, OnErr, OnOk};
+ghost use Rattle.std.specs.Prelude.{◌≡◌};
 ghost use Rattle.pool_core.specs.Book.{totals_of};
 
 use crate::booked::Booked;
-use gear_packets::Handle;
-use pool_core::{BeginError, GrabError, LoseError, Pass, Pool, ReportError, StayOrRetire, Totals};
+use pool_core::Pool;
 use std::sync::ledger::{Blank, Ledger, Share};
 use std::sync::{Mutex, MutexGuard, Wait};
-use worker_state::{Cause, EndKind, Ticket};
 
 /// A pool that threads share: one lock round a [`Booked`].
 ///
-/// Whoever gets the lock finds a pool whose state is the replay of its history, with books that stand at its totals. Each call but
-/// [`Shared::hold`] takes the lock once, makes the one call of the pool, and lets it go. A call may wait for as long as other threads
-/// hold the lock.
+/// Whoever gets the lock finds a pool whose state is the replay of its history, with books that stand at its totals. Its calls are
+/// those of the [`Booked`] that [`Shared::hold`] gives. It may wait for as long as other threads hold the lock.
 #[derive(Drop)]
 pub struct Shared<G: Ledger, D: Ledger> {
     lock: Mutex<Booked<G, D>>,
@@ -44,70 +41,5 @@ impl<G: Ledger, D: Ledger> Shared<G, D> {
     pub fn into_pool(self) -> Pool {
         let Shared { lock } = self;
         lock.into_inner().into_pool()
-    }
-
-    /// [`Booked::grab`] in one hold of the lock.
-    pub fn grab(
-        &self,
-        rt: &impl Wait,
-        mine: &mut Share<G>,
-        pass: &Pass,
-        handle: Handle,
-        function: &[u8],
-        now_ms: u64,
-    ) -> Result<Ticket, GrabError>
-        requires part { 0 < mine.old.parts }
-        ensures raised { OnOk result (mine.new.amount ≡ mine.old.amount + 1) }
-        ensures kept { OnErr result (mine.new.amount ≡ mine.old.amount) }
-        ensures parts { mine.new.parts ≡ mine.old.parts }
-    {
-        self.lock
-            .lock(rt)
-            .grab(mine, pass, handle, function, now_ms)
-    }
-
-    /// [`Booked::reported`] in one hold of the lock.
-    pub fn reported(
-        &self,
-        rt: &impl Wait,
-        mine: &mut Share<D>,
-        pass: &Pass,
-        ticket: Ticket,
-        end: EndKind,
-    ) -> Result<StayOrRetire, ReportError>
-        requires part { 0 < mine.old.parts }
-        ensures raised { OnOk result (mine.new.amount ≡ mine.old.amount + 1) }
-        ensures kept { OnErr result (mine.new.amount ≡ mine.old.amount) }
-        ensures parts { mine.new.parts ≡ mine.old.parts }
-    {
-        self.lock.lock(rt).reported(mine, pass, ticket, end)
-    }
-
-    /// [`Booked::begin_report`] in one hold of the lock.
-    pub fn begin_report(
-        &self,
-        rt: &impl Wait,
-        pass: &Pass,
-        ticket: Ticket,
-    ) -> Result<(), BeginError> {
-        self.lock.lock(rt).begin_report(pass, ticket)
-    }
-
-    /// [`Booked::lose`] in one hold of the lock.
-    pub fn lose(&self, rt: &impl Wait, pass: Pass, cause: Cause) -> Result<(), LoseError> {
-        self.lock.lock(rt).lose(pass, cause)
-    }
-
-    /// [`Booked::settle`] in one hold of the lock: the totals of now, which account for each job, are no less than what the shares have,
-    /// and are just that where the shares are whole.
-    pub fn settle(&self, rt: &impl Wait, grabbed: &mut Share<G>, reported: &mut Share<D>) -> Totals
-        ensures grabs_kept { (grabbed.new.amount ≡ grabbed.old.amount) × (grabbed.new.parts ≡ grabbed.old.parts) }
-        ensures reports_kept { (reported.new.amount ≡ reported.old.amount) × (reported.new.parts ≡ reported.old.parts) }
-        ensures accounts { result.grabbed ≡ result.running + result.reported + result.lost }
-        ensures bound { (grabbed.old.amount ≤ result.grabbed) × (reported.old.amount ≤ result.reported) }
-        ensures grabbed { grabbed.old.parts ≡ G.parts → grabbed.old.amount ≡ result.grabbed }
-        ensures reported { reported.old.parts ≡ D.parts → reported.old.amount ≡ result.reported }
-    {
-        self.lock.lock(rt).settle(grabbed, reported)
     }
 }

@@ -1,4 +1,4 @@
-//! What stands in for a clock, a planner, jobs and a listener, each of which can be made to wait for what happens in a run.
+//! What stands in for a clock, a planner and jobs, each of which can be made to wait for what happens in a run.
 
 use crate::tally::{Happening, Tally};
 use job_runner::{End, Job, JobTable, Outcome};
@@ -21,7 +21,7 @@ pub struct Pause {
 }
 
 /// A clock that begins at noon and goes on in pauses alone. A pause ends when what it waits for has happened; one that was not listed
-/// ends at once.
+/// ends at once. It counts the attempts that it is told of, as long as their numbers rise from 1 one by one.
 #[derive(Drop)]
 pub struct Stage<'a, R> {
     rt: &'a R,
@@ -55,6 +55,14 @@ impl<R: Clock> Watch for Stage<'_, R> {
         if let Some(pause) = self.pauses.get(number as usize) {
             self.tally.wait_for_all(self.rt, pause.until);
             let _before = self.now_ms.fetch_add(pause.jump_ms, Ordering::SeqCst);
+        }
+    }
+}
+
+impl<R> Progress for Stage<'_, R> {
+    fn attempted(&self, number: u32, _attempt: &Attempt) {
+        if self.tally.count(Happening::Attempted).saturating_add(1) == u64::from(number) {
+            let _before = self.tally.add(Happening::Attempted);
         }
     }
 }
@@ -126,17 +134,5 @@ impl<R: Clock> Planner for Waiting<'_, R> {
             }
         }
         self.planner.solve(input, previous)
-    }
-}
-
-/// Counts the attempts that it is told of, as long as their numbers rise from 1 one by one.
-#[derive(Drop)]
-pub struct Listener<'a>(pub &'a Tally);
-
-impl Progress for Listener<'_> {
-    fn attempted(&self, number: u32, _attempt: &Attempt) {
-        if self.0.count(Happening::Attempted).saturating_add(1) == u64::from(number) {
-            let _before = self.0.add(Happening::Attempted);
-        }
     }
 }

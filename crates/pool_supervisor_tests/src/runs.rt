@@ -170,8 +170,17 @@ fn solve_lets_go(rt: HostRuntime) -> Result<(), Fail> {
 }
 
 /// Machine a with one worker for reverse, b with one for echo and reverse.
-const TWO_MACHINES: &str =
-    "version = 1\nround_ms = 7\n[functions.echo]\n[functions.reverse]\n[machines.a]\nworkers = 1\nfunctions = [\"reverse\"]\n[machines.b]\nworkers = 1\nfunctions = [\"echo\", \"reverse\"]\n";
+const TWO_MACHINES: &str = "version = 1
+round_ms = 7
+[functions.echo]
+[functions.reverse]
+[machines.a]
+workers = 1
+functions = [\"reverse\"]
+[machines.b]
+workers = 1
+functions = [\"echo\", \"reverse\"]
+";
 
 /// A job `H:a:2` of `echo` without data. Nobody has that job, so it fails.
 const ECHO_JOB: &[&[u8]] = &[b"\0RES\0\0\0\x1f\0\0\0\x0eH:a:2\0echo\0u2\0"];

@@ -1,6 +1,6 @@
 //! What decides a run over the server in memory.
 
-use crate::doubles::{Listener, Pause, Stage, Waiting, reverse_alone};
+use crate::doubles::{Pause, Stage, Waiting, reverse_alone};
 use crate::server::{Part, Server};
 use crate::tally::{Happening, Tally};
 use pool_settings::Settings;
@@ -77,7 +77,6 @@ impl Scenario {
             waits: self.plan_waits,
         };
         let jobs = reverse_alone(rt, alloc, tally, self.job_waits)?;
-        let listener = Listener(tally);
         let ended = run_pool(
             rt,
             alloc,
@@ -85,7 +84,6 @@ impl Scenario {
             &stage,
             &planner,
             &jobs,
-            &listener,
             settings,
             self.rounds,
         )?;

@@ -29,9 +29,7 @@ fn run_stock<H: Host>(
         lull_ms: settings.lull_ms(),
     };
     let planner = ArenaPlanner::new(alloc);
-    run_pool(
-        host, alloc, &route, host, &planner, &jobs, host, settings, rounds,
-    )
+    run_pool(host, alloc, &route, host, &planner, &jobs, settings, rounds)
 }
 
 /// What a run came to, and the text of it.
@@ -62,8 +60,8 @@ fn run_told<H: Host>(
 /// Runs a pool of workers by these settings against their job server: `rounds` attempts to plan, a session in a thread for each worker, and
 /// the stock jobs (`StockJob`). When all sessions have ended it writes what the run came to: a line for each attempt, from the first
 /// on; the line of the chapters of the history that ended, where one did; and the line of the pool's totals, which account for each job
-/// that was grabbed: it runs, was reported or was lost. The exit status is 1 where some round had no plan, and else 0: a server that is not
-/// reached, or a status text or a call that is refused, is told in its line and is no fault.
+/// that was grabbed: it runs, was reported or was lost. The exit status is 1 if some round had no plan, and else 0. An unreachable
+/// server, a bad status text or a refused call is reported in the attempt's line; the exit status stays 0.
 ///
 /// Faults are looked for in the settings, before anything is dialled. Where memory is refused, or a thread, so that the run cannot go on,
 /// the sessions are ended and the fault is `Memory`. Nothing is written before the run has ended: after a `WriteFault`, which comes

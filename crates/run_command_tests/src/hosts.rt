@@ -7,8 +7,8 @@ use std::sync::Wait;
 use std::sync::atomic::{AtomicU64, Ordering};
 use std::thread::Threads;
 
-/// A host whose job server tells these status texts, one a link, and cannot be reached any more when all are told. Its clock stands, and its
-/// pauses are over at once.
+/// A host whose job server tells these status texts, one a link, and cannot be reached any more when all are told. Its clock stands,
+/// and its pauses are over at once.
 #[derive(Drop)]
 pub struct Teller<'a, R: Drop> {
     /// What has threads.

@@ -6,7 +6,7 @@ use gear_packets::Handle;
 use job_runner::{Gone, GrabRefusal, PoolPort};
 use plan_model::{FuncId, SlotId};
 use pool_core::{BeginError, ExpireError, GrabError, LoseError, Pass, ReportError, StayOrRetire};
-use pool_supervisor::{Shared, publish};
+use pool_supervisor::{Grabs, Reports, Shared, publish};
 use std::marker::Brand;
 use std::process::Abort;
 use std::sync::Wait;
@@ -29,23 +29,29 @@ lose 0#1 BadPacket
 ";
 
 /// How a ticket stands in the shared pool.
-fn standing_of<R: Wait>(rt: &R, shared: &Shared<Brand, Brand>, ticket: Ticket) -> Option<Standing> {
+fn standing_of<R: Wait>(
+    rt: &R,
+    shared: &Shared<Grabs<Brand>, Reports<Brand>>,
+    ticket: Ticket,
+) -> Option<Standing> {
     shared.hold(rt).pool().standing(ticket)
 }
 
 /// Answers a job that was grabbed under this ticket: it stands as each call left it.
 fn expect_answered<R: Wait + Abort>(
     rt: &R,
-    shared: &Shared<Brand, Brand>,
+    shared: &Shared<Grabs<Brand>, Reports<Brand>>,
     desk: &mut Desk,
     pass: &Pass,
     ticket: Ticket,
     end: EndKind,
 ) -> Result<StayOrRetire, Fail> {
     assert_eq!(rt; standing_of(rt, shared, ticket), Some(Standing::Running));
-    shared.begin_report(rt, pass, ticket)?;
+    shared.hold(rt).begin_report(pass, ticket)?;
     assert_eq!(rt; standing_of(rt, shared, ticket), Some(Standing::Reporting));
-    let told = shared.reported(rt, &mut desk.reports, pass, ticket, end)?;
+    let told = shared
+        .hold(rt)
+        .reported(&mut desk.reports, pass, ticket, end)?;
     assert_eq!(rt;
         standing_of(rt, shared, ticket),
         Some(Standing::Reported(end))
@@ -59,23 +65,29 @@ fn calls_of_the_shared_pool(rt: HostRuntime) -> Result<(), Fail> {
     let (shared, mut desk) = (hall.shared, hall.desk);
     let (first, second) = (hall.first, hall.second);
     let handle = Handle::new(b"H:b:7")?;
-    let one = shared.grab(&rt, &mut desk.grabs, &second, handle, b"y", 1000)?;
+    let one = shared
+        .hold(&rt)
+        .grab(&mut desk.grabs, &second, handle, b"y", 1000)?;
     let told = expect_answered(&rt, &shared, &mut desk, &second, one, EndKind::Fail)?;
     assert_eq!(rt; told, StayOrRetire::Stay);
     let handle = Handle::new(b"H:a:8")?;
-    let two = shared.grab(&rt, &mut desk.grabs, &first, handle, b"x", 2000)?;
+    let two = shared
+        .hold(&rt)
+        .grab(&mut desk.grabs, &first, handle, b"x", 2000)?;
     let handle = Handle::new(b"H:b:9")?;
-    let three = shared.grab(&rt, &mut desk.grabs, &second, handle, b"x", 3000)?;
+    let three = shared
+        .hold(&rt)
+        .grab(&mut desk.grabs, &second, handle, b"x", 3000)?;
     assert_eq!(rt;
         (one, two, three),
         (Ticket::new(1), Ticket::new(2), Ticket::new(3))
     );
-    let totals = shared.settle(&rt, &mut desk.grabs, &mut desk.reports);
+    let totals = shared.hold(&rt).settle(&mut desk.grabs, &mut desk.reports);
     assert_eq!(rt; (totals.grabbed, totals.running), (3, 2));
     assert_eq!(rt; (totals.reported, totals.lost), (1, 0));
     let told = expect_answered(&rt, &shared, &mut desk, &second, three, EndKind::Complete)?;
     assert_eq!(rt; told, StayOrRetire::Retire);
-    shared.lose(&rt, first, Cause::BadPacket)?;
+    shared.hold(&rt).lose(first, Cause::BadPacket)?;
     let pool = shared.into_pool();
     let told = history_of(rt.alloc(), &pool)?;
     assert_eq!(rt; told.as_str(), SHARED_HISTORY);
@@ -88,19 +100,25 @@ fn calls_of_a_lost_worker(rt: HostRuntime) -> Result<(), Fail> {
     let hall = new_hall(rt.alloc(), XY).ok_or("no hall")?;
     let (shared, mut desk, second) = (hall.shared, hall.desk, hall.second);
     let handle = Handle::new(b"H:b:7")?;
-    let one = shared.grab(&rt, &mut desk.grabs, &second, handle, b"y", 1000)?;
+    let one = shared
+        .hold(&rt)
+        .grab(&mut desk.grabs, &second, handle, b"y", 1000)?;
     let told = shared.hold(&rt).expire(SlotId::new(1), 1, 5999);
     assert_eq!(rt; told, Err(ExpireError::NotLate));
     let told = shared.hold(&rt).expire(SlotId::new(1), 1, 6000);
     assert_eq!(rt; told, Ok(()));
     let handle = Handle::new(b"H:b:8")?;
-    let told = shared.grab(&rt, &mut desk.grabs, &second, handle, b"y", 7000);
+    let told = shared
+        .hold(&rt)
+        .grab(&mut desk.grabs, &second, handle, b"y", 7000);
     assert_eq!(rt; told, Err(GrabError::Gone));
-    let told = shared.begin_report(&rt, &second, one);
+    let told = shared.hold(&rt).begin_report(&second, one);
     assert_eq!(rt; told, Err(BeginError::Gone));
-    let told = shared.reported(&rt, &mut desk.reports, &second, one, EndKind::Complete);
+    let told = shared
+        .hold(&rt)
+        .reported(&mut desk.reports, &second, one, EndKind::Complete);
     assert_eq!(rt; told, Err(ReportError::Gone));
-    let told = shared.lose(&rt, second, Cause::Closed);
+    let told = shared.hold(&rt).lose(second, Cause::Closed);
     assert_eq!(rt; told, Err(LoseError::Gone));
     Ok(())
 }
@@ -242,6 +260,7 @@ fn orders_of_the_port(rt: HostRuntime) -> Result<(), Fail> {
     let _ = publish(shared.hold(&rt).pool(), &board, publisher);
     assert_eq!(rt; (other.order(&first), port.order(&second)), (x, y));
     let (_, _, place) = port.into_parts();
-    assert!(rt; place.is_some());
+    let (last, _) = board.read(place.seat);
+    assert_eq!(rt; last, y);
     Ok(())
 }

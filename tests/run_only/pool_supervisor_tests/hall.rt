@@ -5,7 +5,7 @@ use order_board::{Board, PublisherSeat, SeatSource};
 use plan_model::SlotId;
 use pool_core::{Pass, Pool};
 use pool_settings::Settings;
-use pool_supervisor::{Place, Shared, SharedPort, Watch, publish};
+use pool_supervisor::{Grabs, Place, Reports, Shared, SharedPort, Watch, publish};
 use std::alloc::Global;
 use std::marker::{Brand, PhantomData};
 use std::sync::Wait;
@@ -47,15 +47,15 @@ impl Watch for Hand {
 }
 
 /// A port of the shared pool.
-pub type Port<'a, R> = SharedPort<'a, Brand, Brand, Brand, Hand, R>;
+pub type Port<'a, R> = SharedPort<'a, Brand, Hand, R>;
 
 /// What a port is made of: shares of both ledgers, and places at the board.
 #[derive(Drop)]
 pub struct Desk {
     /// The share of grabs that is left.
-    pub grabs: Share<Brand>,
+    pub grabs: Share<Grabs<Brand>>,
     /// The share of reports that is left.
-    pub reports: Share<Brand>,
+    pub reports: Share<Reports<Brand>>,
     source: SeatSource,
 }
 
@@ -64,7 +64,7 @@ impl Desk {
     pub fn port<'a, R: Wait>(
         self,
         rt: &'a R,
-        hall: (&'a Shared<Brand, Brand>, &'a Board),
+        hall: (&'a Shared<Grabs<Brand>, Reports<Brand>>, &'a Board),
         hand: &'a Hand,
         slot: u32,
     ) -> (Port<'a, R>, Desk) {
@@ -77,7 +77,8 @@ impl Desk {
         let (place, source) = place_at(board, source, slot);
         let grab_share = grabs.split_off(1, 0);
         let report_share = reports.split_off(1, 0);
-        let port = SharedPort::new(rt, shared, hand, board, place, grab_share, report_share);
+        let shares = (grab_share, report_share);
+        let port = SharedPort::new(rt, shared, hand, board, place, shares);
         let desk = Desk {
             grabs,
             reports,
@@ -91,7 +92,7 @@ impl Desk {
 #[derive(Drop)]
 pub struct Hall {
     /// The pool.
-    pub shared: Shared<Brand, Brand>,
+    pub shared: Shared<Grabs<Brand>, Reports<Brand>>,
     /// The orders.
     pub board: Board,
     /// What ports are made of.
@@ -122,7 +123,7 @@ pub fn new_hall(alloc: Global, settings: &str) -> Option<Hall> {
     pool.round().ok()?;
     let (board, publisher, source) = Board::new(alloc, pool.slots()).ok()?;
     let publisher = publish(&pool, &board, publisher);
-    let (shared, (grabs, reports)) = Shared::<Brand, Brand>::new(
+    let (shared, (grabs, reports)) = Shared::<Grabs<Brand>, Reports<Brand>>::new(
         pool,
         Blank::new(PARTS),
         Blank::new(PARTS),

@@ -11,7 +11,9 @@ use order_board::Board;
 use plan_model::SlotId;
 use pool_core::Pool;
 use pool_settings::Settings;
-use pool_supervisor::{Returned, Shared, Site, publish, run_worker};
+use pool_supervisor::{
+    Enrolled, Grabs, Papers, Reports, Returned, Shared, Site, publish, run_worker,
+};
 use std::alloc::{AllocError, Global};
 use std::marker::Brand;
 use std::sync::Wait;
@@ -61,7 +63,7 @@ fn serve<R: Wait + Clock>(
     let (board, publisher, source) = Board::new(alloc, pool.slots()).ok()?;
     let _ = publish(&pool, &board, publisher);
     let (place, _) = place_at(&board, source, 0);
-    let (shared, (grabs, reports)) = Shared::<Brand, Brand>::new(
+    let (shared, (grabs, reports)) = Shared::<Grabs<Brand>, Reports<Brand>>::new(
         pool,
         Blank::new(1),
         Blank::new(1),
@@ -76,13 +78,18 @@ fn serve<R: Wait + Clock>(
         jobs,
         settings: &settings,
     };
+    let papers = Papers {
+        worker: Enrolled { pass, place },
+        grabbed: grabs,
+        reported: reports,
+    };
     let Returned {
         end,
         place: _,
         mut grabbed,
         mut reported,
-    } = run_worker(&site, link, pass, place, u32::MAX, grabs, reports);
-    let totals = shared.settle(rt, &mut grabbed, &mut reported);
+    } = run_worker(&site, link, papers);
+    let totals = shared.hold(rt).settle(&mut grabbed, &mut reported);
     if (totals.grabbed, totals.reported) != (end.grabbed, end.reported) {
         return None;
     }

@@ -1,6 +1,6 @@
 //! A run over real sockets on the loopback. The test does not depend on how fast either side is.
 
-use crate::doubles::{Listener, Pause, Stage, reverse_alone};
+use crate::doubles::{Pause, Stage, reverse_alone};
 use crate::scenario::{lines_of, totals_of};
 use crate::server::ASSIGN;
 use crate::tally::{Happening, Tally};
@@ -103,15 +103,12 @@ fn run_over<R: Net<Stream = TcpStream> + Threads + Wait + Clock + Sync>(
     let stage = Stage::new(rt, &tally, &[]);
     let planner = ArenaPlanner::new(alloc);
     let jobs = reverse_alone(rt, alloc, &tally, &[]).ok()?;
-    let listener = Listener(&tally);
     let dialer = Dialer {
         net: rt,
         server: server.as_str(),
         lull_ms: settings.lull_ms(),
     };
-    let ended = run_pool(
-        rt, alloc, &dialer, &stage, &planner, &jobs, &listener, settings, 2,
-    );
+    let ended = run_pool(rt, alloc, &dialer, &stage, &planner, &jobs, settings, 2);
     for _ in 0..3 {
         let _knock = TcpStream::connect(rt, address);
     }

@@ -3,5 +3,5 @@ use Rattle.pool_supervisor.proofs.attempts.attempt_all.Given as goal
 
 abbrev pub invariant-loop-number : goal.invariant-loop-number
 invariant-loop-number g l =
-    (l.source.board ≡ g.B.BoardId.board) × (l.publisher.board ≡ g.B.BoardId.board) × (l.chapters ≤ l.number)
-    × (vec_len l.lines ≡ l.number) × (l.rounds ≤ vec_capacity l.lines)
+    (l.source.board ≡ g.N.RunId.board) × (l.publisher.board ≡ g.N.RunId.board) × (l.chapters ≤ l.number)
+    × (vec_len l.lines ≡ l.number) × (l.tools.rounds ≤ vec_capacity l.lines)

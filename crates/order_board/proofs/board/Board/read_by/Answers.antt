@@ -1,7 +1,7 @@
 use Rattle.std.proofs.Common.{ℕ, [], sym, ap, ◌∙◌, arith}
 use Rattle.order_board.specs.Rule.{reader, seen_in}
 use Rattle.order_board.proofs.Steps.{reads_at}
-use Rattle.order_board.proofs.board.Board.read.Goals as goal
+use Rattle.order_board.proofs.board.Board.read_by.Goals as goal
 
 pub load-word-requires : goal.load-word-requires
 load-word-requires c =

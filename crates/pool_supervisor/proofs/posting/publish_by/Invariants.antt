@@ -1,7 +1,7 @@
 use Rattle.std.specs.Prelude.{◌≡◌, ◌++◌, ℕ}
 use Rattle.order_board.specs.Posts.{posts_of}
 use Rattle.pool_supervisor.proofs.Published.{order_below}
-use Rattle.pool_supervisor.proofs.posting.publish.Given as goal
+use Rattle.pool_supervisor.proofs.posting.publish_by.Given as goal
 
 abbrev pub invariant-loop-number : goal.invariant-loop-number
 invariant-loop-number l =

@@ -1,6 +1,6 @@
 use Rattle.std.proofs.Common.{sym, ap, ◌∙◌, arith}
 use Rattle.order_board.proofs.Steps.{looks_at}
-use Rattle.order_board.proofs.board.Board.posted.Goals as goal
+use Rattle.order_board.proofs.board.Board.posted_by.Goals as goal
 
 pub load-word-requires : goal.load-word-requires
 load-word-requires c =

@@ -1,6 +1,6 @@
 use Rattle.std.proofs.Common.{sym, ap, ◌∙◌}
 use Rattle.order_board.proofs.Steps.{retires}
-use Rattle.order_board.proofs.board.Board.retire.Goals as goal
+use Rattle.order_board.proofs.board.Board.give_back.Goals as goal
 
 pub join_seat-requires : goal.join_seat-requires
 join_seat-requires c =

@@ -1,6 +1,6 @@
 use Rattle.std.proofs.Common.{sym, ap, ◌∙◌, arith}
 use Rattle.order_board.proofs.Steps.{stores_at}
-use Rattle.order_board.proofs.board.Board.post.Goals as goal
+use Rattle.order_board.proofs.board.Board.post_by.Goals as goal
 
 pub store-requires : goal.store-requires
 store-requires c =

@@ -1,6 +1,6 @@
 use Rattle.std.proofs.Common.{sym, ap, ◌∙◌}
 use Rattle.order_board.proofs.Steps.{seats}
-use Rattle.order_board.proofs.board.Board.reader_at.Goals as goal
+use Rattle.order_board.proofs.board.Board.seat_reader_at.Goals as goal
 
 pub split_seat-new-requires : goal.split_seat-new-requires
 split_seat-new-requires g c =

@@ -1,0 +1,52 @@
+//! Why sessions ended, counted.
+ghost use Rattle.std.specs.Prelude.{◌<◌};
+
+use job_runner::EndCause;
+
+/// How many causes there are for which a session ends.
+const CAUSES: usize = 11;
+
+/// How many sessions ended for each cause.
+#[derive(Clone, Copy, Debug, PartialEq, Eq)]
+pub struct EndCounts {
+    counts: [u64; CAUSES],
+}
+
+/// The place of a cause's count.
+fn place_of(cause: EndCause) -> usize
+    ensures { result < 11 }
+{
+    match cause {
+        EndCause::Retired => 0,
+        EndCause::Gone => 1,
+        EndCause::BadPacket => 2,
+        EndCause::ServerError => 3,
+        EndCause::ReadFault => 4,
+        EndCause::WriteFault => 5,
+        EndCause::TurnsUsed => 6,
+        EndCause::Memory => 7,
+        EndCause::HistoryFull => 8,
+        EndCause::Closed => 9,
+        EndCause::Stopped => 10,
+    }
+}
+
+impl EndCounts {
+    /// No session has ended.
+    pub fn none() -> EndCounts {
+        EndCounts {
+            counts: [0; CAUSES],
+        }
+    }
+
+    /// How many sessions ended for this cause.
+    pub fn of(&self, cause: EndCause) -> u64 {
+        self.counts[place_of(cause)]
+    }
+
+    /// One more session has ended for this cause. A count stays at the greatest number that it can hold.
+    pub fn count(&mut self, cause: EndCause) {
+        let at = place_of(cause);
+        self.counts[at] = self.counts[at].saturating_add(1);
+    }
+}
