@@ -4,6 +4,7 @@ use crate::doubles::Pause;
 use crate::scenario::{Scenario, lines_of, totals_of};
 use crate::server::{ASSIGN, Fate, Part};
 use crate::tally::{Happening, Tally};
+use job_runner::EndCause;
 use pool_supervisor::RunEnd;
 use std::alloc::Global;
 use std::process::Abort;
@@ -279,6 +280,8 @@ fn workers_are_replaced(rt: HostRuntime) -> Result<(), Fail> {
         "attempt 1 round 1 backlog 1\nattempt 2 round 2 backlog 1\nattempt 3 round 3 backlog 1\nattempt 4 round 4 backlog 0\n";
     expect(&rt, rt.alloc(), &tally, &ended, lines, (5, 0, 5, 0, 4, 5))?;
     assert_eq!(rt; ended.chapters, 1);
+    assert_eq!(rt; ended.ends.of(EndCause::Retired), 5);
+    assert_eq!(rt; ended.ends.of(EndCause::Gone), 0);
     Ok(())
 }
 
