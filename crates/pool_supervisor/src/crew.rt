@@ -69,7 +69,7 @@ impl<N: RunId> Model for Crew<N> {
         × (c.reports.parts + vec_len c.running + c.not_started ≡ 2 ^ 40) × (c.reports.amount ≡ c.reported) };
 }
 
-/// What all sessions of a run came to: the pool's totals, which are the sums of what the sessions told.
+/// What all sessions of a run came to: the pool's totals, and the equal numbers that their shares add up to.
 #[derive(Clone, Copy, Debug, PartialEq, Eq)]
 pub struct Sums {
     /// The totals of the pool.

@@ -1,8 +1,8 @@
 //! The pool that sessions share, and the port by which each of them reaches it.
 //!
 //! The pool lies under one lock, beside two books: how many jobs were grabbed, and how many were reported. A session holds a share
-//! of each book, which rises with the book where one of its calls succeeds, and never else. So the sums of what sessions tell are
-//! the totals of the pool, whatever the threads do.
+//! of each book, which rises with the book where one of its calls succeeds, and never else. So the amounts of all
+//! shares add up to the totals of the pool, whatever the threads do.
 #![tactic(auto)]
 
 mod attempt;

@@ -25,7 +25,7 @@ use std::sync::ledger::Blank;
 use std::thread;
 use std::thread::{Scope, Threads};
 
-/// How a run ended. The totals of the pool account for each job, and what the sessions told adds up to them.
+/// How a run ended. The totals of the pool account for each job, and the numbers that the run adds up beside the pool are equal to them.
 #[derive(Debug, Drop)]
 pub struct RunEnd {
     /// The totals of the pool after the last session.

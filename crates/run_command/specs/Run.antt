@@ -25,8 +25,7 @@ attempt_lines number (attempt ∷ attempts) = attempt_line number attempt ++ 10 
 abbrev pub chapters_line : ℕ → List ℕ
 chapters_line chapters = if nat_lt 0 chapters then codes "chapters " ++ decimal chapters ++ 10 ∷ [] else []
 
--- what a run writes: its attempts from the first one on, its chapters, and its totals, which account for each job and are the sums of what
--- its sessions told
+-- what a run writes: its attempts from the first one on, its chapters, and its totals, which account for each job
 abbrev pub run_text : RunEnd → List ℕ
 run_text ended = attempt_lines 1 ended.lines.items ++ chapters_line ended.chapters ++ totals_line ended.totals ++ 10 ∷ []
 
