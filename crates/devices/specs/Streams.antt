@@ -1,7 +1,7 @@
 -- What is known of a standard stream or a file.
 use Rattle.std.specs.Io.KnownBytes.{Appends, Consumes, IsAtEnd}
 use Rattle.std.specs.Prelude.{◌≡◌, ◌-◌, ℕ, Bool, false, true, List, [], length, take, Option, None, Some, option_map}
-use Rattle.gear_status.specs.Sides.{Input, Output}
+use Rattle.byte_io.specs.Sides.{Input, Output}
 
 -- what a reader has given that told from the start what it has left: what is in front of what it has left now
 abbrev pub given_of : Option (List ℕ) → Option (List ℕ) → Option (List ℕ)

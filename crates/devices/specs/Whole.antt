@@ -1,6 +1,6 @@
 -- An input that is read whole, or why it is not.
 use Rattle.std.specs.Prelude.{◌≡◌, ℕ, ◌+◌, ◌<◌, ◌≤◌, [], length, true}
-use Rattle.gear_status.specs.Sides.{GaveUp, Met, Undisturbed}
+use Rattle.byte_io.specs.Sides.{GaveUp, Met, Undisturbed}
 use Rattle.devices.specs.declared.error.InputError.{InputError}
 use Rattle.devices.specs.declared.error.InputError.TheVariants as error
 

@@ -1,11 +1,11 @@
 //! Input that is read whole.
 
 ghost use Rattle.std.specs.Prelude.{◌≡◌, ◌-◌, ◌^◌, ◌<◌, MatchResult};
-ghost use Rattle.gear_status.specs.Sides.{Meets, Met};
+ghost use Rattle.byte_io.specs.Sides.{Meets, Met};
 ghost use Rattle.devices.specs.Whole.{IsNotWhole, IsWhole};
 
 use crate::error::InputError;
-use gear_status::{Source, Took};
+use byte_io::{Source, Took};
 use std::alloc::Global;
 
 /// The most bytes that a file or an input may have.

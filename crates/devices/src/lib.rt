@@ -6,11 +6,13 @@ mod files;
 mod input;
 mod results;
 mod streams;
+mod tcp;
 
 pub use error::InputError;
 pub use files::{Folder, read_file};
 pub use input::{LIMIT, read_whole};
 pub use streams::{InputSource, OutputSink};
+pub use tcp::TcpLink;
 
 #[cfg(test)]
 mod tests;

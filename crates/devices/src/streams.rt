@@ -4,7 +4,7 @@ ghost use Rattle.std.specs.Prelude.{◌≡◌};
 ghost use Rattle.devices.specs.Streams.{first_input, first_output};
 
 use crate::results::is_lull;
-use gear_status::{Device, DeviceFault, Sink, Source, Took};
+use byte_io::{Device, DeviceFault, Sink, Source, Took};
 use std::io::{Read, Write};
 use std::marker::Model;
 use std::snapshot::Snapshot;
@@ -22,7 +22,7 @@ pub struct InputSource<R: Read> {
 
 impl<R: Read> Model for InputSource<R> {
     ghost use Rattle.std.specs.Prelude.{Some};
-    ghost use Rattle.gear_status.specs.Sides.{Input};
+    ghost use Rattle.byte_io.specs.Sides.{Input};
     ghost use Rattle.devices.specs.Streams.{IsLeft, given_of};
 
     ghost Value = { Input };
@@ -87,7 +87,7 @@ pub struct OutputSink<W: Write> {
 }
 
 impl<W: Write> Model for OutputSink<W> {
-    ghost use Rattle.gear_status.specs.Sides.{Output};
+    ghost use Rattle.byte_io.specs.Sides.{Output};
     ghost use Rattle.devices.specs.Streams.{HasGrown, held_of};
 
     ghost Value = { Output };

@@ -3,7 +3,7 @@ use Rattle.std.proofs.Common.{◌≡◌, ◌≢◌, append_assoc, subst, ℕ, �
 use Rattle.std.specs.List.{slice_split}
 use Rattle.std.proofs.lemmas.Bool.{and_parts, false≢true}
 use Rattle.std.proofs.lemmas.Bool.Decides.{nat_tests}
-use Rattle.gear_status.specs.Sides.{Met, Undisturbed}
+use Rattle.byte_io.specs.Sides.{Met, Undisturbed}
 use Rattle.gear_status.specs.Status.{Line, at_end, is_period, is_too_long, line_meaning, meaning_from, put, status, without_return}
 use Rattle.text_pieces.specs.Lines.{is_line_feed}
 use Rattle.text_pieces.proofs.Lines.{first_part}

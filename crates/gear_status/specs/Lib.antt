@@ -1,10 +1,9 @@
+pub use Rattle.byte_io.specs.Device
+pub use Rattle.byte_io.specs.Sides
+pub use Rattle.byte_io.specs.Memory
+pub use Rattle.byte_io.specs.Script
 pub mod Status
 pub mod Entries
 pub mod Cut
-pub mod Device
 pub mod Stream
 pub mod StatusRefusals
-pub mod Memory
-pub mod Script
-pub mod Played
-pub mod Sides

@@ -2,7 +2,7 @@
 use Rattle.std.specs.Prelude.{ℕ, ◌≡◌, ◌+◌, ◌-◌, ◌*◌, ◌≤◌, List, ◌++◌, take, Bool, true, false, not, length, Option, Some, None, Result}
 use Rattle.std.specs.Prelude.{Ok, Err}
 use Rattle.std.specs.List.{list_all, slice_split}
-use Rattle.gear_status.specs.Sides.{GaveUp, Met, Undisturbed}
+use Rattle.byte_io.specs.Sides.{GaveUp, Met, Undisturbed}
 use Rattle.gear_status.specs.Status.{Line, meaning_from, status}
 use Rattle.text_pieces.specs.Lines.{is_line_feed}
 use Rattle.gear_status.specs.declared.error.StatusError.{StatusError}

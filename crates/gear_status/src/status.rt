@@ -1,13 +1,14 @@
 //! A load, read from a source.
 
 ghost use Rattle.std.specs.Prelude.{◌≡◌, ◌≢◌, ◌+◌, ◌-◌, ◌^◌, ◌<◌, Err, IfErr, IfOk, Ok, ℕ, List, length, max, min};
-ghost use Rattle.gear_status.specs.Device.{FitsBuffer, failure_of, is_end, lull_of, taken};
-ghost use Rattle.gear_status.specs.Sides.{Meets, Met, and_then, counted};
+ghost use Rattle.byte_io.specs.Device.{FitsBuffer, failure_of, is_end, lull_of, taken};
+ghost use Rattle.byte_io.specs.Sides.{Meets, Met, and_then, counted};
 ghost use Rattle.gear_status.specs.Status.{status};
 ghost use Rattle.gear_status.specs.Stream.{AnswersStatus, AnswersWithin};
 
 use crate::reader::Unfinished;
-use crate::{DeviceFault, Load, Source, StatusError, Took};
+use crate::{Load, StatusError};
+use byte_io::{DeviceFault, Source, Took};
 use std::alloc::Global;
 
 /// How many lulls one status text may have.

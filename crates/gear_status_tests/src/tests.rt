@@ -1,4 +1,4 @@
-//! Texts and devices, with the answers that others give them.
+//! Texts, with the answers that others give them, and sources that fail.
 
 mod devices;
 mod texts;

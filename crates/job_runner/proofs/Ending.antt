@@ -16,7 +16,7 @@ use Rattle.job_runner.specs.Book.{Ledger, after_loss}
 use Rattle.job_runner.specs.Course.{Duty, asks, Ends, OneAtATime}
 use Rattle.job_runner.specs.Ends.{loss_of}
 use Rattle.job_runner.specs.Run.{Link, Lost, Served, Reason, tally_of}
-use Rattle.gear_status.specs.Sides.{and_then}
+use Rattle.byte_io.specs.Sides.{and_then}
 use Rattle.job_runner.specs.Loop.{Halts}
 
 ends_lost : (duty : Duty) (bytes : List ℕ) (taken : List AssignedJob) (t : Tally) (b : Ledger) (reason : EndCause) (c : Cause) → Ends duty bytes taken t b reason → Ends duty bytes taken t (after_loss b c) reason

@@ -11,7 +11,7 @@ use Rattle.job_runner.specs.declared.answering.Tally.{Tally}
 use Rattle.job_runner.specs.Told.{reply}
 use Rattle.job_runner.specs.Book.{Ledger}
 use Rattle.job_runner.specs.Course.{Duty, Wrote, Even, Chain, Ends}
-use Rattle.gear_status.specs.Sides.{and_then}
+use Rattle.byte_io.specs.Sides.{and_then}
 use Rattle.job_runner.proofs.Told.{goes_behind}
 use Rattle.job_runner.proofs.Steps.{wrote_answer, ends_whole, ends_cut, left_over}
 use Rattle.job_runner.proofs.Counts.{Moved, Counted, chain, even_again}

@@ -15,7 +15,7 @@ use Rattle.worker_state.specs.OrderParts.{OrderParts}
 use Rattle.job_runner.specs.declared.answering.Tally.{Tally}
 use Rattle.job_runner.specs.Told.{Told}
 use Rattle.job_runner.specs.Book.{Ledger, after_order}
-use Rattle.gear_status.specs.Sides.{and_then}
+use Rattle.byte_io.specs.Sides.{and_then}
 use Rattle.job_runner.specs.Course.{Duty, OneAtATime, Wrote, Even, Chain, Ends, Sends, obeying, name_of, known}
 use Rattle.job_runner.proofs.Told.{goes_behind}
 use Rattle.job_runner.proofs.Steps.{ends_whole, Leads, wrote_on, cut_on, left_over}

@@ -1,7 +1,7 @@
 -- What a link tells, over several calls.
 use Rattle.std.proofs.Common.{◌≡◌, ℕ, List, ◌++◌, Option, ap, ◌∙◌}
-use Rattle.gear_status.specs.Sides.{and_then}
-use Rattle.gear_status.proofs.Devices.{told_twice}
+use Rattle.byte_io.specs.Sides.{and_then}
+use Rattle.byte_io.proofs.Devices.{told_twice}
 
 -- what goes on behind `bytes` goes on behind all that was told
 pub goes_behind : (before : Option (List ℕ)) (bytes more : List ℕ) (old new : Option (List ℕ)) → old ≡ and_then before bytes → new ≡ and_then old more → new ≡ and_then before (bytes ++ more)

@@ -22,8 +22,8 @@ use Rattle.job_runner.specs.Course.{Duty, Even, Ends, GoesOnOrEnds, Sends, PortR
 use Rattle.job_runner.specs.Listening.{SaysFirst, IsReadEnd}
 use Rattle.job_runner.specs.Run.{AreAnswered, Acts, Link, Reason, ReadReason}
 use Rattle.job_runner.specs.Loop.{first_state, IsSendFault, StepReason, Stands, Halts}
-use Rattle.gear_status.specs.Sides.{and_then}
-use Rattle.gear_status.proofs.Devices.{told_nothing}
+use Rattle.byte_io.specs.Sides.{and_then}
+use Rattle.byte_io.proofs.Devices.{told_nothing}
 use Rattle.job_runner.proofs.Steps.{Leads, left_over}
 use Rattle.job_runner.proofs.Exits.{Left}
 use Rattle.job_runner.proofs.Orders.{even_chain, ends_at_rest, sent_whole, sent_part}

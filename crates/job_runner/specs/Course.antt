@@ -18,7 +18,7 @@ use Rattle.job_runner.specs.declared.port.PortAnswer.TheVariants as answer
 use Rattle.job_runner.specs.declared.order.Phase.{Phase}
 use Rattle.job_runner.specs.declared.order.Phase.TheVariants.{Idle}
 use Rattle.job_runner.specs.declared.answering.Tally.{Tally}
-use Rattle.gear_status.specs.Sides.{and_then}
+use Rattle.byte_io.specs.Sides.{and_then}
 use Rattle.worker_state.specs.Registration.{change_of}
 use Rattle.pool_settings.specs.Names.{is_name}
 use Rattle.job_runner.specs.Told.{Told, replies}

@@ -2,7 +2,7 @@
 use Rattle.std.specs.Prelude.{◌≡◌, ℕ, ◌<◌, List, [], ◌∷◌, length, Option, None}
 use Rattle.gear_packets.specs.Response.{Message, server_error}
 use Rattle.gear_packets.specs.Text.{Reading, assignments_in, assignments}
-use Rattle.gear_status.specs.Sides.{and_then}
+use Rattle.byte_io.specs.Sides.{and_then}
 use Rattle.worker_state.specs.declared.slot.WorkerName.{WorkerName}
 use Rattle.pool_settings.specs.Settings.{Settings}
 use Rattle.pool_settings.specs.Slots.{worker_text}

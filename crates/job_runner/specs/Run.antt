@@ -5,7 +5,7 @@ use Rattle.gear_packets.specs.Request.{Packet}
 use Rattle.gear_packets.specs.Response.{AssignedJob, Message, server_error}
 use Rattle.gear_packets.specs.Text.{Reading, reading, behind, assignments_in, assignments, sent, text_of, registered, work_requests}
 use Rattle.gear_packets.specs.Reading.{fault_of}
-use Rattle.gear_status.specs.Sides.{Input, Output}
+use Rattle.byte_io.specs.Sides.{Input, Output}
 use Rattle.job_runner.specs.declared.end.EndCause.{EndCause}
 use Rattle.job_runner.specs.declared.end.EndCause.TheVariants as cause
 use Rattle.job_runner.specs.declared.end.SessionEnd.{SessionEnd}

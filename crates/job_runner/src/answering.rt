@@ -4,7 +4,7 @@ ghost use Rattle.std.specs.Prelude.{◌≡◌, ◌+◌, ◌-◌, ◌<◌, ◌≤
 ghost use Rattle.std.specs.Option.{option_map};
 ghost use Rattle.gear_packets.specs.Reading.{job_of};
 ghost use Rattle.gear_packets.specs.Response.{AssignedJob};
-ghost use Rattle.gear_status.specs.Sides.{and_then};
+ghost use Rattle.byte_io.specs.Sides.{and_then};
 ghost use Rattle.job_runner.specs.Book.{Ledger};
 ghost use Rattle.job_runner.specs.Told.{told_of};
 ghost use Rattle.job_runner.specs.Course.{Duty, Wrote, Even, Ends, GoesOnOrEnds, PortReason, CanCount, CanBook};
@@ -16,8 +16,8 @@ use crate::port::{GrabRefusal, PoolPort};
 use crate::reply::spell;
 use crate::table::Jobs;
 use crate::worker::Worker;
+use byte_io::{Sink, give_all};
 use gear_packets::Assignment;
-use gear_status::{Sink, give_all};
 use pool_core::StayOrRetire;
 use std::alloc::AllocError;
 

@@ -13,7 +13,6 @@ mod sending;
 mod session;
 mod state;
 mod table;
-mod tcp;
 mod worker;
 
 pub use end::{EndCause, SessionEnd};
@@ -21,5 +20,4 @@ pub use job::{End, Job, Note, Outcome};
 pub use port::{Gone, GrabRefusal, PoolPort, PortAnswer};
 pub use session::{run_session, serve_worker};
 pub use table::{JobTable, Jobs, TwiceNamed};
-pub use tcp::TcpLink;
 pub use worker::Workplace;

@@ -3,12 +3,12 @@
 ghost use Rattle.std.specs.Prelude.{◌≡◌, ◌+◌, ◌-◌, ◌<◌, ◌≤◌, ◌^◌, ◌++◌, ℕ, List, length, IfOk, IfErr, OnOk, Option, true};
 ghost use Rattle.gear_packets.specs.Response.{Message};
 ghost use Rattle.gear_packets.specs.Text.{reading, behind};
-ghost use Rattle.gear_status.specs.Sides.{and_then};
+ghost use Rattle.byte_io.specs.Sides.{and_then};
 ghost use Rattle.job_runner.specs.Listening.{Hears, IsReadEnd};
 
 use crate::end::EndCause;
+use byte_io::{Source, Took};
 use gear_packets::{FeedError, Reader, cut_anywhere};
-use gear_status::{Source, Took};
 
 /// What one read of a session gave.
 #[derive(Clone, Copy, Debug, PartialEq, Eq)]

@@ -4,7 +4,7 @@ ghost use Rattle.std.specs.Prelude.{◌≡◌, ◌+◌, ◌-◌, ◌<◌, ◌^�
 ghost use Rattle.gear_packets.specs.Response.{AssignedJob};
 ghost use Rattle.gear_packets.specs.Reading.{message_of};
 ghost use Rattle.gear_packets.specs.Text.{assignments_in};
-ghost use Rattle.gear_status.specs.Sides.{and_then};
+ghost use Rattle.byte_io.specs.Sides.{and_then};
 ghost use Rattle.job_runner.specs.Book.{Ledger};
 ghost use Rattle.job_runner.specs.Course.{Duty, PortReason, CanCount, CanBook};
 ghost use Rattle.job_runner.specs.Run.{AreAnswered, Acts, LinkKept, seen_link};
@@ -17,8 +17,8 @@ use crate::sending::send;
 use crate::state::{State, follow, serve_job};
 use crate::table::Jobs;
 use crate::worker::Worker;
+use byte_io::Sink;
 use gear_packets::{Assignment, Request, Response};
-use gear_status::Sink;
 use std::alloc::Global;
 
 /// Asks to be woken when there is work.

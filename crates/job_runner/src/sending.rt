@@ -10,8 +10,8 @@ ghost use Rattle.job_runner.specs.Course.{IsAccepted, Sends};
 ghost use Rattle.job_runner.specs.Run.{LinkKept, seen_link};
 
 use crate::end::EndCause;
+use byte_io::{Sink, give_all};
 use gear_packets::{EncodeError, Request, encode, encode_into};
-use gear_status::{Sink, give_all};
 use std::alloc::{AllocError, Global};
 
 /// Puts a packet behind a text, if there is one. The only error is want of memory.

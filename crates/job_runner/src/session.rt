@@ -2,7 +2,7 @@
 
 ghost use Rattle.std.specs.Prelude.{◌≡◌, ◌+◌, ◌-◌, ◌<◌, ◌≤◌, ◌^◌, [], ℕ, List, length, IfErr, IfOk, OnOk, Option, string_bytes};
 ghost use Rattle.gear_packets.specs.Request.{set_client_id};
-ghost use Rattle.gear_status.specs.Sides.{and_then};
+ghost use Rattle.byte_io.specs.Sides.{and_then};
 ghost use Rattle.pool_settings.specs.Slots.{slots, worker_text};
 ghost use Rattle.job_runner.specs.Told.{Told};
 ghost use Rattle.job_runner.specs.Book.{no_calls};
@@ -20,8 +20,8 @@ use crate::sending::send;
 use crate::state::{State, follow};
 use crate::table::Jobs;
 use crate::worker::{Worker, Workplace};
+use byte_io::{Sink, Source};
 use gear_packets::{Reader, Request, says_its_packets};
-use gear_status::{Sink, Source};
 use pool_core::Pass;
 use pool_settings::Settings;
 use std::alloc::{AllocError, Global};

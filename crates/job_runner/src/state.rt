@@ -4,7 +4,7 @@ ghost use Rattle.std.specs.Prelude.{◌≡◌, ◌≢◌, ◌+◌, ◌-◌, ◌<
 ghost use Rattle.std.specs.Prelude.{None};
 ghost use Rattle.gear_packets.specs.Reading.{job_of};
 ghost use Rattle.gear_packets.specs.Response.{AssignedJob};
-ghost use Rattle.gear_status.specs.Sides.{and_then};
+ghost use Rattle.byte_io.specs.Sides.{and_then};
 ghost use Rattle.job_runner.specs.Book.{Ledger};
 ghost use Rattle.job_runner.specs.Course.{Duty, PortReason, CanCount, CanBook};
 ghost use Rattle.job_runner.specs.Run.{AreAnswered, Acts, LinkKept, seen_link};
@@ -15,8 +15,8 @@ use crate::order::{Phase, obey};
 use crate::port::PoolPort;
 use crate::table::Jobs;
 use crate::worker::Worker;
+use byte_io::Sink;
 use gear_packets::Assignment;
-use gear_status::Sink;
 
 /// What a session knows between two messages, its reader aside.
 #[derive(Drop)]

@@ -4,7 +4,8 @@ ghost use Rattle.job_runner.specs.Book.{no_calls};
 
 use crate::TestJob;
 use crate::pool_port::{Beside, order_work};
-use gear_status::{Script, Sink, Source};
+use byte_io::doubles::Script;
+use byte_io::{Sink, Source};
 use job_runner::{JobTable, PoolPort, SessionEnd, run_session};
 use plan_model::SlotId;
 use pool_core::{Pass, Pool};

@@ -1,13 +1,14 @@
 //! Sessions over real sockets on the loopback. No test depends on how fast either side is.
 ghost use Rattle.std.specs.Prelude.{◌≡◌, IfOk};
-ghost use Rattle.gear_status.specs.Sides.{no_input, no_output};
+ghost use Rattle.byte_io.specs.Sides.{no_input, no_output};
 
 use crate::TestJob;
 use crate::packets::ASSIGN;
 use crate::pool_port::{Beside, PoolTestPort};
 use crate::scenario::{Farm, Scenario, new_farm, run_over};
-use gear_status::Device;
-use job_runner::{EndCause, SessionEnd, TcpLink};
+use byte_io::Device;
+use devices::TcpLink;
+use job_runner::{EndCause, SessionEnd};
 use std::alloc::Global;
 use std::io::Write;
 use std::net::{TcpListener, TcpStream};

@@ -4,7 +4,7 @@ use Rattle.std.specs.Prelude.{Result}
 use Rattle.devices.specs.Whole.{IsNotWhole, IsWhole}
 use Rattle.devices.specs.declared.error.InputError.{InputError}
 use Rattle.devices.specs.declared.error.InputError.TheVariants as input
-use Rattle.gear_status.specs.Sides.{Input, Met}
+use Rattle.byte_io.specs.Sides.{Input, Met}
 use Rattle.plan_commands.specs.Check.{Examines, Judges}
 use Rattle.plan_commands.specs.Fault.{input_fault}
 use Rattle.plan_commands.specs.Posing.{IsDue}

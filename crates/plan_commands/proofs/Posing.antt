@@ -1,8 +1,8 @@
 -- Why there is no problem, by the fault of each text, where nothing was read.
 use Rattle.std.proofs.Common.{◌≡◌, ◌≢◌, ℕ, Bool, List, [], Ok, Err, false, refl, arith, inl}
 use Rattle.devices.specs.Whole.{IsUntouched}
-use Rattle.gear_status.specs.Sides.{Input, Meets, Met}
-use Rattle.gear_status.proofs.Devices.{counted_nothing, told_nothing}
+use Rattle.byte_io.specs.Sides.{Input, Meets, Met}
+use Rattle.byte_io.proofs.Devices.{counted_nothing, told_nothing}
 use Rattle.pool_settings.specs.Settings.{Settings}
 use Rattle.pool_settings.specs.Reading.{reading}
 use Rattle.pool_settings.specs.declared.error.SettingsError.{SettingsError}

@@ -1,6 +1,6 @@
 -- How the writing of a report ends.
 use Rattle.std.proofs.Common.{◌≡◌, Err, inl, inr}
-use Rattle.gear_status.specs.Sides.{Output}
+use Rattle.byte_io.specs.Sides.{Output}
 use Rattle.plan_model.specs.Shown.{Shown}
 use Rattle.plan_model.specs.declared.answer.Answer.{Answer}
 use Rattle.pool_report.specs.Answered.{report_text}

@@ -2,7 +2,7 @@
 use Rattle.std.specs.Prelude.{◌≡◌, ◌≢◌, ◌⊎◌, ℕ, List, ◌∷◌, [], ◌++◌, codes, Result, Ok, Err}
 use Rattle.devices.specs.Whole.{IsNotWhole, IsUntouched, IsWhole}
 use Rattle.devices.specs.declared.error.InputError.TheVariants as input
-use Rattle.gear_status.specs.Sides.{Met, Output, Undisturbed}
+use Rattle.byte_io.specs.Sides.{Met, Output, Undisturbed}
 use Rattle.plan_model.specs.Reasons.{reason_label}
 use Rattle.plan_model.specs.Shown.{IsFirstReason, Shown}
 use Rattle.plan_model.specs.declared.answer.Answer.{Answer}

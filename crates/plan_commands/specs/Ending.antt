@@ -1,6 +1,6 @@
 -- How a command ends, and what its sink has then.
 use Rattle.std.specs.Prelude.{◌≡◌, ◌⊎◌, ℕ, List}
-use Rattle.gear_status.specs.Sides.{HasFront, HasText, Output}
+use Rattle.byte_io.specs.Sides.{HasFront, HasText, Output}
 use Rattle.plan_commands.specs.Fault.{refused}
 use Rattle.plan_commands.specs.declared.ending.Exit.{Exit}
 use Rattle.plan_commands.specs.declared.fault.Fault.{Fault}

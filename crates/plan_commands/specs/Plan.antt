@@ -1,6 +1,6 @@
 -- What `plan` writes, and how it ends.
 use Rattle.std.specs.Prelude.{◌≡◌, ◌⊎◌, ℕ, List, Ok, Err}
-use Rattle.gear_status.specs.Sides.{Met, Output}
+use Rattle.byte_io.specs.Sides.{Met, Output}
 use Rattle.plan_model.specs.Shown.{Shown}
 use Rattle.plan_model.specs.declared.answer.Answer.{Answer}
 use Rattle.plan_model.specs.declared.answer.Answer.TheVariants.{Planned, NoPlan}

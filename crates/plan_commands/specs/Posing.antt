@@ -1,7 +1,7 @@
 -- What a call that poses a problem may answer, and how far it reads.
 use Rattle.std.specs.Prelude.{◌≡◌, ◌⊎◌, ℕ, ◌+◌, ◌≤◌, true, List, length, Result, Ok, Err}
 use Rattle.devices.specs.Whole.{IsUntouched, limit}
-use Rattle.gear_status.specs.Sides.{GaveUp, Met, Undisturbed}
+use Rattle.byte_io.specs.Sides.{GaveUp, Met, Undisturbed}
 use Rattle.gear_status.specs.Status.{Line, status}
 use Rattle.gear_status.specs.Stream.{EndsWithPiece}
 use Rattle.gear_status.specs.declared.error.StatusError.TheVariants.{Truncated}

@@ -1,7 +1,7 @@
 //! The command `check`: whether a report is shown.
 
 ghost use Rattle.std.specs.Prelude.{◌≡◌, ◌-◌, ◌^◌, ◌<◌, IfOk, IsTrue, ◌↔◌, map, string_bytes};
-ghost use Rattle.gear_status.specs.Sides.{Meets, Met};
+ghost use Rattle.byte_io.specs.Sides.{Meets, Met};
 ghost use Rattle.plan_model.specs.Shown.{Shown};
 ghost use Rattle.pool_report.specs.Answered as answered;
 ghost use Rattle.plan_commands.specs.Check as spec;
@@ -10,8 +10,8 @@ ghost use Rattle.plan_commands.specs.Problem.{load_of, problem};
 use crate::ending::{Exit, deliver};
 use crate::fault::Fault;
 use crate::problem::{Problem, pose_text};
+use byte_io::{Sink, Source};
 use devices::read_whole;
-use gear_status::{Sink, Source};
 use plan_model::{Answer, Reason, check};
 use pool_report::{read, report_text};
 use refusal::Labelled;

@@ -5,7 +5,7 @@ ghost use Rattle.plan_commands.specs.Ending.{Delivers};
 ghost use Rattle.plan_commands.specs.Fault as spec;
 
 use crate::fault::Fault;
-use gear_status::{Sink, give_all};
+use byte_io::{Sink, give_all};
 
 /// How a command ended: its exit status, and the fault that kept it from an answer, if one did.
 #[derive(Clone, Copy, Debug, PartialEq, Eq)]

@@ -1,7 +1,7 @@
 //! The command `plan`: from the texts to the report.
 
 ghost use Rattle.std.specs.Prelude.{◌≡◌, ◌-◌, ◌^◌, ◌<◌, IfOk, map};
-ghost use Rattle.gear_status.specs.Sides.{Meets, Met};
+ghost use Rattle.byte_io.specs.Sides.{Meets, Met};
 ghost use Rattle.plan_model.specs.Shown.{Shown};
 ghost use Rattle.plan_commands.specs.Plan.{Plans, WritesReport, status_with};
 
@@ -9,7 +9,7 @@ use crate::ending::Exit;
 use crate::fault::Fault;
 use crate::problem::{Problem, pose};
 use bumpalo::Bump;
-use gear_status::{Sink, Source};
+use byte_io::{Sink, Source};
 use level_search::solve;
 use plan_model::Answer;
 use pool_report::write;

@@ -1,14 +1,15 @@
 //! The planning problem that settings, lost workers and a status text pose.
 
 ghost use Rattle.std.specs.Prelude.{◌≡◌, ◌≢◌, ◌-◌, ◌^◌, ◌<◌, IfErr, IfOk, false, map, true};
-ghost use Rattle.gear_status.specs.Sides.{Meets, Met};
+ghost use Rattle.byte_io.specs.Sides.{Meets, Met};
 ghost use Rattle.pool_settings.specs.Planning.{instance_of, waiting_of};
 ghost use Rattle.plan_commands.specs.Posing.{IsDue, GivesLoad, Poses};
 ghost use Rattle.plan_commands.specs.Problem as spec;
 
 use crate::fault::Fault;
+use byte_io::Source;
 use devices::LIMIT;
-use gear_status::{Load, Source, load_of, read_status_within};
+use gear_status::{Load, load_of, read_status_within};
 use plan_model::Input;
 use pool_settings::Settings;
 use std::alloc::{AllocError, Global};

@@ -1,6 +1,6 @@
 -- What a sink has of a report that was to be written.
 use Rattle.std.specs.Prelude.{◌≡◌, ℕ, List, Result, Ok, Err}
-use Rattle.gear_status.specs.Sides.{HasFront, HasText, Output}
+use Rattle.byte_io.specs.Sides.{HasFront, HasText, Output}
 use Rattle.pool_report.specs.declared.error.WriteError.{WriteError}
 use Rattle.pool_report.specs.declared.error.WriteError.TheVariants as error
 

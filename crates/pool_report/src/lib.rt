@@ -1,6 +1,6 @@
 //! A report: the text that tells an answer with its evidence, and the reading of such a text.
 //!
-//! [`write`] gives the report of an answer that is shown to a [`Sink`](gear_status::Sink), and [`report_text`]
+//! [`write`] gives the report of an answer that is shown to a [`Sink`](byte_io::Sink), and [`report_text`]
 //! makes its text. [`read`] takes exactly the texts of this shape whose workers and functions the settings
 //! have, and gives the answer that they tell, for [`check`](plan_model::check) to hold against its input. So
 //! a report is evidence that anybody can carry and anybody can test.

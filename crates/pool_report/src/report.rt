@@ -12,7 +12,7 @@ ghost use Rattle.pool_settings.specs.Names.{name_at};
 
 use crate::error::WriteError;
 use crate::lines::{push_backlog, push_short_line};
-use gear_status::{Sink, give_all};
+use byte_io::{Sink, give_all};
 use plan_model::{
     Answer, FuncId, FuncSet, Input, MachineId, Plan, SlotId, TOP_LEVEL, count_neighbours,
     total_need,

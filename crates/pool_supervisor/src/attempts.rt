@@ -10,7 +10,7 @@ use crate::planner::Planner;
 use crate::port::Watch;
 use crate::round::{plan_round, take_load};
 use crate::session::{Enrolled, Site};
-use gear_status::{Sink, Source};
+use byte_io::{Sink, Source};
 use job_runner::Jobs;
 use order_board::{PublisherSeat, SeatSource};
 use plan_model::SlotId;

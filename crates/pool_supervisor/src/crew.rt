@@ -7,7 +7,7 @@ use crate::place::{Grabs, Place, Reports, RunId};
 use crate::port::Watch;
 use crate::session::{Enrolled, Papers, Returned, Site, run_worker};
 use crate::shared::Shared;
-use gear_status::{Sink, Source};
+use byte_io::{Sink, Source};
 use job_runner::Jobs;
 use order_board::{Board, SeatSource};
 use pool_core::Totals;

@@ -1,7 +1,7 @@
 //! What makes links to the job server.
 ghost use Rattle.std.specs.Prelude.{◌≡◌, IfSome};
 
-use gear_status::{Sink, Source};
+use byte_io::{Sink, Source};
 
 /// What makes links to the job server.
 pub trait Dial<L: Source + Sink> {

@@ -13,7 +13,7 @@ use crate::planner::Planner;
 use crate::port::Watch;
 use crate::session::Site;
 use crate::shared::Shared;
-use gear_status::{Sink, Source};
+use byte_io::{Sink, Source};
 use job_runner::Jobs;
 use order_board::Board;
 use pool_core::{Pool, Totals};

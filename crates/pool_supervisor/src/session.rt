@@ -1,6 +1,6 @@
 //! One session over the shared pool, and what it hands back.
 ghost use Rattle.std.specs.Prelude.{◌≡◌, ◌-◌, ◌<◌, ◌^◌, ℕ, List};
-ghost use Rattle.gear_status.specs.Sides.{and_then};
+ghost use Rattle.byte_io.specs.Sides.{and_then};
 ghost use Rattle.job_runner.specs.Book.{Ledger};
 ghost use Rattle.job_runner.specs.Loop.{duty_of};
 ghost use Rattle.job_runner.specs.Run.{Served};
@@ -9,7 +9,7 @@ ghost use Rattle.pool_settings.specs.Slots.{slots};
 use crate::place::{Grabs, Place, Reports, RunId};
 use crate::port::{SharedPort, Watch};
 use crate::shared::Shared;
-use gear_status::{Sink, Source};
+use byte_io::{Sink, Source};
 use job_runner::{Jobs, SessionEnd, run_session};
 use order_board::Board;
 use pool_core::Pass;

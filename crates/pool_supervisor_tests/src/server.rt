@@ -2,8 +2,8 @@
 ghost use Rattle.std.specs.Prelude.{◌≡◌};
 
 use crate::tally::{Happening, Tally};
+use byte_io::{Device, DeviceFault, Sink, Source, Took};
 use gear_packets::{Request, decode};
-use gear_status::{Device, DeviceFault, Sink, Source, Took};
 use pool_supervisor::Dial;
 use std::alloc::{AllocError, Global};
 use std::sync::atomic::{AtomicU64, Ordering};

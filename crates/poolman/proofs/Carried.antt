@@ -3,7 +3,7 @@ use Rattle.std.proofs.Common.{◌≡◌, ℕ, List, inl, inr, refl}
 use Rattle.command_line.specs.Words.{Named, plan}
 use Rattle.devices.specs.Folder.{IsReadFile, Known}
 use Rattle.devices.specs.declared.error.InputError.{InputError}
-use Rattle.gear_status.specs.Sides.{Input, Meets, Met, Output}
+use Rattle.byte_io.specs.Sides.{Input, Meets, Met, Output}
 use Rattle.plan_commands.proofs.Posing.{meets_nothing, nothing_from}
 use Rattle.plan_commands.specs.Fault.{input_fault, refused}
 use Rattle.plan_commands.specs.Plan.{Plans}

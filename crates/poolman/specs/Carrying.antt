@@ -4,7 +4,7 @@ use Rattle.command_line.specs.Words.{Named, plan, check, replay, show_settings, 
 use Rattle.devices.specs.Folder.{IsReadFile, IsUnreadFile, Known}
 use Rattle.devices.specs.Whole.{IsUntouched}
 use Rattle.devices.specs.declared.error.InputError.{InputError}
-use Rattle.gear_status.specs.Sides.{Met, Output}
+use Rattle.byte_io.specs.Sides.{Met, Output}
 use Rattle.plan_commands.specs.Check.{Checks}
 use Rattle.plan_commands.specs.Ending.{Stops}
 use Rattle.plan_commands.specs.Fault.{input_fault}

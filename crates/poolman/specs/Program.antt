@@ -11,7 +11,7 @@ use Rattle.clap.specs.Words.{Kinds}
 use Rattle.command_line.specs.Words.{Named, command_in, faults_in}
 use Rattle.devices.specs.Folder.{Known}
 use Rattle.devices.specs.Whole.{IsUntouched}
-use Rattle.gear_status.specs.Sides.{HasFront, HasText, Met, Output}
+use Rattle.byte_io.specs.Sides.{HasFront, HasText, Met, Output}
 use Rattle.plan_commands.specs.Fault.{fault_line}
 use Rattle.plan_commands.specs.declared.ending.Exit.{Exit}
 use Rattle.plan_commands.specs.declared.fault.Fault.{Fault}

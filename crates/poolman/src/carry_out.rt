@@ -3,12 +3,12 @@
 ghost use Rattle.std.specs.Prelude.{◌-◌, ◌^◌, ◌<◌, ◌⊎◌, IfErr, IfOk, List, ℕ};
 ghost use Rattle.command_line.specs.Named.{named};
 ghost use Rattle.devices.specs.Folder.{IsReadFile, IsUnreadFile};
-ghost use Rattle.gear_status.specs.Sides.{Meets, Met};
+ghost use Rattle.byte_io.specs.Sides.{Meets, Met};
 ghost use Rattle.poolman.specs.Carrying.{CarriesOut};
 
+use byte_io::{Sink, Source};
 use command_line::Command;
 use devices::{Folder, InputError, read_file};
-use gear_status::{Sink, Source};
 use plan_commands::{Exit, Fault, check_text, plan_text};
 use replay_command::run_commands;
 use run_command::{Host, run_rounds};

@@ -1,14 +1,14 @@
 //! The whole program, over words, files, input, output and error output.
 
 ghost use Rattle.std.specs.Prelude.{◌≡◌, ◌-◌, ◌^◌, ◌<◌, Some, map, string_bytes};
-ghost use Rattle.gear_status.specs.Sides.{Meets, Met};
+ghost use Rattle.byte_io.specs.Sides.{Meets, Met};
 ghost use Rattle.poolman.specs.Program as spec;
 
 use crate::carry_out::carry_out;
+use byte_io::{Sink, Source, give_all};
 use clap::Error;
 use command_line::{CommandError, command_of};
 use devices::Folder;
-use gear_status::{Sink, Source, give_all};
 use plan_commands::{Exit, Fault};
 use run_command::Host;
 use std::alloc::Global;

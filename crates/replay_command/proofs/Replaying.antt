@@ -3,7 +3,7 @@ use Rattle.std.proofs.Common.{◌≡◌, ◌≢◌, ℕ, List, Ok, Err, refl, ar
 use Rattle.devices.specs.Whole.{IsNotWhole}
 use Rattle.devices.specs.declared.error.InputError.{InputError}
 use Rattle.devices.specs.declared.error.InputError.TheVariants as input
-use Rattle.gear_status.specs.Sides.{Input, Met}
+use Rattle.byte_io.specs.Sides.{Input, Met}
 use Rattle.pool_settings.specs.Settings.{Settings}
 use Rattle.pool_settings.specs.Reading.{reading}
 use Rattle.pool_settings.specs.declared.error.SettingsError.{SettingsError}

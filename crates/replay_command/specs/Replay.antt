@@ -2,7 +2,7 @@
 use Rattle.std.specs.Prelude.{◌≡◌, ◌⊎◌, List, ℕ, string_bytes, Result, Ok, Err}
 use Rattle.devices.specs.Whole.{IsNotWhole, IsUntouched, IsWhole}
 use Rattle.devices.specs.declared.error.InputError.TheVariants as input
-use Rattle.gear_status.specs.Sides.{Met, Output, Undisturbed}
+use Rattle.byte_io.specs.Sides.{Met, Output, Undisturbed}
 use Rattle.pool_replay.specs.Transcript.{IsRun}
 use Rattle.pool_replay.specs.declared.running.End.{End}
 use Rattle.pool_replay.specs.declared.running.End.TheVariants as end

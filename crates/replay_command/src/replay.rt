@@ -1,11 +1,11 @@
 //! The command `replay`: from command lines to what each answers.
 
 ghost use Rattle.std.specs.Prelude.{◌≡◌, ◌-◌, ◌^◌, ◌<◌};
-ghost use Rattle.gear_status.specs.Sides.{Meets, Met};
+ghost use Rattle.byte_io.specs.Sides.{Meets, Met};
 ghost use Rattle.replay_command.specs.Replay as spec;
 
+use byte_io::{Sink, Source};
 use devices::read_whole;
-use gear_status::{Sink, Source};
 use plan_commands::{Exit, Fault, deliver};
 use pool_replay::{End, Outcome, run};
 use pool_settings::Settings;

@@ -2,7 +2,7 @@
 use Rattle.std.specs.Prelude.{◌≡◌, ◌⊎◌, ℕ, ◌+◌, List, [], ◌∷◌, ◌++◌, Bool, true, false, Err, codes, length, nat_lt, if◌then◌else◌}
 use Rattle.std.specs.Fmt.{decimal}
 use Rattle.std.specs.List.{list_any}
-use Rattle.gear_status.specs.Sides.{Output}
+use Rattle.byte_io.specs.Sides.{Output}
 use Rattle.plan_commands.specs.Ending.{Delivers, Stops}
 use Rattle.plan_commands.specs.Fault.{answered}
 use Rattle.plan_commands.specs.Posing.{HaveMeaning}

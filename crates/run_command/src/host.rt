@@ -1,7 +1,7 @@
 //! What a run is lent by the machine that it is on.
 ghost use Rattle.std.specs.Prelude.{◌≡◌, IfSome};
 
-use gear_status::{Sink, Source};
+use byte_io::{Sink, Source};
 use pool_supervisor::{Dial, Progress, Watch};
 use std::sync::Wait;
 use std::thread::Threads;

@@ -7,7 +7,7 @@ ghost use Rattle.run_command.specs.Run as spec;
 use crate::host::{Host, Route};
 use crate::stock::stock_jobs;
 use crate::text::{run_text, status_after};
-use gear_status::Sink;
+use byte_io::Sink;
 use plan_commands::{Exit, Fault, deliver};
 use pool_settings::Settings;
 use pool_supervisor::{ArenaPlanner, RunEnd, run_pool};

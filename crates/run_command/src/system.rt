@@ -1,7 +1,7 @@
 //! The system as the host of a run.
 
 use crate::host::Host;
-use job_runner::TcpLink;
+use devices::TcpLink;
 use pool_supervisor::{Attempt, Progress, Watch, attempt_line};
 use std::alloc::Global;
 use std::net::{Net, TcpStream};

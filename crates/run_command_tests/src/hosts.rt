@@ -1,6 +1,6 @@
 //! Hosts whose job server tells its status and gives no job.
 
-use gear_status::Script;
+use byte_io::doubles::Script;
 use run_command::{Attempt, Host, Progress, Watch};
 use std::alloc::Global;
 use std::sync::Wait;

@@ -1,6 +1,6 @@
 //! A host whose job server has one job.
 
-use gear_status::{Device, DeviceFault, Sink, Source, Took};
+use byte_io::{Device, DeviceFault, Sink, Source, Took};
 use run_command::{Attempt, Host, Progress, Watch};
 use std::alloc::{AllocError, Global};
 use std::sync::atomic::{AtomicU64, Ordering};

@@ -2,7 +2,7 @@
 
 use crate::hosts::Teller;
 use crate::one_job::OneJob;
-use gear_status::Script;
+use byte_io::doubles::Script;
 use plan_commands::{Exit, Fault};
 use pool_settings::SettingsError;
 use run_command::{Host, run_rounds};

@@ -1,7 +1,7 @@
 -- What is told of a settings file, from what is told of its text or of its tree.
 use Rattle.std.proofs.Common.{◌≡◌, ◌∙◌, ℕ, List, Some, Ok, Err, ap, inl, inr, refl, sym}
 use Rattle.std.specs.Option.{option_map_or}
-use Rattle.gear_status.specs.Sides.{Output}
+use Rattle.byte_io.specs.Sides.{Output}
 use Rattle.plan_commands.specs.declared.ending.Exit.{Exit}
 use Rattle.toml.specs.Data.{Members}
 use Rattle.pool_settings.specs.Fault.{RefusesText}

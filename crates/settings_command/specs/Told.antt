@@ -1,6 +1,6 @@
 -- What `settings` writes, and how it ends.
 use Rattle.std.specs.Prelude.{◌≡◌, ◌⊎◌, ℕ, List, Some, Ok, Err}
-use Rattle.gear_status.specs.Sides.{Output}
+use Rattle.byte_io.specs.Sides.{Output}
 use Rattle.toml.specs.Data.{Members}
 use Rattle.plan_commands.specs.Ending.{Delivers, Stops}
 use Rattle.plan_commands.specs.Fault.{answered, refused}

@@ -6,7 +6,7 @@ ghost use Rattle.toml.specs.View.{table_view};
 
 use crate::meaning::meaning_text;
 use crate::place::place_text;
-use gear_status::Sink;
+use byte_io::Sink;
 use plan_commands::{Exit, Fault, deliver};
 use pool_settings::{Settings, SettingsFault, SettingsFile};
 use std::alloc::Global;

@@ -1,7 +1,7 @@
 //! Readers and writers of which some calls fail.
 
 use crate::{InputError, InputSource, LIMIT, OutputSink, read_whole};
-use gear_status::{DeviceFault, Given, Source, Took, give_all};
+use byte_io::{DeviceFault, Given, Source, Took, give_all};
 use std::alloc::{AllocError, Global};
 use std::io;
 use std::io::{ErrorKind, Read, Write};

@@ -1,6 +1,8 @@
 //! Status texts and their loads.
 
-use gear_status::{Load, Script, SliceSource, StatusError, load_of, read_status};
+use byte_io::SliceSource;
+use byte_io::doubles::Script;
+use gear_status::{Load, StatusError, load_of, read_status};
 use refusal::Labelled;
 use std::alloc::{AllocError, Global};
 

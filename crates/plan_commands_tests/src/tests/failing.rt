@@ -3,8 +3,10 @@
 ghost use Rattle.std.specs.Prelude.{◌≡◌, IfOk};
 
 use super::one_worker::{LIMIT, REPORT, SETTINGS, STATUS};
+use byte_io::SliceSource;
+use byte_io::doubles::Script;
 use devices::{InputSource, OutputSink};
-use gear_status::{Script, SliceSource, StatusError, read_status_within};
+use gear_status::{StatusError, read_status_within};
 use plan_commands::{Exit, Fault, check_text, plan_text};
 use pool_report::ReadError;
 use pool_settings::SettingsError;

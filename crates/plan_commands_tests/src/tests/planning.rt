@@ -1,6 +1,8 @@
 //! Whole commands over texts in memory: worked examples, faults, and devices that fail.
 
-use gear_status::{Script, SliceSource, StatusError};
+use byte_io::SliceSource;
+use byte_io::doubles::Script;
+use gear_status::StatusError;
 use plan_commands::{Exit, Fault, check_text, plan_text};
 use pool_report::ReadError;
 use pool_settings::SettingsError;

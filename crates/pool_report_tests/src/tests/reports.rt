@@ -2,7 +2,7 @@
 
 ghost use Rattle.std.specs.Prelude.{◌≡◌, IfOk};
 
-use gear_status::Script;
+use byte_io::doubles::Script;
 use plan_model::{Answer, Input, Reason, check};
 use pool_report::{ReadError, WriteError, read, report_text, write};
 use pool_settings::Settings;

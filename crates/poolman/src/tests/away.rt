@@ -1,6 +1,6 @@
 //! A host from which no job server can be reached.
 
-use gear_status::Script;
+use byte_io::doubles::Script;
 use run_command::{Attempt, Host, Progress, Watch};
 use std::sync::Wait;
 use std::thread::Threads;

@@ -3,9 +3,9 @@
 use super::away::Away;
 use super::one_worker::{LIMIT, MEANING, REPORT, SETTINGS, STATUS};
 use crate::carry_out::carry_out;
+use byte_io::{SliceSource, VecSink};
 use command_line::Command;
 use devices::Folder;
-use gear_status::{SliceSource, VecSink};
 use plan_commands::{Exit, Fault};
 use pool_settings::SettingsError;
 use run_command::Host;

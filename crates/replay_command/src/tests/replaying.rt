@@ -1,7 +1,8 @@
 //! `replay` over texts in memory: worked examples, lines that are no command, and devices that fail.
 
 use crate::run_commands;
-use gear_status::{Script, SliceSource};
+use byte_io::SliceSource;
+use byte_io::doubles::Script;
 use plan_commands::{Exit, Fault};
 use pool_settings::SettingsError;
 use std::alloc::{AllocError, Global};

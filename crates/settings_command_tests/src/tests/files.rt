@@ -1,6 +1,7 @@
 //! Settings files, and what is printed of them.
 
-use gear_status::{Script, VecSink};
+use byte_io::VecSink;
+use byte_io::doubles::Script;
 use plan_commands::{Exit, Fault};
 use pool_settings::SettingsError;
 use settings_command::settings_text;

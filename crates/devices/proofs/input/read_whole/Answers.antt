@@ -1,9 +1,9 @@
 use Rattle.std.proofs.Common.{◌≡◌, ◌+◌, ◌++◌, Ok, length, length-append, take, refl, inl, inr, arith, subst}
 use Rattle.std.proofs.lemmas.List.{length-take-le}
 use Rattle.std.proofs.lemmas.Result.{err_from_is_err_and}
-use Rattle.gear_status.specs.Device.{FitsBuffer, is_end, lull_of, taken}
-use Rattle.gear_status.specs.Sides.{and_then, counted}
-use Rattle.gear_status.proofs.Devices.{lulls_more, lulls_same, none_more, some_more}
+use Rattle.byte_io.specs.Device.{FitsBuffer, is_end, lull_of, taken}
+use Rattle.byte_io.specs.Sides.{and_then, counted}
+use Rattle.byte_io.proofs.Devices.{lulls_more, lulls_same, none_more, some_more}
 use Rattle.devices.proofs.input.read_whole.Goals as goal
 
 pub returns-then-len-count-gt-LIMIT : goal.returns-then-len-count-gt-LIMIT

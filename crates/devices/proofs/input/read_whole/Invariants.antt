@@ -1,5 +1,5 @@
 use Rattle.std.proofs.Common.{◌≡◌, ◌+◌, ◌-◌, ◌≤◌, length}
-use Rattle.gear_status.specs.Sides.{and_then, counted}
+use Rattle.byte_io.specs.Sides.{and_then, counted}
 use Rattle.devices.proofs.input.read_whole.Given as goal
 
 -- the bytes so far are what the source gave

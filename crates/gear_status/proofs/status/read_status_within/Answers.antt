@@ -2,10 +2,10 @@ use Rattle.std.proofs.Common.{◌≡◌, ◌+◌, ◌++◌, Ok, inl, inr, refl, 
 use Rattle.std.proofs.Math.Seq.{take-append_seam}
 use Rattle.std.proofs.lemmas.List.{length-take-le}
 use Rattle.std.proofs.lemmas.Result.{err_from_is_err_and}
-use Rattle.gear_status.specs.Device.{FitsBuffer, is_end, lull_of, taken}
-use Rattle.gear_status.specs.Sides.{and_then, counted}
+use Rattle.byte_io.specs.Device.{FitsBuffer, is_end, lull_of, taken}
+use Rattle.byte_io.specs.Sides.{and_then, counted}
 use Rattle.gear_status.specs.Stream.{EndsWithPiece, LeadsTo}
-use Rattle.gear_status.proofs.Devices.{lulls_more, lulls_same, none_more, some_more}
+use Rattle.byte_io.proofs.Devices.{lulls_more, lulls_same, none_more, some_more}
 use Rattle.gear_status.proofs.Stream.{complete, fault_answer, faulty, led_on, undecided}
 use Rattle.gear_status.proofs.status.read_status_within.Goals as goal
 

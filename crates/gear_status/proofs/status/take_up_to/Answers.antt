@@ -1,6 +1,6 @@
 use Rattle.std.proofs.Common.{drop, sym, ◌∙◌, ap}
-use Rattle.gear_status.specs.Sides.{and_then}
-use Rattle.gear_status.proofs.Devices.{taken_in_front}
+use Rattle.byte_io.specs.Sides.{and_then}
+use Rattle.byte_io.proofs.Devices.{taken_in_front}
 use Rattle.gear_status.proofs.status.take_up_to.Goals as goal
 
 pub returns-clause-bytes : goal.returns-clause-bytes

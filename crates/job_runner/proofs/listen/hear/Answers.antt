@@ -1,8 +1,8 @@
 use Rattle.std.proofs.Common.{◌≡◌, ℕ, ◌++◌, List, Result, Ok, take, ap, subst, ◌∙◌, length, ◌≤◌, ◌+◌, arith}
-use Rattle.gear_status.specs.declared.device.Took.{Took}
-use Rattle.gear_status.specs.declared.device.DeviceFault.{DeviceFault}
-use Rattle.gear_status.specs.Device.{taken}
-use Rattle.gear_status.specs.Sides.{and_then}
+use Rattle.byte_io.specs.declared.device.Took.{Took}
+use Rattle.byte_io.specs.declared.device.DeviceFault.{DeviceFault}
+use Rattle.byte_io.specs.Device.{taken}
+use Rattle.byte_io.specs.Sides.{and_then}
 use Rattle.job_runner.proofs.Told.{goes_behind}
 use Rattle.job_runner.proofs.Listening.{hears_piece, says_first_still, grows}
 use Rattle.job_runner.proofs.listen.hear.Goals as goal

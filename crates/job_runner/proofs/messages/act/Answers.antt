@@ -5,7 +5,7 @@ use Rattle.gear_packets.specs.Reading.{message_of}
 use Rattle.gear_packets.specs.Text.{assignments_in}
 use Rattle.gear_packets.specs.declared.response.Response.{Response}
 use Rattle.job_runner.specs.declared.end.EndCause.TheVariants.{BadPacket, ServerError}
-use Rattle.gear_status.specs.Sides.{and_then}
+use Rattle.byte_io.specs.Sides.{and_then}
 use Rattle.job_runner.specs.Course.{known}
 use Rattle.job_runner.specs.Run.{Acts}
 use Rattle.job_runner.proofs.Orders.{ends_at_rest}

@@ -2,7 +2,7 @@ use Rattle.std.proofs.Common.{ℕ, ◌<◌, List, length, take, Option, sym, ap,
 use Rattle.std.specs.List.{AllByRecursion}
 use Rattle.gear_packets.specs.Request.{IsSent}
 use Rattle.gear_packets.specs.Text.{text_of}
-use Rattle.gear_status.specs.Sides.{and_then}
+use Rattle.byte_io.specs.Sides.{and_then}
 use Rattle.worker_state.specs.Registration.{seen_name}
 use Rattle.job_runner.specs.Course.{IsAccepted, name_of, obeying}
 use Rattle.job_runner.proofs.Names.{order_accepted}

@@ -3,7 +3,7 @@ use Rattle.std.proofs.lemmas.List.{append-nil}
 use Rattle.gear_packets.specs.Request.{spelling}
 use Rattle.gear_packets.specs.Requests.{packet_of}
 use Rattle.gear_packets.specs.Text.{text_of}
-use Rattle.gear_status.specs.Sides.{and_then}
+use Rattle.byte_io.specs.Sides.{and_then}
 use Rattle.job_runner.proofs.sending.send.Goals as goal
 
 pub returns-clause-sends : goal.returns-clause-sends

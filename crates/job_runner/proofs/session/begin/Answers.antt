@@ -1,7 +1,7 @@
 use Rattle.std.proofs.Common.{◌≡◌, ℕ, [], ◌∷◌, List, Ok, Err, refl, sym, subst, ◌∙◌}
 use Rattle.gear_packets.specs.Request.{set_client_id}
 use Rattle.gear_packets.specs.Text.{text_of}
-use Rattle.gear_status.specs.Sides.{and_then}
+use Rattle.byte_io.specs.Sides.{and_then}
 use Rattle.job_runner.specs.declared.state.State.{State}
 use Rattle.job_runner.specs.declared.end.EndCause.TheVariants.{Memory}
 use Rattle.job_runner.specs.Course.{IsAccepted, Sends, Ends}

@@ -1,11 +1,11 @@
 use Rattle.std.proofs.Common.{ℕ, ◌+◌, [], Result, Err, refl, ap, ◌∙◌, arith}
-use Rattle.gear_status.specs.Sides.{Input}
+use Rattle.byte_io.specs.Sides.{Input}
 use Rattle.job_runner.specs.declared.end.EndCause.{EndCause}
 use Rattle.job_runner.specs.declared.end.EndCause.TheVariants.{TurnsUsed}
 use Rattle.job_runner.specs.Book.{Ledger}
 use Rattle.job_runner.specs.Run.{Link}
 use Rattle.job_runner.specs.Loop.{duty_of}
-use Rattle.gear_status.proofs.Devices.{told_nothing}
+use Rattle.byte_io.proofs.Devices.{told_nothing}
 use Rattle.job_runner.proofs.Turning.{outer_reason, read_reason, begun_halts, begun_stands, reason_from, stands_halts}
 use Rattle.job_runner.proofs.session.serve.Goals as goal
 

@@ -1,5 +1,5 @@
 use Rattle.std.proofs.Common.{◌≡◌, ℕ, ◌-◌, ◌*◌, ◌≤◌, List, length}
-use Rattle.gear_status.specs.Sides.{and_then}
+use Rattle.byte_io.specs.Sides.{and_then}
 use Rattle.job_runner.specs.Loop.{duty_of, Stands}
 use Rattle.job_runner.proofs.session.serve.Given as goal
 

@@ -1,6 +1,6 @@
 use Rattle.std.proofs.Common.{ℕ, ◌+◌, Result, Err, refl, ap, ◌∙◌, arith}
 use Rattle.gear_packets.specs.Text.{assignments_in}
-use Rattle.gear_status.specs.Sides.{Input, Output}
+use Rattle.byte_io.specs.Sides.{Input, Output}
 use Rattle.job_runner.specs.declared.end.EndCause.{EndCause}
 use Rattle.job_runner.specs.Run.{Link}
 use Rattle.job_runner.specs.Loop.{duty_of}

@@ -2,9 +2,9 @@
 use Rattle.std.specs.Prelude.{◌≡◌, ℕ, ◌+◌, ◌-◌, ◌<◌, ◌≤◌, ◌==◌, ◌⊎◌, List, [], ◌++◌, Bool, true, false, Option, None, Some, Result, Ok}
 use Rattle.std.specs.Prelude.{Err, drop, get_or, if◌then◌else◌, length, min, take}
 use Rattle.std.specs.List.{concat}
-use Rattle.gear_status.specs.declared.device.DeviceFault.{DeviceFault}
-use Rattle.gear_status.specs.declared.device.Took.{Took}
-use Rattle.gear_status.specs.declared.device.Took.TheVariants as took
+use Rattle.byte_io.specs.declared.device.DeviceFault.{DeviceFault}
+use Rattle.byte_io.specs.declared.device.Took.{Took}
+use Rattle.byte_io.specs.declared.device.Took.TheVariants as took
 
 -- What is read: the pieces, of which one without bytes is a lull; how many of them are done; how many bytes of the next were given;
 -- how many lulls were told; and whether the last read found the end. What is written, and how many bytes a write takes at most. For

@@ -5,13 +5,13 @@ use Rattle.std.specs.List.{concat}
 use Rattle.std.specs.declared.alloc.Global.{Global}
 use Rattle.std.proofs.Math.Seq.{take-add}
 use Rattle.std.proofs.lemmas.List.{append-nil, get_or-map, length-map, take_all}
-use Rattle.gear_status.specs.Device.{failure_of, is_end, lull_of, taken}
-use Rattle.gear_status.specs.Memory.{Read, ReadsText}
-use Rattle.gear_status.specs.Played.{pieces_view}
-use Rattle.gear_status.specs.Script.{GoesOn, Play, Reads, next_piece, fails, given, read_once}
-use Rattle.gear_status.specs.declared.device.DeviceFault.{DeviceFault}
-use Rattle.gear_status.specs.declared.device.Took.{Took}
-use Rattle.gear_status.specs.declared.device.Took.TheVariants as took
+use Rattle.byte_io.specs.Device.{failure_of, is_end, lull_of, taken}
+use Rattle.byte_io.specs.Memory.{Read, ReadsText}
+use Rattle.byte_io.specs.Played.{pieces_view}
+use Rattle.byte_io.specs.Script.{GoesOn, Play, Reads, next_piece, fails, given, read_once}
+use Rattle.byte_io.specs.declared.device.DeviceFault.{DeviceFault}
+use Rattle.byte_io.specs.declared.device.Took.{Took}
+use Rattle.byte_io.specs.declared.device.Took.TheVariants as took
 
 -- what was read of a text is told behind what was read before
 pub text_bytes : (old : Read) (buffer : List ℕ) (r : Result Took DeviceFault) (new : Read) → ReadsText old buffer r new

@@ -1,7 +1,7 @@
-//! A device in memory that follows a script, for tests.
+//! Devices for tests: one in memory that follows a script.
 
 ghost use Rattle.std.specs.Prelude.{◌≡◌, ◌<◌, ◌≤◌, ◌-◌, ◌^◌, ◌++◌, ◌∷◌, [], min, length, take, IfOk, OnOk, OnErr, Some, None};
-ghost use Rattle.gear_status.specs.Script.{Reads, Writes, first_play, fails, one_less};
+ghost use Rattle.byte_io.specs.Script.{Reads, Writes, first_play, fails, one_less};
 
 use crate::device::{Device, DeviceFault, Sink, Source, Took};
 use std::alloc::{AllocError, Global};
@@ -25,11 +25,11 @@ pub struct Script {
 }
 
 impl Model for Script {
-    ghost use Rattle.gear_status.specs.Script.{IsPlay, Play};
+    ghost use Rattle.byte_io.specs.Script.{IsPlay, Play};
 
     ghost Value = { Play };
 
-    ghost use Rattle.gear_status.specs.Played.{play_view};
+    ghost use Rattle.byte_io.specs.Played.{play_view};
 
     ghost view = { play_view };
 
@@ -185,7 +185,7 @@ fn copy_front(from: &[u8], into: &mut [u8]) -> usize
 
 impl Device for Script {
     ghost use Rattle.std.specs.Prelude.{Some};
-    ghost use Rattle.gear_status.specs.Script.{given};
+    ghost use Rattle.byte_io.specs.Script.{given};
 
     ghost input = { λ s. record { given = Some (given s); lulls = Some s.lulls; failures = s.take_failures; has_ended = s.has_ended } };
 

@@ -1,8 +1,8 @@
 -- Devices over memory, as values.
 use Rattle.std.specs.Prelude.{◌≡◌, ℕ, ◌+◌, ◌-◌, ◌<◌, ◌≤◌, List, Bool, true, false, Result, Ok, Err, drop, length, min, take}
-use Rattle.gear_status.specs.declared.device.DeviceFault.{DeviceFault}
-use Rattle.gear_status.specs.declared.device.Took.{Took}
-use Rattle.gear_status.specs.declared.device.Took.TheVariants as took
+use Rattle.byte_io.specs.declared.device.DeviceFault.{DeviceFault}
+use Rattle.byte_io.specs.declared.device.Took.{Took}
+use Rattle.byte_io.specs.declared.device.Took.TheVariants as took
 
 -- a text, how many of its bytes were read, and whether its end was told
 pub record Read : Type 0 where

@@ -1,9 +1,9 @@
 //! A TCP stream as a source and a sink.
 
 ghost use Rattle.std.specs.Prelude.{◌≡◌, ◌≤◌, IfOk};
-ghost use Rattle.gear_status.specs.Sides.{no_input, no_output};
+ghost use Rattle.byte_io.specs.Sides.{no_input, no_output};
 
-use gear_status::{Device, DeviceFault, Sink, Source, Took};
+use byte_io::{Device, DeviceFault, Sink, Source, Took};
 use std::io;
 use std::io::{ErrorKind, Read, Write};
 use std::net::{Net, TcpStream, ToSocketAddrs};

@@ -1,8 +1,8 @@
 -- A scripted device as the code keeps it.
 use Rattle.std.specs.Prelude.{ℕ, List, map, Vec}
 use Rattle.std.specs.declared.alloc.Global.{Global}
-use Rattle.gear_status.specs.Script.{Play}
-use Rattle.gear_status.specs.declared.script.Script.TheInside.{Inside}
+use Rattle.byte_io.specs.Script.{Play}
+use Rattle.byte_io.specs.declared.doubles.Script.TheInside.{Inside}
 
 abbrev pub pieces_view : List (Vec ℕ Global) → List (List ℕ)
 pieces_view = map (λ piece. piece.items)

@@ -1,8 +1,8 @@
 //! What bytes are read from and written to.
 
 ghost use Rattle.std.specs.Prelude.{◌≡◌, ◌+◌, ◌-◌, ◌^◌, ◌<◌, ◌≤◌, length, IfOk, IfErr, OnOk, OnErr, take};
-ghost use Rattle.gear_status.specs.Device.{FitsBuffer, failure_of, gone, is_end, lull_of, taken};
-ghost use Rattle.gear_status.specs.Sides.{HasFront, HasText, Input, Output, and_then, counted, no_input, no_output};
+ghost use Rattle.byte_io.specs.Device.{FitsBuffer, failure_of, gone, is_end, lull_of, taken};
+ghost use Rattle.byte_io.specs.Sides.{HasFront, HasText, Input, Output, and_then, counted, no_input, no_output};
 
 use thiserror::Error;
 

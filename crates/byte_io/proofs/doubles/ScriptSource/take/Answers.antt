@@ -1,6 +1,6 @@
 use Rattle.std.proofs.Common.{Some, ap, refl}
-use Rattle.gear_status.proofs.Scripts.{reads_bytes, reads_tell}
-use Rattle.gear_status.proofs.script.ScriptSource.take.Goals as goal
+use Rattle.byte_io.proofs.Scripts.{reads_bytes, reads_tell}
+use Rattle.byte_io.proofs.doubles.ScriptSource.take.Goals as goal
 
 pub returns-clause-bytes : goal.returns-clause-bytes
 returns-clause-bytes c = ap Some (reads_bytes c.args.self.now c.read.new.buffer c.read.result c.read.new.self c.read.ensures.reads)

@@ -1,9 +1,9 @@
 use Rattle.std.proofs.Common.{◌≡◌, ◌<◌, ◌-◌, ◌∙◌, arith, drop, length, length-drop, subst, sym, take}
-use Rattle.text_pieces.proofs.Cutting.{rest_taken}
-use Rattle.gear_status.proofs.Scripts.{due_is, part_read, pieces_count, whole_read}
-use Rattle.gear_status.specs.Played.{play_view}
-use Rattle.gear_status.specs.Script.{next_piece}
-use Rattle.gear_status.proofs.script.Script.read.Goals as goal
+use Rattle.byte_io.proofs.Devices.{rest_taken}
+use Rattle.byte_io.proofs.Scripts.{due_is, part_read, pieces_count, whole_read}
+use Rattle.byte_io.specs.Played.{play_view}
+use Rattle.byte_io.specs.Script.{next_piece}
+use Rattle.byte_io.proofs.doubles.Script.read.Goals as goal
 
 pub returns-then-count-left : goal.returns-then-count-left
 returns-then-count-left c =

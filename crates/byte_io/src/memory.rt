@@ -1,7 +1,7 @@
 //! Devices over memory, which tell their bytes.
 
 ghost use Rattle.std.specs.Prelude.{◌≡◌, ◌<◌, ◌≤◌, ◌^◌, ◌+◌, ◌-◌, ◌++◌, [], IfOk, OnErr, false, length};
-ghost use Rattle.gear_status.specs.Memory.{ReadsText};
+ghost use Rattle.byte_io.specs.Memory.{ReadsText};
 
 use crate::device::{Device, DeviceFault, Sink, Source, Took};
 use std::alloc::Global;
@@ -17,7 +17,7 @@ pub struct SliceSource<'s> {
 
 impl<'s> Model for SliceSource<'s> {
     ghost use Rattle.std.specs.Prelude.{◌≡◌, ◌≤◌, length, true};
-    ghost use Rattle.gear_status.specs.Memory.{IsRead, Read};
+    ghost use Rattle.byte_io.specs.Memory.{IsRead, Read};
 
     ghost Value = { Read };
 
@@ -79,7 +79,7 @@ pub struct VecSink {
 }
 
 impl Model for VecSink {
-    ghost use Rattle.gear_status.specs.Memory.{Written};
+    ghost use Rattle.byte_io.specs.Memory.{Written};
 
     ghost Value = { Written };
 

@@ -1,0 +1,5 @@
+pub mod Device
+pub mod Sides
+pub mod Memory
+pub mod Script
+pub mod Played

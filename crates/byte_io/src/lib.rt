@@ -1,0 +1,12 @@
+//! What bytes are read from and written to: sources and sinks, and those over memory.
+//!
+//! [`Source`] and [`Sink`] are the two sides of a [`Device`]. [`SliceSource`] and [`VecSink`] are over memory, and [`doubles`]
+//! has a device for tests.
+#![tactic(auto)]
+
+mod device;
+pub mod doubles;
+mod memory;
+
+pub use device::{Device, DeviceFault, Given, Sink, Source, Took, give_all};
+pub use memory::{SliceSource, VecSink};
