@@ -1,3 +1,4 @@
+pub mod BoardRefusals
 pub mod Posts
 pub mod Rule
 pub mod Seats

@@ -9,6 +9,7 @@ use crate::seat::{PublisherSeat, ReaderSeat, SeatSource};
 use crate::view::View;
 use atomic_table::{Seat, Table};
 use plan_model::{MAX_WORKERS, SlotId};
+use refusal::{Label, Labelled};
 use std::alloc::{AllocError, Global};
 use std::marker::{Brand, Model};
 use thiserror::Error;
@@ -56,6 +57,20 @@ pub enum BoardError {
     /// There was no memory.
     #[error("out of memory")]
     Memory,
+}
+
+/// The number of a refusal is its place in the list of variants, 1 or 2.
+impl Labelled for BoardError {
+    ghost use Rattle.order_board.specs.BoardRefusals.{board_label};
+
+    ghost label = { board_label };
+
+    fn label(&self) -> Label {
+        match self {
+            BoardError::TooMany => Label::new(1, "TooMany"),
+            BoardError::Memory => Label::new(2, "Memory"),
+        }
+    }
 }
 
 impl Board {

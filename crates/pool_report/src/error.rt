@@ -64,3 +64,17 @@ pub enum WriteError {
     #[error("out of memory")]
     Memory,
 }
+
+/// The number of a refusal is its place in the list of variants, 1 or 2.
+impl Labelled for WriteError {
+    ghost use Rattle.pool_report.specs.ReportRefusals.{write_label};
+
+    ghost label = { write_label };
+
+    fn label(&self) -> Label {
+        match self {
+            WriteError::WriteFault(_) => Label::new(1, "WriteFault"),
+            WriteError::Memory => Label::new(2, "Memory"),
+        }
+    }
+}
