@@ -11,19 +11,18 @@ use Rattle.clap.specs.Facts.{args_of, groups_of, least_values}
 use Rattle.clap.specs.Built.{AddsArg, FitsChain, IsParsedFrom, IsPlain, IsPlainArg, TakesValue}
 use Rattle.clap.specs.Matches.{ReadsOne, found_of, one_text}
 use Rattle.clap.specs.Values.{Accepts, IsSignedIn, read_as, reading_of}
-use Rattle.clap.specs.Walk.{one_of, rows_of, rule_of}
+use Rattle.clap.specs.Walk.{one_of, rows_of}
 use Rattle.clap.specs.declared.builder.action.ArgAction.TheVariants.{Set}
 use Rattle.clap.specs.declared.builder.arg.Arg.{Arg}
 use Rattle.clap.specs.declared.builder.command.Command.{Command}
 use Rattle.clap.specs.declared.builder.command.Command.TheViews.{out-Command}
 use Rattle.clap.specs.declared.builder.value_parser.ValueParser.{ValueParser}
-use Rattle.clap.specs.declared.builder.value_parser.ValueParser.TheVariants.{Signed}
 use Rattle.clap.specs.declared.parser.matches.ArgMatches.{ArgMatches}
 use Rattle.clap.specs.declared.parser.matches.Found.{Found}
 use Rattle.clap.proofs.CallerLemmas.{added_plain}
 use Rattle.clap.proofs.CallerReads.{required_reads, signed_reads}
 use Rattle.clap.proofs.WalkLemmas.{one_text-rows}
-use Rattle.command_line.specs.Words.{decimal, number}
+use Rattle.command_line.specs.Words.{decimal}
 use Rattle.command_line.proofs.Chain.{Differ}
 
 -- no argument of the two but the second has the second's id
@@ -38,7 +37,7 @@ only_second a b xs list other d j e low same =
     go (suc (suc i)) lt s = absurd (omega arith)
 
 -- the second of two arguments, required and with a parser, has a text that passed the parser, and is read as the parser says
-second_reads : (start mid cmd : Command) (a b : Arg) (m : ArgMatches) → AddsArg start a mid → AddsArg mid b cmd
+pub second_reads : (start mid cmd : Command) (a b : Arg) (m : ArgMatches) → AddsArg start a mid → AddsArg mid b cmd
     → args_of start ≡ [] → groups_of start ≡ [] → (out-Command start).has_globals ≡ false → (out-Command start).subcommand_negates_reqs ≡ false
     → FitsChain a → FitsChain b → Differ a b → TakesValue b → (q : ValueParser) → b.value_parser ≡ Some q → IsParsedFrom cmd m
     → (t : List ℕ) × (one_text (found_of m) b.id.now ≡ Some (read_as (reading_of q) t)) × Accepts b.ignore_case q t
@@ -74,7 +73,7 @@ read_is_decimal : {E : Type 0} (G : List ℕ → Result ℕ E → Type 0) (k : �
 read_is_decimal G k u n only read = (only u (Ok n) read).1
 
 -- `get_one` of an operand whose text passed a range without negative numbers gives a number in the range, that of the text
-number_given : {E : Type 0} (G : List ℕ → Result ℕ E → Type 0) (k low high : ℕ) (f : Found) (id t : List ℕ) (r : Option ℕ)
+pub number_given : {E : Type 0} (G : List ℕ → Result ℕ E → Type 0) (k low high : ℕ) (f : Found) (id t : List ℕ) (r : Option ℕ)
     → ((u : List ℕ) → one_text f id ≡ Some u → ReadsOne G u r)
     → ((w : List ℕ) (x : Result ℕ E) → G w x → ParsesUnsigned k 10 w x) → high < 2 ^ k
     → one_text f id ≡ Some (without_minus t) → IsSignedIn (pos low) (pos high) t
@@ -89,18 +88,3 @@ number_given {E} G k low high f id t r reads only small text passed =
       got.3,
       ap (option_map decimal) (sym (one_text-rows f id) ∙ text) ∙ ap (λ n. Some n) (sym is),
     )
-
--- and so of the second of two operands, where it is a number
-pub second_number : {E : Type 0} (G : List ℕ → Result ℕ E → Type 0) (k low high : ℕ) (start mid cmd : Command) (a b : Arg) (id : List ℕ)
-    (m : ArgMatches) (r : Option ℕ) → AddsArg start a mid → AddsArg mid b cmd
-    → args_of start ≡ [] → groups_of start ≡ [] → (out-Command start).has_globals ≡ false → (out-Command start).subcommand_negates_reqs ≡ false
-    → FitsChain a → FitsChain b → Differ a b → TakesValue b → rule_of b ≡ number id low high → IsParsedFrom cmd m
-    → ((u : List ℕ) → one_text (found_of m) id ≡ Some u → ReadsOne G u r)
-    → ((w : List ℕ) (x : Result ℕ E) → G w x → ParsesUnsigned k 10 w x) → high < 2 ^ k
-    → (n : ℕ) × (r ≡ Some n) × (low ≤ n) × (n ≤ high) × (option_map decimal (one_of id (rows_of (found_of m))) ≡ Some n)
-second_number G k low high start mid cmd a b id m r one two args groups globals negates a_fits b_fits other value rule p reads only small =
-    let read = second_reads start mid cmd a b m one two args groups globals negates a_fits b_fits other value (Signed (pos low) (pos high))
-    (ap (λ x. x.parser) rule) p in
-    let is : b.id.now ≡ id = ap (λ x. x.id) rule in
-    number_given G k low high (found_of m) id read.0 r reads only small
-    (subst (λ (w : List ℕ). one_text (found_of m) w ≡ Some (without_minus read.0)) is read.1) read.2

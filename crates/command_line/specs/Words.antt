@@ -8,7 +8,7 @@ use Rattle.clap.specs.Lexer.{usize_max}
 use Rattle.clap.specs.Walk.{Text, Row, Rule, first_of, all_of, one_of}
 use Rattle.clap.specs.Kinds.{or_else}
 use Rattle.clap.specs.Words.{Kinds, fault_of}
-use Rattle.clap.specs.Simple.{App, matches_of, new_app, new_rule, new_shape, on_top, with_rule, with_subcommand}
+use Rattle.clap.specs.Simple.{App, matches_of, new_app, new_rule, on_top, with_rule, with_subcommand}
 use Rattle.clap.specs.declared.builder.action.ArgAction.TheVariants.{Set, Append}
 use Rattle.clap.specs.declared.builder.value_parser.ValueParser.TheVariants.{Signed}
 use Rattle.clap.specs.declared.error.kind.ErrorKind.TheVariants.{MissingSubcommand}

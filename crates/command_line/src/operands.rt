@@ -1,11 +1,13 @@
 //! The command line of each command, as a command of `clap` of its own.
 
-ghost use Rattle.std.specs.Prelude.{◌≡◌, ◌<◌, ◌≤◌, IfOk, IsSomeAnd, Some, [], false, length, map, true};
+ghost use Rattle.std.specs.Prelude.{◌≡◌, ◌<◌, ◌≤◌, IfOk, IsSomeAnd, Some, [], false, is_some, length, map, true};
 ghost use Rattle.clap.specs.Built.{FitsChain, TakesValue};
 ghost use Rattle.clap.specs.Words.{FailsBy, HasKind, IsPlainArg, app_of, args_of, fault_of, found_of, groups_of, rows_of, rule_of};
+ghost use Rattle.clap.specs.Matches.{first_value};
 ghost use Rattle.clap.specs.Simple.{matches_of, new_app};
 ghost use Rattle.clap.specs.Walk.{first_of};
 ghost use Rattle.clap.specs.declared.builder.command.Command.TheViews.{out-Command as fields_of};
+ghost use Rattle.command_line.specs.Required.{Requires, RequiresNumber};
 ghost use Rattle.command_line.specs.Words as spec;
 
 use clap::error::ErrorKind;
@@ -162,6 +164,80 @@ fn command<'a>(alloc: Global, name: &'a str, help: Help) -> Command<'a>
         .after_help(help.example)
 }
 
+/// `plan` with its operands.
+fn plan<'a>(alloc: Global) -> Result<Command<'a>, AllocError>
+    ensures app { IfOk result (λ c. app_of c ≡ spec.plan_app) }
+    ensures local { IfOk result (λ c. (fields_of c).has_globals ≡ false) }
+    ensures settings { IfOk result (Requires spec.settings) }
+{
+    command(alloc, "plan", PLAN)
+        .arg(settings(alloc))?
+        .arg(lost(alloc))
+}
+
+/// `check` with its operands.
+fn check<'a>(alloc: Global) -> Result<Command<'a>, AllocError>
+    ensures app { IfOk result (λ c. app_of c ≡ spec.check_app) }
+    ensures local { IfOk result (λ c. (fields_of c).has_globals ≡ false) }
+    ensures settings { IfOk result (Requires spec.settings) }
+    ensures status { IfOk result (Requires spec.status) }
+{
+    command(alloc, "check", CHECK)
+        .arg(settings(alloc))?
+        .arg(status(alloc))?
+        .arg(lost(alloc))
+}
+
+/// A command whose one operand is its settings.
+fn settings_alone<'a>(alloc: Global, name: &'a str, help: Help) -> Result<Command<'a>, AllocError>
+    ensures app { IfOk result (λ c. app_of c ≡ spec.settings_alone name.entry.now) }
+    ensures local { IfOk result (λ c. (fields_of c).has_globals ≡ false) }
+    ensures settings { IfOk result (Requires spec.settings) }
+{
+    command(alloc, name, help).arg(settings(alloc))
+}
+
+/// `replay` with its operand.
+fn replay<'a>(alloc: Global) -> Result<Command<'a>, AllocError>
+    ensures app { IfOk result (λ c. app_of c ≡ spec.replay_app) }
+    ensures local { IfOk result (λ c. (fields_of c).has_globals ≡ false) }
+    ensures settings { IfOk result (Requires spec.settings) }
+{
+    settings_alone(alloc, "replay", REPLAY)
+}
+
+/// `settings` with its operand.
+fn show_settings<'a>(alloc: Global) -> Result<Command<'a>, AllocError>
+    ensures app { IfOk result (λ c. app_of c ≡ spec.settings_app) }
+    ensures local { IfOk result (λ c. (fields_of c).has_globals ≡ false) }
+    ensures settings { IfOk result (Requires spec.settings) }
+{
+    settings_alone(alloc, "settings", SETTINGS)
+}
+
+/// `run` with its operands.
+fn run<'a>(alloc: Global) -> Result<Command<'a>, AllocError>
+    ensures app { IfOk result (λ c. app_of c ≡ spec.run_app) }
+    ensures local { IfOk result (λ c. (fields_of c).has_globals ≡ false) }
+    ensures settings { IfOk result (Requires spec.settings) }
+    ensures rounds { IfOk result (RequiresNumber spec.rounds spec.least_rounds spec.most_rounds) }
+{
+    command(alloc, "run", RUN)
+        .arg(settings(alloc))?
+        .arg(rounds(alloc))
+}
+
+/// The word of an operand that has to be there.
+fn text_of<'a>(matches: &ArgMatches<'a>, id: &str) -> &'a str
+    requires { is_some (first_value (found_of matches.now) id.now) ≡ true }
+    ensures { first_of id.now (rows_of (found_of matches.now)) ≡ Some result.now }
+{
+    let Some(text) = matches.get_str(id) else {
+        unreachable!()
+    };
+    text
+}
+
 /// The words of several operands, if any were given.
 fn lost_in<'a>(alloc: Global, matches: &ArgMatches<'a>) -> Result<Vec<&'a str>, AllocError>
     ensures { IfOk result (λ v. map (λ w. w.now) v.items ≡ spec.lost_in (rows_of (found_of matches.now))) }
@@ -181,16 +257,10 @@ pub fn plan_words<'a, W: AsStr>(
     ensures lost { IfOk result (λ m. map (λ w. w.now) m.1.items ≡ spec.lost_in (matches_of spec.plan_app (map W.text words.now))) }
     ensures kinds { FailsBy (fault_of spec.plan_app (map W.text words.now)) result }
 {
-    let settings = settings(alloc);
-    let lost = lost(alloc);
-    let command = command(alloc, "plan", PLAN);
-    let command = command.arg(settings)?.arg(lost)?;
+    let command = plan(alloc)?;
     let matches = command.try_get_matches_from(words)?;
     let lost = lost_in(alloc, &matches)?;
-    let Some(settings) = matches.get_str("SETTINGS") else {
-        unreachable!()
-    };
-    Ok((settings, lost))
+    Ok((text_of(&matches, "SETTINGS"), lost))
 }
 
 /// The texts of the words of `check`: its settings, its status text and who is lost.
@@ -203,41 +273,12 @@ pub fn check_words<'a, W: AsStr>(
     ensures lost { IfOk result (λ m. map (λ w. w.now) m.2.items ≡ spec.lost_in (matches_of spec.check_app (map W.text words.now))) }
     ensures kinds { FailsBy (fault_of spec.check_app (map W.text words.now)) result }
 {
-    let settings = settings(alloc);
-    let status = status(alloc);
-    let lost = lost(alloc);
-    let command = command(alloc, "check", CHECK);
-    let command = command.arg(settings)?.arg(status)?.arg(lost)?;
+    let command = check(alloc)?;
     let matches = command.try_get_matches_from(words)?;
     let lost = lost_in(alloc, &matches)?;
-    let Some(settings) = matches.get_str("SETTINGS") else {
-        unreachable!()
-    };
-    let Some(status) = matches.get_str("STATUS") else {
-        unreachable!()
-    };
+    let settings = text_of(&matches, "SETTINGS");
+    let status = text_of(&matches, "STATUS");
     Ok((settings, status, lost))
-}
-
-/// The text of the word of a command whose one operand is its settings.
-fn settings_alone<'a, W: AsStr>(
-    alloc: Global,
-    name: &'a str,
-    help: Help,
-    words: &'a [W],
-) -> Result<&'a str, Error>
-    ensures settings { IfOk result
-        (λ m. first_of spec.settings (matches_of (spec.settings_alone name.entry.now) (map W.text words.now)) ≡ Some m.now) }
-    ensures kinds { FailsBy (fault_of (spec.settings_alone name.entry.now) (map W.text words.now)) result }
-{
-    let settings = settings(alloc);
-    let command = command(alloc, name, help);
-    let command = command.arg(settings)?;
-    let matches = command.try_get_matches_from(words)?;
-    let Some(settings) = matches.get_str("SETTINGS") else {
-        unreachable!()
-    };
-    Ok(settings)
 }
 
 /// The text of the word of `replay`: its settings.
@@ -245,7 +286,9 @@ pub fn replay_words<'a, W: AsStr>(alloc: Global, words: &'a [W]) -> Result<&'a s
     ensures settings { IfOk result (λ m. first_of spec.settings (matches_of spec.replay_app (map W.text words.now)) ≡ Some m.now) }
     ensures kinds { FailsBy (fault_of spec.replay_app (map W.text words.now)) result }
 {
-    settings_alone(alloc, "replay", REPLAY, words)
+    let command = replay(alloc)?;
+    let matches = command.try_get_matches_from(words)?;
+    Ok(text_of(&matches, "SETTINGS"))
 }
 
 /// The text of the word of `settings`: the settings.
@@ -253,7 +296,9 @@ pub fn settings_words<'a, W: AsStr>(alloc: Global, words: &'a [W]) -> Result<&'a
     ensures settings { IfOk result (λ m. first_of spec.settings (matches_of spec.settings_app (map W.text words.now)) ≡ Some m.now) }
     ensures kinds { FailsBy (fault_of spec.settings_app (map W.text words.now)) result }
 {
-    settings_alone(alloc, "settings", SETTINGS, words)
+    let command = show_settings(alloc)?;
+    let matches = command.try_get_matches_from(words)?;
+    Ok(text_of(&matches, "SETTINGS"))
 }
 
 /// What the words of `run` give: its settings and its rounds.
@@ -263,65 +308,12 @@ pub fn run_words<'a, W: AsStr>(alloc: Global, words: &'a [W]) -> Result<(&'a str
     ensures range { IfOk result (λ m. (spec.least_rounds ≤ m.1) × (m.1 ≤ spec.most_rounds)) }
     ensures kinds { FailsBy (fault_of spec.run_app (map W.text words.now)) result }
 {
-    let settings = settings(alloc);
-    let rounds = rounds(alloc);
-    let command = command(alloc, "run", RUN);
-    let command = command.arg(settings)?.arg(rounds)?;
+    let command = run(alloc)?;
     let matches = command.try_get_matches_from(words)?;
-    let Some(settings) = matches.get_str("SETTINGS") else {
-        unreachable!()
-    };
     let Some(rounds) = matches.get_one::<u32>("ROUNDS") else {
         unreachable!()
     };
-    Ok((settings, rounds))
-}
-
-/// `plan` with its operands, as the help of the program explains it.
-fn plan_help<'a>(alloc: Global) -> Result<Command<'a>, AllocError>
-    ensures app { IfOk result (λ c. app_of c ≡ spec.plan_app) }
-    ensures local { IfOk result (λ c. (fields_of c).has_globals ≡ false) }
-{
-    command(alloc, "plan", PLAN)
-        .arg(settings(alloc))?
-        .arg(lost(alloc))
-}
-
-/// `check` with its operands.
-fn check_help<'a>(alloc: Global) -> Result<Command<'a>, AllocError>
-    ensures app { IfOk result (λ c. app_of c ≡ spec.check_app) }
-    ensures local { IfOk result (λ c. (fields_of c).has_globals ≡ false) }
-{
-    command(alloc, "check", CHECK)
-        .arg(settings(alloc))?
-        .arg(status(alloc))?
-        .arg(lost(alloc))
-}
-
-/// `replay` with its operand.
-fn replay_help<'a>(alloc: Global) -> Result<Command<'a>, AllocError>
-    ensures app { IfOk result (λ c. app_of c ≡ spec.replay_app) }
-    ensures local { IfOk result (λ c. (fields_of c).has_globals ≡ false) }
-{
-    command(alloc, "replay", REPLAY).arg(settings(alloc))
-}
-
-/// `settings` with its operand.
-fn settings_help<'a>(alloc: Global) -> Result<Command<'a>, AllocError>
-    ensures app { IfOk result (λ c. app_of c ≡ spec.settings_app) }
-    ensures local { IfOk result (λ c. (fields_of c).has_globals ≡ false) }
-{
-    command(alloc, "settings", SETTINGS).arg(settings(alloc))
-}
-
-/// `run` with its operands.
-fn run_help<'a>(alloc: Global) -> Result<Command<'a>, AllocError>
-    ensures app { IfOk result (λ c. app_of c ≡ spec.run_app) }
-    ensures local { IfOk result (λ c. (fields_of c).has_globals ≡ false) }
-{
-    command(alloc, "run", RUN)
-        .arg(settings(alloc))?
-        .arg(rounds(alloc))
+    Ok((text_of(&matches, "SETTINGS"), rounds))
 }
 
 /// The command line of words that name no command.
@@ -331,11 +323,11 @@ fn program<'a>(alloc: Global) -> Result<Command<'a>, AllocError>
     command(alloc, "poolman", PROGRAM)
         .version(VERSION)
         .subcommand_required(true)
-        .subcommand(plan_help(alloc)?)?
-        .subcommand(check_help(alloc)?)?
-        .subcommand(replay_help(alloc)?)?
-        .subcommand(settings_help(alloc)?)?
-        .subcommand(run_help(alloc)?)
+        .subcommand(plan(alloc)?)?
+        .subcommand(check(alloc)?)?
+        .subcommand(replay(alloc)?)?
+        .subcommand(show_settings(alloc)?)?
+        .subcommand(run(alloc)?)
 }
 
 /// What to print where the words name no command: the help that they ask for, or what is wrong.

@@ -1,99 +1,43 @@
-use Rattle.std.proofs.Common.{◌≡◌, [], ◌∷◌, map, is_some, arith, refl, ap, sym, subst, ◌∙◌, true}
-use Rattle.std.proofs.lemmas.Bool.{false≢true}
+use Rattle.std.proofs.Common.{◌≡◌, [], map, refl, ap, sym, subst, ◌∙◌, true}
 use Rattle.std.proofs.lemmas.Result.{err_from_is_err_and}
 use Rattle.clap.specs.Simple.{HasMatchesOf}
-use Rattle.clap.specs.Words.{HasKind, fault_of, found_of, is_simple_and_free}
+use Rattle.clap.specs.Words.{HasKind, fault_of, is_simple_and_free}
 use Rattle.clap.specs.Walk.{first_of}
-use Rattle.clap.proofs.CallerLemmas.{required_in_chain, some_of_text}
 use Rattle.command_line.specs.Words as spec
-use Rattle.command_line.proofs.Rows.{first_of_rows}
-use Rattle.command_line.proofs.Chain.{app_of_three, all_fit, three_in_turn, three_distinct, differ}
 use Rattle.command_line.proofs.operands.check_words.Goals as goal
 
 pub returns-in_err-matches-clause-kinds : goal.returns-in_err-matches-clause-kinds
 returns-in_err-matches-clause-kinds g c =
-    let s = c.settings-settings in
-    let t = c.status-status in
-    let l = c.lost-lost in
-    let shape = app_of_three c.command-command.result c.in_ok-arg.field-0 c.in_ok-arg-2.field-0 c.in_ok-command.command s.result t.result l.result c.in_ok-arg.ensures c.in_ok-arg-2.ensures c.in_ok-command.ensures
-    s.ensures.fits t.ensures.fits l.ensures.fits c.command-command.ensures.app s.ensures.rule t.ensures.rule l.ensures.rule in
     let p = err_from_is_err_and c.from_residual-in_err-matches.result c.from_residual-in_err-matches.ensures.1 in
     rw (p.1, p.2)
     (subst (λ a. is_simple_and_free a ≡ true → HasKind (fault_of a (map g.W.AsStr.text c.args.words.now)) c.in_err-matches.field-0.0)
-    shape c.in_err-matches.ensures.kinds refl)
+    c.in_ok-command.ensures.app c.in_err-matches.ensures.kinds refl)
 
-pub unreachable-requires : goal.unreachable-requires
-unreachable-requires g c =
-    let s = c.settings-settings in
-    let t = c.status-status in
-    let l = c.lost-lost in
-    let given = required_in_chain c.command-command.result c.in_ok-command.command (s.result ∷ t.result ∷ l.result ∷ []) 0 s.result c.in_ok-matches.matches
-    (three_in_turn c.command-command.result c.in_ok-arg.field-0 c.in_ok-arg-2.field-0 c.in_ok-command.command s.result t.result l.result c.in_ok-arg.ensures c.in_ok-arg-2.ensures c.in_ok-command.ensures)
-    c.command-command.ensures.arguments c.command-command.ensures.groups c.command-command.ensures.local c.command-command.ensures.negates
-    (all_fit s.result t.result l.result s.ensures.fits t.ensures.fits l.ensures.fits)
-    (three_distinct s.result t.result l.result
-    (differ s.result t.result spec.settings spec.status s.ensures.id t.ensures.id refl refl)
-    (differ s.result l.result spec.settings spec.lost s.ensures.id l.ensures.id refl refl)
-    (differ t.result l.result spec.status spec.lost t.ensures.id l.ensures.id refl refl))
-    (omega arith) s.ensures.value c.in_ok-matches.ensures.parsed in
-    let some = some_of_text _ c.get_str.result _ c.get_str.ensures (rw s.ensures.id at given) in
-    absurd (false≢true (subst (λ o. is_some o ≡ true) c.in_default.is some))
+pub text_of-settings-requires : goal.text_of-settings-requires
+text_of-settings-requires g c = c.in_ok-command.ensures.settings c.in_ok-matches.matches c.in_ok-matches.ensures.parsed
 
-pub unreachable-requires-in_default-get_str : goal.unreachable-requires-in_default-get_str
-unreachable-requires-in_default-get_str g c =
-    let s = c.settings-settings in
-    let t = c.status-status in
-    let l = c.lost-lost in
-    let given = required_in_chain c.command-command.result c.in_ok-command.command (s.result ∷ t.result ∷ l.result ∷ []) 1 s.result c.in_ok-matches.matches
-    (three_in_turn c.command-command.result c.in_ok-arg.field-0 c.in_ok-arg-2.field-0 c.in_ok-command.command s.result t.result l.result c.in_ok-arg.ensures c.in_ok-arg-2.ensures c.in_ok-command.ensures)
-    c.command-command.ensures.arguments c.command-command.ensures.groups c.command-command.ensures.local c.command-command.ensures.negates
-    (all_fit s.result t.result l.result s.ensures.fits t.ensures.fits l.ensures.fits)
-    (three_distinct s.result t.result l.result
-    (differ s.result t.result spec.settings spec.status s.ensures.id t.ensures.id refl refl)
-    (differ s.result l.result spec.settings spec.lost s.ensures.id l.ensures.id refl refl)
-    (differ t.result l.result spec.status spec.lost t.ensures.id l.ensures.id refl refl))
-    (omega arith) t.ensures.value c.in_ok-matches.ensures.parsed in
-    let some = some_of_text _ c.get_str-2.result _ c.get_str-2.ensures (rw t.ensures.id at given) in
-    absurd (false≢true (subst (λ o. is_some o ≡ true) c.in_default-get_str.is some))
+pub text_of-status-requires : goal.text_of-status-requires
+text_of-status-requires g c = c.in_ok-command.ensures.status c.in_ok-matches.matches c.in_ok-matches.ensures.parsed
 
 pub returns-clause-kinds : goal.returns-clause-kinds
 returns-clause-kinds g c =
-    let s = c.settings-settings in
-    let t = c.status-status in
-    let l = c.lost-lost in
-    let shape = app_of_three c.command-command.result c.in_ok-arg.field-0 c.in_ok-arg-2.field-0 c.in_ok-command.command s.result t.result l.result c.in_ok-arg.ensures c.in_ok-arg-2.ensures c.in_ok-command.ensures
-    s.ensures.fits t.ensures.fits l.ensures.fits c.command-command.ensures.app s.ensures.rule t.ensures.rule l.ensures.rule in
-    subst (λ a. is_simple_and_free a ≡ true → fault_of a (map g.W.AsStr.text c.args.words.now) ≡ []) shape c.in_ok-matches.ensures.kinds refl
+    subst (λ a. is_simple_and_free a ≡ true → fault_of a (map g.W.AsStr.text c.args.words.now) ≡ [])
+    c.in_ok-command.ensures.app c.in_ok-matches.ensures.kinds refl
 
 pub returns-clause-settings : goal.returns-clause-settings
 returns-clause-settings g c =
-    let s = c.settings-settings in
-    let t = c.status-status in
-    let l = c.lost-lost in
-    let shape = app_of_three c.command-command.result c.in_ok-arg.field-0 c.in_ok-arg-2.field-0 c.in_ok-command.command s.result t.result l.result c.in_ok-arg.ensures c.in_ok-arg-2.ensures c.in_ok-command.ensures
-    s.ensures.fits t.ensures.fits l.ensures.fits c.command-command.ensures.app s.ensures.rule t.ensures.rule l.ensures.rule in
-    let has = subst (λ a. HasMatchesOf a (map g.W.AsStr.text c.args.words.now) c.in_ok-matches.matches) shape c.in_ok-matches.ensures.matches in
+    let has = subst (λ a. HasMatchesOf a (map g.W.AsStr.text c.args.words.now) c.in_ok-matches.matches) c.in_ok-command.ensures.app c.in_ok-matches.ensures.matches in
     let rows = has refl in
-    ap (first_of spec.settings) (sym rows.0) ∙ first_of_rows (found_of c.in_ok-matches.matches) spec.settings ∙ sym c.in-Some.ensures
+    ap (first_of spec.settings) (sym rows.0) ∙ c.text_of-settings.ensures
 
 pub returns-clause-status : goal.returns-clause-status
 returns-clause-status g c =
-    let s = c.settings-settings in
-    let t = c.status-status in
-    let l = c.lost-lost in
-    let shape = app_of_three c.command-command.result c.in_ok-arg.field-0 c.in_ok-arg-2.field-0 c.in_ok-command.command s.result t.result l.result c.in_ok-arg.ensures c.in_ok-arg-2.ensures c.in_ok-command.ensures
-    s.ensures.fits t.ensures.fits l.ensures.fits c.command-command.ensures.app s.ensures.rule t.ensures.rule l.ensures.rule in
-    let has = subst (λ a. HasMatchesOf a (map g.W.AsStr.text c.args.words.now) c.in_ok-matches.matches) shape c.in_ok-matches.ensures.matches in
+    let has = subst (λ a. HasMatchesOf a (map g.W.AsStr.text c.args.words.now) c.in_ok-matches.matches) c.in_ok-command.ensures.app c.in_ok-matches.ensures.matches in
     let rows = has refl in
-    ap (first_of spec.status) (sym rows.0) ∙ first_of_rows (found_of c.in_ok-matches.matches) spec.status ∙ sym c.in-Some-get_str.ensures
+    ap (first_of spec.status) (sym rows.0) ∙ c.text_of-status.ensures
 
 pub returns-clause-lost : goal.returns-clause-lost
 returns-clause-lost g c =
-    let s = c.settings-settings in
-    let t = c.status-status in
-    let l = c.lost-lost in
-    let shape = app_of_three c.command-command.result c.in_ok-arg.field-0 c.in_ok-arg-2.field-0 c.in_ok-command.command s.result t.result l.result c.in_ok-arg.ensures c.in_ok-arg-2.ensures c.in_ok-command.ensures
-    s.ensures.fits t.ensures.fits l.ensures.fits c.command-command.ensures.app s.ensures.rule t.ensures.rule l.ensures.rule in
-    let has = subst (λ a. HasMatchesOf a (map g.W.AsStr.text c.args.words.now) c.in_ok-matches.matches) shape c.in_ok-matches.ensures.matches in
+    let has = subst (λ a. HasMatchesOf a (map g.W.AsStr.text c.args.words.now) c.in_ok-matches.matches) c.in_ok-command.ensures.app c.in_ok-matches.ensures.matches in
     let rows = has refl in
     c.in_ok-lost.ensures ∙ ap spec.lost_in rows.0
