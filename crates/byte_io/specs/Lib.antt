@@ -3,3 +3,4 @@ pub mod Sides
 pub mod Memory
 pub mod Script
 pub mod Played
+pub mod Pieces

@@ -7,6 +7,8 @@
 mod device;
 pub mod doubles;
 mod memory;
+mod patience;
 
 pub use device::{Device, DeviceFault, Given, Sink, Source, Took, give_all};
 pub use memory::{SliceSource, VecSink};
+pub use patience::{MAX_TIMEOUTS, Patience};

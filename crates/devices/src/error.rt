@@ -1,5 +1,6 @@
 //! Why a file or an input is not read whole.
 
+use byte_io::DeviceFault;
 use std::alloc::AllocError;
 use thiserror::Error;
 
@@ -28,5 +29,16 @@ impl From<AllocError> for InputError {
 
     fn from(_: AllocError) -> InputError {
         InputError::Memory
+    }
+}
+
+impl From<DeviceFault> for InputError {
+    ghost use Rattle.std.specs.Prelude.{◌≡◌};
+    ghost use Rattle.devices.specs.declared.error.InputError.TheVariants.{ReadFault};
+
+    ghost from_gives = { λ _ error. error ≡ ReadFault };
+
+    fn from(_: DeviceFault) -> InputError {
+        InputError::ReadFault
     }
 }

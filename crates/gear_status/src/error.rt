@@ -3,6 +3,7 @@
 ghost use Rattle.std.specs.Prelude.{◌≡◌};
 ghost use Rattle.gear_status.specs.StatusRefusals as spec;
 
+use byte_io::DeviceFault;
 use refusal::{Label, Labelled};
 use std::alloc::{AllocError, AllocFailed};
 use thiserror::Error;
@@ -88,5 +89,15 @@ impl<T: Drop> From<AllocFailed<T>> for StatusError {
 
     fn from(_: AllocFailed<T>) -> StatusError {
         StatusError::Memory
+    }
+}
+
+impl From<DeviceFault> for StatusError {
+    ghost use Rattle.gear_status.specs.declared.error.StatusError.TheVariants.{ReadFault};
+
+    ghost from_gives = { λ _ f. f ≡ ReadFault };
+
+    fn from(_: DeviceFault) -> StatusError {
+        StatusError::ReadFault
     }
 }

@@ -57,12 +57,20 @@ impl Load {
         ensures ok { OnOk result (self.new ≡ put self.old (name.now, record { total = total; running = running; workers = workers })) }
         ensures err { OnErr result (self.new ≡ self.old) }
     {
-        let key = Vec::from_slice(*self.lines.allocator(), name)?;
         let counts = Counts {
             total,
             running,
             workers,
         };
+        self.set_counts(name, counts)
+    }
+
+    /// As `set`, with the counts as one value.
+    pub fn set_counts(&mut self, name: &[u8], counts: Counts) -> Result<(), AllocError>
+        ensures ok { OnOk result (self.new ≡ put self.old (name.now, counts)) }
+        ensures err { OnErr result (self.new ≡ self.old) }
+    {
+        let key = Vec::from_slice(*self.lines.allocator(), name)?;
         self.lines.insert(key, counts)?;
         Ok(())
     }

@@ -57,8 +57,7 @@ impl Unfinished {
             return Err(StatusError::TooManyLines);
         }
         let (name, counts) = line_meaning(self.number, without_return(self.line.as_slice()))?;
-        self.load
-            .set(name, counts.total, counts.running, counts.workers)?;
+        self.load.set_counts(name, counts)?;
         self.line.clear();
         self.number += 1;
         Ok(false)

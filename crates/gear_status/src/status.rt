@@ -1,18 +1,18 @@
 //! A load, read from a source.
 
-ghost use Rattle.std.specs.Prelude.{◌≡◌, ◌≢◌, ◌+◌, ◌-◌, ◌^◌, ◌<◌, Err, IfErr, IfOk, Ok, ℕ, List, length, max, min};
-ghost use Rattle.byte_io.specs.Device.{FitsBuffer, failure_of, is_end, lull_of, taken};
-ghost use Rattle.byte_io.specs.Sides.{Meets, Met, and_then, counted};
+ghost use Rattle.std.specs.Prelude.{◌≡◌, ◌≢◌, ◌-◌, ◌^◌, ◌<◌, ◌≤◌, Err, IfErr, IfOk, IfSome, Ok, length, max};
+ghost use Rattle.byte_io.specs.Pieces.{IsPiece};
+ghost use Rattle.byte_io.specs.Sides.{Meets, Met};
 ghost use Rattle.gear_status.specs.Status.{status};
 ghost use Rattle.gear_status.specs.Stream.{AnswersStatus, AnswersWithin};
 
 use crate::reader::Unfinished;
 use crate::{Load, StatusError};
-use byte_io::{DeviceFault, Source, Took};
+use byte_io::{DeviceFault, Patience, Source};
 use std::alloc::Global;
 
-/// How many lulls one status text may have.
-const LULLS: u32 = 64;
+/// The most bytes of one read.
+const PIECE: usize = 4096;
 
 /// Reads the job server's answer to `status` from a source: one line `NAME TAB TOTAL TAB RUNNING TAB AVAILABLE_WORKERS` for
 /// each function, and a last line that holds one period (Gearman's PROTOCOL document, "Administrative Protocol").
@@ -29,10 +29,15 @@ pub fn read_status<S: Source>(alloc: Global, source: &mut S) -> Result<Load, Sta
     requires count { (S.input source.old).failures < 2 ^ 64 - 1 }
     ensures answers { (met : Met) × Meets (S.input source.old) met (S.input source.new) × AnswersStatus met result }
 {
-    match read_status_within(alloc, source, u64::MAX)? {
-        Some(load) => Ok(load),
-        None => unreachable!(),
+    let mut buffer = [0u8; PIECE];
+    let mut text = Unfinished::new(alloc);
+    let mut patience = Patience::new();
+    while let Some(count) = patience.read(source, &mut buffer)? {
+        if text.feed(&buffer[..count])? {
+            return Ok(text.into_load());
+        }
     }
+    Err(StatusError::Truncated)
 }
 
 /// As `read_status`, from no more than `limit` bytes. None where so many hold neither a fault nor the line feed of the period
@@ -45,31 +50,20 @@ pub fn read_status_within<S: Source>(
     requires count { (S.input source.old).failures < 2 ^ 64 - 1 }
     ensures answers { (met : Met) × Meets (S.input source.old) met (S.input source.new) × AnswersWithin limit met result }
 {
-    let mut buffer = [0u8; 4096];
+    let mut buffer = [0u8; PIECE];
     let mut text = Unfinished::new(alloc);
+    let mut patience = Patience::new();
     let mut left = limit;
-    let mut lulls = 0;
-    loop {
-        match take_up_to(source, &mut buffer, left) {
-            Ok(Took::Bytes(count)) => {
-                if left == 0 {
-                    return Ok(None);
-                }
-                left -= count as u64;
-                if text.feed(&buffer[..count])? {
-                    return Ok(Some(text.into_load()));
-                }
-            }
-            Ok(Took::Lull) => {
-                if lulls == LULLS {
-                    return Err(StatusError::ReadFault);
-                }
-                lulls += 1;
-            }
-            Ok(Took::Ended) => return Err(StatusError::Truncated),
-            Err(_) => return Err(StatusError::ReadFault),
+    while let Some(count) = read_up_to(left, &mut patience, source, &mut buffer)? {
+        if left == 0 {
+            return Ok(None);
+        }
+        left -= count as u64;
+        if text.feed(&buffer[..count])? {
+            return Ok(Some(text.into_load()));
         }
     }
+    Err(StatusError::Truncated)
 }
 
 /// The load of a status text that is there whole, by the same rules. `ReadFault` never comes.
@@ -86,18 +80,20 @@ pub fn load_of(alloc: Global, text: &[u8]) -> Result<Load, StatusError>
     }
 }
 
-/// Reads no more than so many bytes, or one where none are left: whether it comes tells a text that ends at a limit from a longer
-/// one.
-fn take_up_to<S: Source>(source: &mut S, buffer: &mut [u8], left: u64) -> Result<Took, DeviceFault>
+/// Reads a piece of no more than so many bytes, or of one where none are left: whether it comes tells a text that ends at a limit
+/// from a longer one.
+fn read_up_to<S: Source>(
+    left: u64,
+    patience: &mut Patience,
+    source: &mut S,
+    buffer: &mut [u8],
+) -> Result<Option<usize>, DeviceFault>
     requires room { 0 < length buffer.old }
     requires count { (S.input source.old).failures < 2 ^ 64 - 1 }
-    ensures within { IfOk result (FitsBuffer (min (length buffer.new) (max left 1))) }
-    ensures buffer { length buffer.new ≡ length buffer.old }
-    ensures bytes { (S.input source.new).given ≡ and_then (S.input source.old).given (taken buffer.new result) }
-    ensures pauses { (S.input source.new).lulls ≡ counted (S.input source.old).lulls (lull_of result) }
-    ensures fails { (S.input source.new).failures ≡ (S.input source.old).failures + failure_of result }
-    ensures ends { (S.input source.new).has_ended ≡ is_end result }
+    ensures within { IfOk result (λ piece. IfSome piece (λ n. n ≤ max left 1)) }
+    ensures piece { (met : Met) × Meets (S.input source.old) met (S.input source.new)
+        × IsPiece patience.old met buffer.new result patience.new }
 {
     let room = left.max(1).min(buffer.len() as u64) as usize;
-    source.take(&mut buffer[..room])
+    patience.read(source, &mut buffer[..room])
 }

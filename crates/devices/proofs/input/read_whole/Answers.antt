@@ -1,104 +1,82 @@
-use Rattle.std.proofs.Common.{◌≡◌, ◌+◌, ◌++◌, Ok, length, length-append, take, refl, inl, inr, arith, subst}
+use Rattle.std.proofs.Common.{◌≤◌, ◌++◌, [], Ok, arith, false, length, length-append, refl, subst, sym, take, true}
 use Rattle.std.proofs.lemmas.List.{length-take-le}
 use Rattle.std.proofs.lemmas.Result.{err_from_is_err_and}
-use Rattle.byte_io.specs.Device.{FitsBuffer, is_end, lull_of, taken}
-use Rattle.byte_io.specs.Sides.{and_then, counted}
-use Rattle.byte_io.proofs.Devices.{lulls_more, lulls_same, none_more, some_more}
+use Rattle.byte_io.specs.Pieces.{Came, IsPiece, brought}
+use Rattle.byte_io.specs.Sides.{Meets, Met}
+use Rattle.byte_io.proofs.Pieces.{end_came, gave_up, piece_came}
 use Rattle.devices.proofs.input.read_whole.Goals as goal
+
+pub returns-in_err-count : goal.returns-in_err-count
+returns-in_err-count g c =
+    let so_far = c.loop-bytes.invariant in
+    let held = c.loop-bytes.bytes.items in
+    let first = g.R.Device.input c.args.source.now in
+    let behind = g.R.Device.input c.loop-bytes.source in
+    let now = g.R.Device.input c.read.new.source in
+    let read = c.in_err-count.ensures.piece in
+    let end = gave_up first behind now held c.loop-bytes.patience behind.has_ended read.0 so_far.met read.1 read.2 in
+    let p = err_from_is_err_and c.from_residual.result c.from_residual.ensures.1 in
+    let few : length (end.0).bytes ≤ 16777216 = subst (λ b. length b ≤ 16777216) (sym end.2) so_far.few in
+    record { whole = (end.0, end.1, rw (p.1, p.2) (few, end.3)) }
 
 pub returns-then-len-count-gt-LIMIT : goal.returns-then-len-count-gt-LIMIT
 returns-then-len-count-gt-LIMIT g c =
-    let so_far = c.loop-count.invariant in
-    let held = c.loop-count.bytes.items in
-    let piece = take c.in-Ok-Bytes.count c.take.new.buffer in
-    let bytes = subst (λ t. (g.R.Device.input c.take.new.self).given ≡ and_then (g.R.Device.input c.loop-count.source).given (taken c.take.new.buffer (Ok t))) c.in-Ok-Bytes.field-0-is c.in-Ok-Bytes.ensures.bytes in
-    let pauses = subst (λ t. (g.R.Device.input c.take.new.self).lulls ≡ counted (g.R.Device.input c.loop-count.source).lulls (lull_of (Ok t))) c.in-Ok-Bytes.field-0-is c.in-Ok-Bytes.ensures.pauses in
-    let fits = subst (FitsBuffer (length c.take.new.buffer)) c.in-Ok-Bytes.field-0-is c.in-Ok-Bytes.ensures.within in
-    let long = length-take-le c.in-Ok-Bytes.count c.take.new.buffer fits.1 in record {
+    let so_far = c.loop-bytes.invariant in
+    let held = c.loop-bytes.bytes.items in
+    let first = g.R.Device.input c.args.source.now in
+    let behind = g.R.Device.input c.loop-bytes.source in
+    let now = g.R.Device.input c.read.new.source in
+    let count = c.in-Some.count in
+    let piece = take count c.read.new.buffer in
+    let read =
+    subst (λ t. (met : Met) × Meets behind met now × IsPiece c.loop-bytes.patience met c.read.new.buffer (Ok t) c.read.new.self) c.in-Some.is
+    c.in_ok-count.ensures.piece in
+    let fits : (1 ≤ count) × (count ≤ length c.read.new.buffer) × Came c.loop-bytes.patience read.0 piece false c.read.new.self = read.2 in
+    let came : Came c.loop-bytes.patience read.0 piece false c.read.new.self = fits.2 in
+    let met : Meets first (brought (held ++ piece) c.read.new.self false) now =
+    piece_came first behind now held piece c.loop-bytes.patience c.read.new.self behind.has_ended false read.0 so_far.met read.1 came in
+    let long = length-take-le count c.read.new.buffer fits.1 in
+    record {
       whole = (
-        record { bytes = held ++ piece; lulls = c.loop-count.lulls; failures = 0; has_ended = (g.R.Device.input c.take.new.self).has_ended },
+        brought (held ++ piece) c.read.new.self false,
+        met,
         (
-          some_more _ _ _ _ _ bytes so_far.given,
-          lulls_same _ _ _ _ pauses so_far.lulls,
-          omega (arith, c.in-Ok-Bytes.ensures.fails, so_far.failures),
-          refl,
-        ),
-        (
-          omega (arith, c.if-len-count-gt-LIMIT.true, c.len.ensures, c.loop-count.bytes.ok.0, length-append held piece, long),
-          omega (arith, so_far.few, length-append held piece, long, fits.1, c.take.auto.buffer),
-          (refl, so_far.few_lulls),
+          omega (arith, c.if-len-count-gt-LIMIT.true, c.len.ensures, c.loop-bytes.bytes.ok.0, length-append held piece, long),
+          omega (arith, so_far.few, length-append held piece, long, fits.1, c.read.auto.buffer),
+          (refl, came.4),
         ),
       );
     }
 
-pub returns-in_err-extend_from_slice-in-Ok-Bytes : goal.returns-in_err-extend_from_slice-in-Ok-Bytes
-returns-in_err-extend_from_slice-in-Ok-Bytes g c =
-    let so_far = c.loop-count.invariant in
-    let held = c.loop-count.bytes.items in
-    let piece = take c.in-Ok-Bytes.count c.take.new.buffer in
-    let bytes = subst (λ t. (g.R.Device.input c.take.new.self).given ≡ and_then (g.R.Device.input c.loop-count.source).given (taken c.take.new.buffer (Ok t))) c.in-Ok-Bytes.field-0-is c.in-Ok-Bytes.ensures.bytes in
-    let pauses = subst (λ t. (g.R.Device.input c.take.new.self).lulls ≡ counted (g.R.Device.input c.loop-count.source).lulls (lull_of (Ok t))) c.in-Ok-Bytes.field-0-is c.in-Ok-Bytes.ensures.pauses in
-    let p = err_from_is_err_and c.from_residual.result c.from_residual.ensures.1 in record {
-      whole = (
-        record { bytes = held ++ piece; lulls = c.loop-count.lulls; failures = 0; has_ended = (g.R.Device.input c.take.new.self).has_ended },
-        (
-          some_more _ _ _ _ _ bytes so_far.given,
-          lulls_same _ _ _ _ pauses so_far.lulls,
-          omega (arith, c.in-Ok-Bytes.ensures.fails, so_far.failures),
-          refl,
-        ),
-        rw (p.1, p.2) (refl, so_far.few_lulls),
-      );
-    }
+pub returns-in_err-extend_from_slice : goal.returns-in_err-extend_from_slice
+returns-in_err-extend_from_slice g c =
+    let so_far = c.loop-bytes.invariant in
+    let held = c.loop-bytes.bytes.items in
+    let first = g.R.Device.input c.args.source.now in
+    let behind = g.R.Device.input c.loop-bytes.source in
+    let now = g.R.Device.input c.read.new.source in
+    let count = c.in-Some.count in
+    let piece = take count c.read.new.buffer in
+    let read =
+    subst (λ t. (met : Met) × Meets behind met now × IsPiece c.loop-bytes.patience met c.read.new.buffer (Ok t) c.read.new.self) c.in-Some.is
+    c.in_ok-count.ensures.piece in
+    let fits : (1 ≤ count) × (count ≤ length c.read.new.buffer) × Came c.loop-bytes.patience read.0 piece false c.read.new.self = read.2 in
+    let came : Came c.loop-bytes.patience read.0 piece false c.read.new.self = fits.2 in
+    let met : Meets first (brought (held ++ piece) c.read.new.self false) now =
+    piece_came first behind now held piece c.loop-bytes.patience c.read.new.self behind.has_ended false read.0 so_far.met read.1 came in
+    let p = err_from_is_err_and c.from_residual-in_err-extend_from_slice.result c.from_residual-in_err-extend_from_slice.ensures.1 in
+    record { whole = (brought (held ++ piece) c.read.new.self false, met, rw (p.1, p.2) (refl, came.4)) }
 
-pub returns-then-lulls-eq-LULLS : goal.returns-then-lulls-eq-LULLS
-returns-then-lulls-eq-LULLS g c =
-    let so_far = c.loop-count.invariant in
-    let bytes = subst (λ t. (g.R.Device.input c.take.new.self).given ≡ and_then (g.R.Device.input c.loop-count.source).given (taken c.take.new.buffer (Ok t))) c.in-Ok-Lull.field-0-is c.in-Ok-Lull.ensures.bytes in
-    let pauses = subst (λ t. (g.R.Device.input c.take.new.self).lulls ≡ counted (g.R.Device.input c.loop-count.source).lulls (lull_of (Ok t))) c.in-Ok-Lull.field-0-is c.in-Ok-Lull.ensures.pauses in record {
-      whole = (
-        record { bytes = c.loop-count.bytes.items; lulls = c.loop-count.lulls + 1; failures = 0; has_ended = (g.R.Device.input c.take.new.self).has_ended },
-        (
-          none_more _ _ _ _ bytes so_far.given,
-          lulls_more _ _ _ _ _ pauses so_far.lulls,
-          omega (arith, c.in-Ok-Lull.ensures.fails, so_far.failures),
-          refl,
-        ),
-        (so_far.few, inr (omega arith)),
-      );
-    }
-
-pub returns-in-Ok-Ended : goal.returns-in-Ok-Ended
-returns-in-Ok-Ended g c =
-    let so_far = c.loop-count.invariant in
-    let met = c.in-Ok-Ended.ensures in
-    let bytes = subst (λ t. (g.R.Device.input c.take.new.self).given ≡ and_then (g.R.Device.input c.loop-count.source).given (taken c.take.new.buffer (Ok t))) c.in-Ok-Ended.field-0-is met.bytes in
-    let pauses = subst (λ t. (g.R.Device.input c.take.new.self).lulls ≡ counted (g.R.Device.input c.loop-count.source).lulls (lull_of (Ok t))) c.in-Ok-Ended.field-0-is met.pauses in
-    let ended = subst (λ t. (g.R.Device.input c.take.new.self).has_ended ≡ is_end (Ok t)) c.in-Ok-Ended.field-0-is met.ends in record {
-      whole = (
-        record { bytes = c.loop-count.bytes.items; lulls = c.loop-count.lulls; failures = 0; has_ended = (g.R.Device.input c.take.new.self).has_ended },
-        (
-          none_more _ _ _ _ bytes so_far.given,
-          lulls_same _ _ _ _ pauses so_far.lulls,
-          omega (arith, met.fails, so_far.failures),
-          refl,
-        ),
-        (refl, (so_far.few, ended, (refl, so_far.few_lulls))),
-      );
-    }
-
-pub returns-in-Err : goal.returns-in-Err
-returns-in-Err g c =
-    let so_far = c.loop-count.invariant in
-    let met = c.in-Err.ensures in record {
-      whole = (
-        record { bytes = c.loop-count.bytes.items; lulls = c.loop-count.lulls; failures = 1; has_ended = (g.R.Device.input c.take.new.self).has_ended },
-        (
-          none_more _ _ _ _ met.bytes so_far.given,
-          lulls_same _ _ _ _ met.pauses so_far.lulls,
-          omega (arith, met.fails, so_far.failures),
-          refl,
-        ),
-        (so_far.few, inl refl),
-      );
-    }
+pub returns : goal.returns
+returns g c =
+    let so_far = c.loop-bytes.invariant in
+    let held = c.loop-bytes.bytes.items in
+    let first = g.R.Device.input c.args.source.now in
+    let behind = g.R.Device.input c.loop-bytes.source in
+    let now = g.R.Device.input c.read.new.source in
+    let read =
+    subst (λ t. (met : Met) × Meets behind met now × IsPiece c.loop-bytes.patience met c.read.new.buffer (Ok t) c.read.new.self) c.in_default.is
+    c.in_ok-count.ensures.piece in
+    let met = end_came first behind now held c.loop-bytes.patience c.read.new.self behind.has_ended read.0 so_far.met read.1 read.2 in
+    let came : Came c.loop-bytes.patience read.0 [] true c.read.new.self = read.2 in
+    record { whole = (brought held c.read.new.self true, met, (refl, (so_far.few, refl, (refl, came.4)))) }

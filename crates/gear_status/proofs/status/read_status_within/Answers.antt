@@ -1,142 +1,148 @@
-use Rattle.std.proofs.Common.{◌≡◌, ◌+◌, ◌++◌, Ok, inl, inr, refl, ◌≤◌, arith, length, length-append, max, min, subst, take}
+use Rattle.std.proofs.Common.{◌≡◌, ◌≤◌, ◌++◌, IfSome, Ok, arith, false, length, length-append, max, subst, take, true}
 use Rattle.std.proofs.Math.Seq.{take-append_seam}
 use Rattle.std.proofs.lemmas.List.{length-take-le}
 use Rattle.std.proofs.lemmas.Result.{err_from_is_err_and}
-use Rattle.byte_io.specs.Device.{FitsBuffer, is_end, lull_of, taken}
-use Rattle.byte_io.specs.Sides.{and_then, counted}
-use Rattle.gear_status.specs.Stream.{EndsWithPiece, LeadsTo}
-use Rattle.byte_io.proofs.Devices.{lulls_more, lulls_same, none_more, some_more}
-use Rattle.gear_status.proofs.Stream.{complete, fault_answer, faulty, led_on, undecided}
+use Rattle.byte_io.specs.Pieces.{Came, IsPiece, brought}
+use Rattle.byte_io.specs.Sides.{Meets, Met}
+use Rattle.gear_status.specs.Stream.{LeadsTo}
+use Rattle.gear_status.proofs.Reading.{calm, ended, given_up, goes_on, longer, read_whole, refused}
+use Rattle.gear_status.proofs.Stream.{undecided}
 use Rattle.gear_status.proofs.status.read_status_within.Goals as goal
 
-pub returns-in_err-feed-in-Ok-Bytes : goal.returns-in_err-feed-in-Ok-Bytes
-returns-in_err-feed-in-Ok-Bytes g c =
-    let so_far = c.loop-count.invariant in
-    let piece = take c.in-Ok-Bytes.count c.take_up_to.new.buffer in
-    let fits = subst (FitsBuffer (min (length c.take_up_to.new.buffer) (max c.loop-count.left 1))) c.in-Ok-Bytes.field-0-is c.in-Ok-Bytes.ensures.within in
-    let long : length piece ≡ c.in-Ok-Bytes.count = length-take-le c.in-Ok-Bytes.count c.take_up_to.new.buffer (omega (arith, fits.1)) in
-    let within : length (so_far.0 ++ piece) ≤ c.args.limit = omega (arith, length-append so_far.0 piece, long, fits.1, so_far.7, c.if-left-eq0.false) in
-    let bytes = subst (λ t. (g.S.Device.input c.take_up_to.new.source).given ≡ and_then (g.S.Device.input c.loop-count.source).given (taken c.take_up_to.new.buffer (Ok t))) c.in-Ok-Bytes.field-0-is c.in-Ok-Bytes.ensures.bytes in
-    let pauses = subst (λ t. (g.S.Device.input c.take_up_to.new.source).lulls ≡ counted (g.S.Device.input c.loop-count.source).lulls (lull_of (Ok t))) c.in-Ok-Bytes.field-0-is c.in-Ok-Bytes.ensures.pauses in
-    let more = subst (λ t. (g.S.Device.input c.take_up_to.new.source).has_ended ≡ is_end (Ok t)) c.in-Ok-Bytes.field-0-is c.in-Ok-Bytes.ensures.ends in
-    let one_piece : length piece ≤ 4096 = omega (arith, long, fits.1, c.in-Ok-Bytes.ensures.buffer) in
-    let last : EndsWithPiece (record { bytes = so_far.0 ++ piece; lulls = c.loop-count.lulls; failures = 0; has_ended = (g.S.Device.input c.take_up_to.new.source).has_ended }) = ((so_far.0, piece, refl, undecided so_far.0 c.loop-count.text so_far.3 so_far.2, one_piece), more) in
+pub returns-in_err-count : goal.returns-in_err-count
+returns-in_err-count g c =
+    let first = g.S.Device.input c.args.source.now in
+    let behind = g.S.Device.input c.loop-text.source in
+    let now = g.S.Device.input c.read_up_to.new.source in
+    let before = c.loop-text.patience in
+    let after = c.read_up_to.new.patience in
+    let text = c.loop-text.text in
+    let bytes = c.loop-text.invariant.0 in
+    let so_far = c.loop-text.invariant.1 in
+    let read = c.in_err-count.ensures.piece in
+    let end = given_up first behind now before after text bytes read.0 so_far read.1 read.2 in
     let p = err_from_is_err_and c.from_residual.result c.from_residual.ensures.1 in
-    let f = c.in_err-feed-in-Ok-Bytes.field-0.0 in record {
-      answers = (
-        record { bytes = so_far.0 ++ piece; lulls = c.loop-count.lulls; failures = 0; has_ended = (g.S.Device.input c.take_up_to.new.source).has_ended },
-        (some_more _ _ _ _ _ bytes so_far.1, lulls_same _ _ _ _ pauses so_far.4, omega (arith, c.in-Ok-Bytes.ensures.fails, so_far.5), refl),
-        rw (p.1, p.2) (
-          fault_answer (record { bytes = so_far.0 ++ piece; lulls = c.loop-count.lulls; failures = 0; has_ended = (g.S.Device.input c.take_up_to.new.source).has_ended }) f
-              c.in_err-feed-in-Ok-Bytes.ensures.verdict
-              (λ other. faulty so_far.0 piece c.loop-count.text f so_far.2 (c.in_err-feed-in-Ok-Bytes.ensures.err other))
-              last (refl, so_far.6),
-          within,
-        ),
-      );
-    }
-
-pub returns-then-branch : goal.returns-then-branch
-returns-then-branch g c =
-    let so_far = c.loop-count.invariant in
-    let piece = take c.in-Ok-Bytes.count c.take_up_to.new.buffer in
-    let fits = subst (FitsBuffer (min (length c.take_up_to.new.buffer) (max c.loop-count.left 1))) c.in-Ok-Bytes.field-0-is c.in-Ok-Bytes.ensures.within in
-    let long : length piece ≡ c.in-Ok-Bytes.count = length-take-le c.in-Ok-Bytes.count c.take_up_to.new.buffer (omega (arith, fits.1)) in
-    let within : length (so_far.0 ++ piece) ≤ c.args.limit = omega (arith, length-append so_far.0 piece, long, fits.1, so_far.7, c.if-left-eq0.false) in
-    let bytes = subst (λ t. (g.S.Device.input c.take_up_to.new.source).given ≡ and_then (g.S.Device.input c.loop-count.source).given (taken c.take_up_to.new.buffer (Ok t))) c.in-Ok-Bytes.field-0-is c.in-Ok-Bytes.ensures.bytes in
-    let pauses = subst (λ t. (g.S.Device.input c.take_up_to.new.source).lulls ≡ counted (g.S.Device.input c.loop-count.source).lulls (lull_of (Ok t))) c.in-Ok-Bytes.field-0-is c.in-Ok-Bytes.ensures.pauses in
-    let more = subst (λ t. (g.S.Device.input c.take_up_to.new.source).has_ended ≡ is_end (Ok t)) c.in-Ok-Bytes.field-0-is c.in-Ok-Bytes.ensures.ends in
-    let one_piece : length piece ≤ 4096 = omega (arith, long, fits.1, c.in-Ok-Bytes.ensures.buffer) in
-    let last : EndsWithPiece (record { bytes = so_far.0 ++ piece; lulls = c.loop-count.lulls; failures = 0; has_ended = (g.S.Device.input c.take_up_to.new.source).has_ended }) = ((so_far.0, piece, refl, undecided so_far.0 c.loop-count.text so_far.3 so_far.2, one_piece), more) in
-    let done = subst (λ b. LeadsTo c.loop-count.text piece c.feed.new.self b) c.if-branch.true c.in_ok-feed-in-Ok-Bytes.ensures.ok in record {
-      answers = (
-        record { bytes = so_far.0 ++ piece; lulls = c.loop-count.lulls; failures = 0; has_ended = (g.S.Device.input c.take_up_to.new.source).has_ended },
-        (some_more _ _ _ _ _ bytes so_far.1, lulls_same _ _ _ _ pauses so_far.4, omega (arith, c.in-Ok-Bytes.ensures.fails, so_far.5), refl),
-        (
-          (
-            rw c.into_load.ensures (complete so_far.0 piece c.loop-count.text c.feed.new.self.load so_far.2 done),
-            last,
-            (refl, so_far.6),
-          ),
-          within,
-        ),
-      );
-    }
-
-pub loop-count-preserved-else-branch : goal.loop-count-preserved-else-branch
-loop-count-preserved-else-branch g c =
-    let so_far = c.loop-count.invariant in
-    let piece = take c.in-Ok-Bytes.count c.take_up_to.new.buffer in
-    let fits = subst (FitsBuffer (min (length c.take_up_to.new.buffer) (max c.loop-count.left 1))) c.in-Ok-Bytes.field-0-is c.in-Ok-Bytes.ensures.within in
-    let long : length piece ≡ c.in-Ok-Bytes.count = length-take-le c.in-Ok-Bytes.count c.take_up_to.new.buffer (omega (arith, fits.1)) in
-    let within : length (so_far.0 ++ piece) ≤ c.args.limit = omega (arith, length-append so_far.0 piece, long, fits.1, so_far.7, c.if-left-eq0.false) in
-    let bytes = subst (λ t. (g.S.Device.input c.take_up_to.new.source).given ≡ and_then (g.S.Device.input c.loop-count.source).given (taken c.take_up_to.new.buffer (Ok t))) c.in-Ok-Bytes.field-0-is c.in-Ok-Bytes.ensures.bytes in
-    let pauses = subst (λ t. (g.S.Device.input c.take_up_to.new.source).lulls ≡ counted (g.S.Device.input c.loop-count.source).lulls (lull_of (Ok t))) c.in-Ok-Bytes.field-0-is c.in-Ok-Bytes.ensures.pauses in
-    let on = subst (λ b. LeadsTo c.loop-count.text piece c.feed.new.self b) c.if-branch.false c.in_ok-feed-in-Ok-Bytes.ensures.ok in (
-      so_far.0 ++ piece,
-      some_more _ _ _ _ _ bytes so_far.1,
-      led_on so_far.0 piece c.loop-count.text c.feed.new.self so_far.2 on.0,
-      c.in_ok-feed-in-Ok-Bytes.ensures.part,
-      lulls_same _ _ _ _ pauses so_far.4,
-      omega (arith, c.in-Ok-Bytes.ensures.fails, so_far.5),
-      so_far.6,
-      omega (arith, length-append so_far.0 piece, long, fits.1, so_far.7),
-      omega (arith, length-append so_far.0 piece, on.1, long, so_far.8),
-    )
-
-pub returns-then-lulls-eq-LULLS : goal.returns-then-lulls-eq-LULLS
-returns-then-lulls-eq-LULLS g c =
-    let so_far = c.loop-count.invariant in
-    let bytes = subst (λ t. (g.S.Device.input c.take_up_to.new.source).given ≡ and_then (g.S.Device.input c.loop-count.source).given (taken c.take_up_to.new.buffer (Ok t))) c.in-Ok-Lull.field-0-is c.in-Ok-Lull.ensures.bytes in
-    let pauses = subst (λ t. (g.S.Device.input c.take_up_to.new.source).lulls ≡ counted (g.S.Device.input c.loop-count.source).lulls (lull_of (Ok t))) c.in-Ok-Lull.field-0-is c.in-Ok-Lull.ensures.pauses in record {
-      answers = (
-        record { bytes = so_far.0; lulls = c.loop-count.lulls + 1; failures = 0; has_ended = (g.S.Device.input c.take_up_to.new.source).has_ended },
-        (none_more _ _ _ _ bytes so_far.1, lulls_more _ _ _ _ _ pauses so_far.4, omega (arith, c.in-Ok-Lull.ensures.fails, so_far.5), refl),
-        ((undecided so_far.0 c.loop-count.text so_far.3 so_far.2, inr (omega arith)), omega (arith, so_far.7)),
-      );
-    }
-
-pub returns-in-Ok-Ended : goal.returns-in-Ok-Ended
-returns-in-Ok-Ended g c =
-    let so_far = c.loop-count.invariant in
-    let bytes = subst (λ t. (g.S.Device.input c.take_up_to.new.source).given ≡ and_then (g.S.Device.input c.loop-count.source).given (taken c.take_up_to.new.buffer (Ok t))) c.in-Ok-Ended.field-0-is c.in-Ok-Ended.ensures.bytes in
-    let pauses = subst (λ t. (g.S.Device.input c.take_up_to.new.source).lulls ≡ counted (g.S.Device.input c.loop-count.source).lulls (lull_of (Ok t))) c.in-Ok-Ended.field-0-is c.in-Ok-Ended.ensures.pauses in
-    let ends = subst (λ t. (g.S.Device.input c.take_up_to.new.source).has_ended ≡ is_end (Ok t)) c.in-Ok-Ended.field-0-is c.in-Ok-Ended.ensures.ends in record {
-      answers = (
-        record { bytes = so_far.0; lulls = c.loop-count.lulls; failures = 0; has_ended = (g.S.Device.input c.take_up_to.new.source).has_ended },
-        (none_more _ _ _ _ bytes so_far.1, lulls_same _ _ _ _ pauses so_far.4, omega (arith, c.in-Ok-Ended.ensures.fails, so_far.5), refl),
-        ((undecided so_far.0 c.loop-count.text so_far.3 so_far.2, ends, (refl, so_far.6)), omega (arith, so_far.7)),
-      );
-    }
-
-pub returns-in-Err : goal.returns-in-Err
-returns-in-Err g c =
-    let so_far = c.loop-count.invariant in record {
-      answers = (
-        record { bytes = so_far.0; lulls = c.loop-count.lulls; failures = 1; has_ended = (g.S.Device.input c.take_up_to.new.source).has_ended },
-        (none_more _ _ _ _ c.in-Err.ensures.bytes so_far.1, lulls_same _ _ _ _ c.in-Err.ensures.pauses so_far.4, omega (arith, c.in-Err.ensures.fails, so_far.5), refl),
-        ((undecided so_far.0 c.loop-count.text so_far.3 so_far.2, inl (omega arith)), omega (arith, so_far.7)),
-      );
-    }
+    let few : length (end.0).bytes ≤ c.args.limit = omega (arith, end.3, c.loop-text.invariant.2) in
+    record { answers = (end.0, end.1, rw (p.1, p.2) (end.2, few)) }
 
 pub returns-then-left-eq0 : goal.returns-then-left-eq0
 returns-then-left-eq0 g c =
-    let so_far = c.loop-count.invariant in
-    let piece = take c.in-Ok-Bytes.count c.take_up_to.new.buffer in
-    let fits = subst (FitsBuffer (min (length c.take_up_to.new.buffer) (max c.loop-count.left 1))) c.in-Ok-Bytes.field-0-is c.in-Ok-Bytes.ensures.within in
-    let long : length piece ≡ c.in-Ok-Bytes.count = length-take-le c.in-Ok-Bytes.count c.take_up_to.new.buffer (omega (arith, fits.1)) in
-    let bytes = subst (λ t. (g.S.Device.input c.take_up_to.new.source).given ≡ and_then (g.S.Device.input c.loop-count.source).given (taken c.take_up_to.new.buffer (Ok t))) c.in-Ok-Bytes.field-0-is c.in-Ok-Bytes.ensures.bytes in
-    let pauses = subst (λ t. (g.S.Device.input c.take_up_to.new.source).lulls ≡ counted (g.S.Device.input c.loop-count.source).lulls (lull_of (Ok t))) c.in-Ok-Bytes.field-0-is c.in-Ok-Bytes.ensures.pauses in
-    let all : length so_far.0 ≡ c.args.limit = omega (arith, so_far.7, c.if-left-eq0.true) in
-    let front : take c.args.limit (so_far.0 ++ piece) ≡ so_far.0 = subst (λ k. take k (so_far.0 ++ piece) ≡ so_far.0) all (take-append_seam so_far.0 piece) in record {
+    let first = g.S.Device.input c.args.source.now in
+    let behind = g.S.Device.input c.loop-text.source in
+    let now = g.S.Device.input c.read_up_to.new.source in
+    let before = c.loop-text.patience in
+    let after = c.read_up_to.new.patience in
+    let text = c.loop-text.text in
+    let bytes = c.loop-text.invariant.0 in
+    let so_far = c.loop-text.invariant.1 in
+    let count = c.in-Some.count in
+    let piece = take count c.read_up_to.new.buffer in
+    let read =
+    subst (λ t. (met : Met) × Meets behind met now × IsPiece before met c.read_up_to.new.buffer (Ok t) after) c.in-Some.is c.in_ok-count.ensures.piece in
+    let fits : (1 ≤ count) × (count ≤ length c.read_up_to.new.buffer) × Came before read.0 piece false after = read.2 in
+    let came : Came before read.0 piece false after = fits.2 in
+    let short : length piece ≤ 4096 = omega (arith, length-take-le count c.read_up_to.new.buffer fits.1, fits.1, c.read_up_to.auto.buffer) in
+    let met = longer first behind now before after text bytes read.0 so_far read.1 piece came in
+    let most : count ≤ max c.loop-text.left 1 = subst (λ t. IfSome t (λ n. n ≤ max c.loop-text.left 1)) c.in-Some.is c.in_ok-count.ensures.within in
+    let all : length bytes ≡ c.args.limit = omega (arith, c.loop-text.invariant.2, c.if-left-eq0.true) in
+    let front : take c.args.limit (bytes ++ piece) ≡ bytes = subst (λ k. take k (bytes ++ piece) ≡ bytes) all (take-append_seam bytes piece) in
+    record {
       answers = (
-        record { bytes = so_far.0 ++ piece; lulls = c.loop-count.lulls; failures = 0; has_ended = (g.S.Device.input c.take_up_to.new.source).has_ended },
-        (some_more _ _ _ _ _ bytes so_far.1, lulls_same _ _ _ _ pauses so_far.4, omega (arith, c.in-Ok-Bytes.ensures.fails, so_far.5), refl),
+        brought (bytes ++ piece) after false,
+        met,
         (
-          omega (arith, length-append so_far.0 piece, long, fits.0, fits.1, so_far.7, c.if-left-eq0.true),
-          rw front (undecided so_far.0 c.loop-count.text so_far.3 so_far.2),
-          omega (arith, so_far.8, all),
-          (refl, so_far.6),
+          omega (arith, length-append bytes piece, length-take-le count c.read_up_to.new.buffer fits.1, fits.0, most, all, c.if-left-eq0.true),
+          rw front (undecided bytes text so_far.part so_far.ahead),
+          omega (arith, so_far.held, all),
+          calm first behind now before after text bytes read.0 so_far read.1 piece came,
         ),
       );
     }
+
+pub returns-in_err-feed : goal.returns-in_err-feed
+returns-in_err-feed g c =
+    let first = g.S.Device.input c.args.source.now in
+    let behind = g.S.Device.input c.loop-text.source in
+    let now = g.S.Device.input c.read_up_to.new.source in
+    let before = c.loop-text.patience in
+    let after = c.read_up_to.new.patience in
+    let text = c.loop-text.text in
+    let bytes = c.loop-text.invariant.0 in
+    let so_far = c.loop-text.invariant.1 in
+    let count = c.in-Some.count in
+    let piece = take count c.read_up_to.new.buffer in
+    let read =
+    subst (λ t. (met : Met) × Meets behind met now × IsPiece before met c.read_up_to.new.buffer (Ok t) after) c.in-Some.is c.in_ok-count.ensures.piece in
+    let fits : (1 ≤ count) × (count ≤ length c.read_up_to.new.buffer) × Came before read.0 piece false after = read.2 in
+    let came : Came before read.0 piece false after = fits.2 in
+    let short : length piece ≤ 4096 = omega (arith, length-take-le count c.read_up_to.new.buffer fits.1, fits.1, c.read_up_to.auto.buffer) in
+    let met = longer first behind now before after text bytes read.0 so_far read.1 piece came in
+    let most : count ≤ max c.loop-text.left 1 = subst (λ t. IfSome t (λ n. n ≤ max c.loop-text.left 1)) c.in-Some.is c.in_ok-count.ensures.within in
+    let within : length (bytes ++ piece) ≤ c.args.limit =
+    omega (arith, length-append bytes piece, length-take-le count c.read_up_to.new.buffer fits.1, most, c.loop-text.invariant.2, c.if-left-eq0.false) in
+    let answer = refused first behind now before after text bytes read.0 so_far read.1 piece came short c.in_err-feed.field-0.0 c.in_err-feed.ensures.verdict c.in_err-feed.ensures.err in
+    let p = err_from_is_err_and c.from_residual-in_err-feed.result c.from_residual-in_err-feed.ensures.1 in
+    record { answers = (brought (bytes ++ piece) after false, met, rw (p.1, p.2) (answer, within)) }
+
+pub returns-then-branch : goal.returns-then-branch
+returns-then-branch g c =
+    let first = g.S.Device.input c.args.source.now in
+    let behind = g.S.Device.input c.loop-text.source in
+    let now = g.S.Device.input c.read_up_to.new.source in
+    let before = c.loop-text.patience in
+    let after = c.read_up_to.new.patience in
+    let text = c.loop-text.text in
+    let bytes = c.loop-text.invariant.0 in
+    let so_far = c.loop-text.invariant.1 in
+    let count = c.in-Some.count in
+    let piece = take count c.read_up_to.new.buffer in
+    let read =
+    subst (λ t. (met : Met) × Meets behind met now × IsPiece before met c.read_up_to.new.buffer (Ok t) after) c.in-Some.is c.in_ok-count.ensures.piece in
+    let fits : (1 ≤ count) × (count ≤ length c.read_up_to.new.buffer) × Came before read.0 piece false after = read.2 in
+    let came : Came before read.0 piece false after = fits.2 in
+    let short : length piece ≤ 4096 = omega (arith, length-take-le count c.read_up_to.new.buffer fits.1, fits.1, c.read_up_to.auto.buffer) in
+    let met = longer first behind now before after text bytes read.0 so_far read.1 piece came in
+    let most : count ≤ max c.loop-text.left 1 = subst (λ t. IfSome t (λ n. n ≤ max c.loop-text.left 1)) c.in-Some.is c.in_ok-count.ensures.within in
+    let within : length (bytes ++ piece) ≤ c.args.limit =
+    omega (arith, length-append bytes piece, length-take-le count c.read_up_to.new.buffer fits.1, most, c.loop-text.invariant.2, c.if-left-eq0.false) in
+    let done = subst (λ b. LeadsTo text piece c.feed.new.self b) c.if-branch.true c.in_ok-feed.ensures.ok in
+    let answer = read_whole first behind now before after text bytes read.0 so_far read.1 piece came short c.feed.new.self.load done in
+    record { answers = (brought (bytes ++ piece) after false, met, rw c.into_load.ensures (answer, within)) }
+
+pub loop-text-preserved : goal.loop-text-preserved
+loop-text-preserved g c =
+    let first = g.S.Device.input c.args.source.now in
+    let behind = g.S.Device.input c.loop-text.source in
+    let now = g.S.Device.input c.read_up_to.new.source in
+    let before = c.loop-text.patience in
+    let after = c.read_up_to.new.patience in
+    let text = c.loop-text.text in
+    let bytes = c.loop-text.invariant.0 in
+    let so_far = c.loop-text.invariant.1 in
+    let count = c.in-Some.count in
+    let piece = take count c.read_up_to.new.buffer in
+    let read =
+    subst (λ t. (met : Met) × Meets behind met now × IsPiece before met c.read_up_to.new.buffer (Ok t) after) c.in-Some.is c.in_ok-count.ensures.piece in
+    let fits : (1 ≤ count) × (count ≤ length c.read_up_to.new.buffer) × Came before read.0 piece false after = read.2 in
+    let came : Came before read.0 piece false after = fits.2 in
+    let most : count ≤ max c.loop-text.left 1 = subst (λ t. IfSome t (λ n. n ≤ max c.loop-text.left 1)) c.in-Some.is c.in_ok-count.ensures.within in
+    let on = subst (λ b. LeadsTo text piece c.feed.new.self b) c.if-branch.false c.in_ok-feed.ensures.ok in (
+      bytes ++ piece,
+      goes_on first behind now before after text bytes read.0 so_far read.1 piece came c.feed.new.self c.in_ok-feed.ensures.part on,
+      omega (arith, length-append bytes piece, length-take-le count c.read_up_to.new.buffer fits.1, most, c.loop-text.invariant.2, c.if-left-eq0.false),
+    )
+
+pub returns : goal.returns
+returns g c =
+    let first = g.S.Device.input c.args.source.now in
+    let behind = g.S.Device.input c.loop-text.source in
+    let now = g.S.Device.input c.read_up_to.new.source in
+    let before = c.loop-text.patience in
+    let after = c.read_up_to.new.patience in
+    let text = c.loop-text.text in
+    let bytes = c.loop-text.invariant.0 in
+    let so_far = c.loop-text.invariant.1 in
+    let read =
+    subst (λ t. (met : Met) × Meets behind met now × IsPiece before met c.read_up_to.new.buffer (Ok t) after) c.in_default.is c.in_ok-count.ensures.piece in
+    let end = ended first behind now before after text bytes read.0 so_far read.1 read.2 in
+    record { answers = (brought bytes after true, end.0, (end.1, omega (arith, c.loop-text.invariant.2))) }

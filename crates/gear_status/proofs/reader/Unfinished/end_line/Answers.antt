@@ -29,7 +29,7 @@ returns-clause-ok c =
     let period = subst (λ t. is_period t ≡ false) c.as_slice.ensures.value (sym c.if-is_period.ensures) in
     let bare = c.without_return.ensures ∙ ap without_return c.as_slice-2.ensures.value in
     let told = subst (λ t. line_meaning c.self.inside.number t ≡ Ok (c.in_ok-name.name.now, c.in_ok-name.counts)) bare c.in_ok-name.ensures.ok in (
-      λ rest. rw (← c.self.view_is, c.clear.ensures.items, c.in_ok-set.ensures.ok)
+      λ rest. rw (← c.self.view_is, c.clear.ensures.items, c.in_ok-set_counts.ensures.ok)
           (feed_line c.self.inside.number c.self.inside.line.items rest c.self.inside.load c.self.invariant.open_line c.self.invariant.short
           (c.in_ok-name.name.now, c.in_ok-name.counts) period c.if-self-gt-MAX_LINES.false told),
       rw (← c.self.view_is, c.clear.ensures.items) (more_room c.self.inside.number c.self.inside.line.items c.if-self-gt-MAX_LINES.false c.self.invariant.short),
