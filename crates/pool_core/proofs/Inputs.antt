@@ -1,10 +1,11 @@
 -- The input of now, by its parts.
-use Rattle.std.proofs.Common.{◌≡◌, ℕ, zero, suc, ◌+◌, ◌<◌, ◌≤◌, Bool, true, false, List, [], ◌∷◌, ◌++◌, length, map, get_or, take, drop, subst, refl, sym, ap, ◌∙◌, arith, length-append, append_assoc}
+use Rattle.std.proofs.Common.{◌≡◌, ℕ, zero, suc, ◌+◌, ◌<◌, ◌≤◌, Bool, true, false, not, List, [], ◌∷◌, ◌++◌, length, map, get_or, take, drop, subst, refl, sym, ap, ◌∙◌, arith, length-append, append_assoc}
 use Rattle.std.specs.Prelude.{replicate, sum, filter, slice_index_or}
 use Rattle.std.specs.List.{enumerate_from}
 use Rattle.std.specs.Prelude.{IsTrue, nat_eq, slice_get, Some}
 use Rattle.std.proofs.lemmas.Option.{slice_get_within, get_or_from_slice_get}
-use Rattle.std.proofs.lemmas.Bool.{eqb-true, eq-eqb}
+use Rattle.std.specs.Bool.{Decides}
+use Rattle.std.proofs.lemmas.Bool.{eqb-true, eq-eqb, false≢true}
 use Rattle.std.proofs.lemmas.List.Sums.{sum_by-cons}
 use Rattle.std.proofs.lemmas.List.{drop_more, take_more, take_all, length-take, length-drop, nil_from_length, append-nil}
 use Rattle.std.specs.Prelude.{Option, None, IfSome}
@@ -114,12 +115,13 @@ walk_end listed live next within met = (
   λ same. eq-eqb next (length listed) (let e = ap length (same ∙ sym met) in omega (arith, within, e, length-take next listed)),
 )
 
--- rows that agree so far and at the next place
-pub rows_more : (xs ys : List (List ℕ)) (n : ℕ) → n < length xs → n < length ys → take n xs ≡ take n ys → get_or xs n [] ≡ get_or ys n [] → take (n + 1) xs ≡ take (n + 1) ys
-rows_more xs ys n a b so_far here = rw (take_more xs n [] a, take_more ys n [] b, so_far, here) refl
+-- what is not told apart by `!=` is the same, and what is told apart is not
+pub is_same : {P : Type 0} (p r : Bool) → Decides p P → r ≡ not p → r ≡ false → P
+is_same true r decides is none = decides.0 refl
+is_same false r decides is none = absurd (false≢true (sym none ∙ is))
 
-pub rows_differ : (xs ys : List (List ℕ)) (n : ℕ) → xs ≡ ys → get_or xs n [] ≡ get_or ys n []
-rows_differ xs ys n e = ap (λ (zs : List (List ℕ)). get_or zs n []) e
+pub differs : {P : Type 0} (p r : Bool) → Decides p P → r ≡ not p → r ≡ true → P → ⊥
+differs p r decides is told same = false≢true (sym (is ∙ ap not (decides.1 same)) ∙ told)
 
 -- the workers whose slots are live
 pub walked : (p : Settings) (slots : List Slot) → length slots ≡ slot_count p → live_workers p (map is_live slots) ≡ live_from 0 (owners p) slots

@@ -4,7 +4,7 @@ ghost use Rattle.worker_state.specs.Slots.{is_live};
 ghost use Rattle.worker_state.specs.Orders.{no_order, IsOrder};
 ghost use Rattle.pool_settings.specs.Slots.{slots as slot_count, owners};
 ghost use Rattle.pool_settings.specs.Planning.{instance_of, waiting_of};
-ghost use Rattle.pool_core.specs.Machine.{what_of, same_what, ordered, orders_from};
+ghost use Rattle.pool_core.specs.Machine.{what_of, ordered, orders_from};
 ghost use Rattle.pool_core.specs.Book.{moved_in, one_moved};
 ghost use Rattle.pool_core.specs.Walk.{live_from};
 
@@ -54,61 +54,6 @@ fn are_live(settings: &Settings, slots: &[Slot], listed: &[(SlotId, MachineId)])
     next == listed.len()
 }
 
-fn is_same_row(one: &[FuncId], other: &[FuncId]) -> bool
-    ensures { IsTrue result ↔ (one.now ≡ other.now) }
-{
-    one == other
-}
-
-/// Whether the machines may do in the input what they may by the settings.
-fn are_permitted(settings: &Settings, input: &Input) -> bool
-    ensures { IsTrue result ↔ (input.now.may ≡ settings.now.may) }
-{
-    let count = settings.machines();
-    if input.machines() != count as usize {
-        return false;
-    }
-    for number in 0..count {
-        let machine = MachineId::new(number);
-        if !is_same_row(input.permitted(machine), settings.permitted(machine)) {
-            return false;
-        }
-    }
-    true
-}
-
-/// Whether the least numbers of the input are those of the settings.
-fn are_least(settings: &Settings, least: &[u32]) -> bool
-    ensures { IsTrue result ↔ (least.now ≡ settings.now.least) }
-{
-    let count = settings.functions();
-    if least.len() != count as usize {
-        return false;
-    }
-    for number in 0..count {
-        if least[number as usize] != settings.least(FuncId::new(number)) {
-            return false;
-        }
-    }
-    true
-}
-
-/// Whether the greatest numbers of the input are those of the settings.
-fn are_most(settings: &Settings, most: &[u32]) -> bool
-    ensures { IsTrue result ↔ (most.now ≡ settings.now.most) }
-{
-    let count = settings.functions();
-    if most.len() != count as usize {
-        return false;
-    }
-    for number in 0..count {
-        if most[number as usize] != settings.most(FuncId::new(number)) {
-            return false;
-        }
-    }
-    true
-}
-
 /// Whether these are the jobs that wait, for each function.
 fn are_waiting(settings: &Settings, load: &Load, waiting: &[u32]) -> bool
     ensures { IsTrue result ↔ (waiting.now ≡ waiting_of settings.now load.now) }
@@ -136,17 +81,6 @@ fn what(function: Option<FuncId>) -> What
     }
 }
 
-fn is_same(one: &What, other: &What) -> bool
-    ensures { result ≡ same_what one.now other.now }
-{
-    match (one, other) {
-        (What::Idle, What::Idle) => true,
-        (What::Stop, What::Stop) => true,
-        (What::Work(f), What::Work(g)) => *f == *g,
-        _ => false,
-    }
-}
-
 /// A slot's order after a round.
 fn order_after(what: What, round: u32, slot: &Slot, order: Order) -> Order
     requires { IsOrder (ordered what round slot.now order) }
@@ -159,7 +93,7 @@ fn order_after(what: What, round: u32, slot: &Slot, order: Order) -> Order
             runs: _,
             ticket: _,
         } => {
-            if order.generation == *generation && is_same(&order.what, &what) {
+            if order.generation == *generation && order.what == what {
                 order
             } else {
                 Order {
@@ -198,7 +132,7 @@ pub fn orders_after(
 fn one_if_moved(slot: &Slot, old: &Order, new: &Order) -> u32
     ensures { result ≡ one_moved slot.now old.now new.now }
 {
-    if slot.is_live() && !is_same(&old.what, &new.what) {
+    if slot.is_live() && old.what != new.what {
         1
     } else {
         0
@@ -224,16 +158,16 @@ pub fn is_input(settings: &Settings, slots: &[Slot], load: &Load, input: &Input)
     requires { length slots.now ≡ slot_count settings.now }
     ensures { IsTrue result ↔ (input.now ≡ instance_of settings.now (map is_live slots.now) (waiting_of settings.now load.now)) }
 {
+    if input.rows() != settings.rows() {
+        return false;
+    }
+    if input.least() != settings.least_numbers() {
+        return false;
+    }
+    if input.most() != settings.most_numbers() {
+        return false;
+    }
     if !are_live(settings, slots, input.live()) {
-        return false;
-    }
-    if !are_permitted(settings, input) {
-        return false;
-    }
-    if !are_least(settings, input.least()) {
-        return false;
-    }
-    if !are_most(settings, input.most()) {
         return false;
     }
     are_waiting(settings, load, input.waiting())

@@ -141,11 +141,11 @@ pub fn stay_or_retire(stays: bool) -> StayOrRetire
     }
 }
 
-/// 1 if it holds, else 0.
-pub fn one_if(holds: bool) -> u32
-    ensures { result ≡ (if holds then 1 else 0) }
+/// How many events a worker owes after a run: its end, if it stays.
+pub fn owed_by_worker(stays: bool) -> u32
+    ensures { result ≡ (if stays then 1 else 0) }
 {
-    if holds { 1 } else { 0 }
+    if stays { 1 } else { 0 }
 }
 
 /// How many jobs are lost with a worker that holds this ticket.

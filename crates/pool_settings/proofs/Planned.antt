@@ -6,9 +6,7 @@ use Rattle.std.specs.List.Sorted.{IsStrictlyIncreasing}
 use Rattle.std.proofs.lemmas.List.Elements.{All-filter, All-from_get_or}
 use Rattle.std.proofs.lemmas.List.FromFn.{get_or-enumerate_from, length-enumerate_from}
 use Rattle.std.proofs.lemmas.List.Kept.{IsStrictlyIncreasing-filter}
-use Rattle.plan_model.specs.InputRefusals.{AreSlotsInOrder, IsTaken, Refuses, as_given, instance}
-use Rattle.plan_model.specs.declared.input.InputError.{InputError}
-use Rattle.plan_model.specs.declared.input.InputError.TheVariants.{BadMachine, Memory, SlotOrder, TooMany}
+use Rattle.plan_model.specs.InputRefusals.{AreSlotsInOrder, IsTaken, as_given, instance}
 use Rattle.plan_model.proofs.Ranges.{range-rises}
 use Rattle.pool_settings.specs.Settings.{AreSettings, Settings}
 use Rattle.pool_settings.specs.Slots.{all_workers, live_workers, owners}
@@ -80,13 +78,6 @@ module _ (p : Settings) (valid : AreSettings p) (live : List Bool) where
   planned waiting =
       let within = subst (λ n. All (λ row. All (λ f. f < n) row) p.may) (sym valid.least_paired) valid.may_within in
       ap (λ (rows : List (List ℕ)). record { live = live_workers p live; may = rows; least = p.least; most = p.most; waiting = waiting }) (rows_same (length p.least) p.may valid.may_rise within)
-
--- what is refused although it is taken is refused for want of memory
-pub only_memory : (error : InputError) (live : List (ℕ × ℕ)) (may : List (List ℕ)) (least most waiting : List ℕ) → IsTaken (as_given live may least most waiting) → Refuses error (as_given live may least most waiting) → error ≡ Memory
-only_memory SlotOrder live may least most waiting taken refused = absurd (refused taken.order)
-only_memory BadMachine live may least most waiting taken refused = absurd (refused.1 taken.numbers)
-only_memory TooMany live may least most waiting taken refused = absurd (refused.2 taken.limits)
-only_memory Memory live may least most waiting taken refused = refl
 
 -- the parts that are handed on are those of the settings
 pub record AreParts (live : List (ℕ × ℕ)) (may : List (List ℕ)) (least most : List ℕ) (p : Settings) (marks : List Bool) : Type 0 where

@@ -3,10 +3,10 @@
 ghost use Rattle.std.specs.Prelude.{◌≡◌, ◌≤◌, false, IfOk, filter, length, slice_index_or};
 ghost use Rattle.std.specs.List.{enumerate_from};
 
-use plan_model::{MachineId, SlotId};
+use plan_model::{MachineId, SlotId, is_marked};
 use std::alloc::{AllocError, Global};
 
-/// The workers whose slots are marked, as slot and machine, where each slot's machine is given.
+/// The workers whose slots are marked, as slot and machine, if each slot's machine is given. A slot without a mark is not live.
 pub fn live_workers(
     alloc: Global,
     owners: &[MachineId],
@@ -25,14 +25,4 @@ pub fn live_workers(
         slot += 1;
     }
     Ok(workers)
-}
-
-/// A slot without a mark is not live.
-fn is_marked(live: &[bool], slot: u32) -> bool
-    ensures { result ≡ slice_index_or live.now slot false }
-{
-    match live.get(slot as usize) {
-        Some(mark) => *mark,
-        None => false,
-    }
 }

@@ -21,7 +21,7 @@ use crate::planning::live_workers;
 use crate::slots::SlotTable;
 use crate::{SettingsError, SettingsFile};
 use gear_status::Load;
-use plan_model::{FuncId, Input, InputError, MachineId, SlotId};
+use plan_model::{FuncId, Input, MachineId, SlotId};
 use std::alloc::{AllocError, Global};
 use std::marker::Model;
 use text_pieces::{cut_last, plain_number_u32};
@@ -274,6 +274,27 @@ impl Settings {
         self.most[function.number() as usize]
     }
 
+    /// For each function its least number of workers.
+    pub fn least_numbers(&self) -> &[u32]
+        ensures { result.now ≡ self.now.least }
+    {
+        &self.least
+    }
+
+    /// For each function its greatest number of workers.
+    pub fn most_numbers(&self) -> &[u32]
+        ensures { result.now ≡ self.now.most }
+    {
+        &self.most
+    }
+
+    /// For each machine the functions that its workers may do, in rising order and each once.
+    pub fn rows(&self) -> &[Vec<FuncId>]
+        ensures { map (λ row. row.items) result.now ≡ self.now.may }
+    {
+        &self.may
+    }
+
     /// The functions that the workers of a machine may do, in rising order and each once.
     pub fn permitted(&self, machine: MachineId) -> &[FuncId]
         requires { machine < length self.now.machines }
@@ -411,13 +432,7 @@ impl Settings {
         ensures problem { IfOk result (λ input. input ≡ instance_of self.now live.now waiting.now) }
     {
         let workers = live_workers(alloc, self.slots.owners(), live)?;
-        match Input::new(alloc, &workers, &self.may, &self.least, &self.most, waiting) {
-            Ok(input) => Ok(input),
-            Err(error) => match error {
-                InputError::Memory => Err(AllocError),
-                _ => unreachable!(),
-            },
-        }
+        Input::of_taken(alloc, &workers, &self.may, &self.least, &self.most, waiting)
     }
 }
 

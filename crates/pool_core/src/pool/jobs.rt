@@ -162,7 +162,8 @@ impl Pool {
         let slot = table::slot_after(stays, worker.generation, runs);
         table::put_slot(&mut self.slots, worker.slot, slot);
         table::put_standing(&mut self.standings, ticket, Standing::Reported(end));
-        self.owed -= 2 - table::one_if(stays);
+        // The report and the worker's end were owed.
+        self.owed -= 2 - table::owed_by_worker(stays);
         self.reported += 1;
         self.events.push_reserved(Event::Reported {
             worker,

@@ -13,7 +13,7 @@ pub overflow_sub-self-2 : goal.overflow_sub-self-2
 overflow_sub-self-2 c =
     let p = c.self.inside in
     let w = c.name-worker.result in
-    report_within p.owed c.one_if.result c.stays-stays.result c.one_if.ensures
+    report_within p.owed c.owed_by_worker.result c.stays-stays.result c.owed_by_worker.ensures
     (owes_report p.settings p.chapters p.events.items (state_of p) p.owed p.reported p.lost _ c.self.invariant w c.args.ticket (ap (λ (b : Book). report_refusal b w c.args.ticket) c.self.view_is ∙ (sym c.report_refusal.ensures ∙ c.in_default.is)) c.stays-stays.result (c.stays-stays.ensures.stays ∙ ap (λ (b : Book). nat_lt (run_count (slot_in b.state.slots w.slot) + 1) b.settings.max_runs) (sym c.self.view_is)))
 
 pub invariant_of-self : goal.invariant_of-self
@@ -29,7 +29,7 @@ invariant_of-self c =
     c.push_reserved.new.self.items c.push_reserved.ensures.items
     c.put_slot.new.slots.items slots
     c.put_standing.new.standings.items c.put_standing.ensures
-    _ (owes_after_report p.owed c.one_if.result c.stays-stays.result c.one_if.ensures (owes_report p.settings p.chapters p.events.items (state_of p) p.owed p.reported p.lost _ c.self.invariant w c.args.ticket (ap (λ (b : Book). report_refusal b w c.args.ticket) c.self.view_is ∙ (sym c.report_refusal.ensures ∙ c.in_default.is)) c.stays-stays.result (c.stays-stays.ensures.stays ∙ ap (λ (b : Book). nat_lt (run_count (slot_in b.state.slots w.slot) + 1) b.settings.max_runs) (sym c.self.view_is))))
+    _ (owes_after_report p.owed c.owed_by_worker.result c.stays-stays.result c.owed_by_worker.ensures (owes_report p.settings p.chapters p.events.items (state_of p) p.owed p.reported p.lost _ c.self.invariant w c.args.ticket (ap (λ (b : Book). report_refusal b w c.args.ticket) c.self.view_is ∙ (sym c.report_refusal.ensures ∙ c.in_default.is)) c.stays-stays.result (c.stays-stays.ensures.stays ∙ ap (λ (b : Book). nat_lt (run_count (slot_in b.state.slots w.slot) + 1) b.settings.max_runs) (sym c.self.view_is))))
     _ c.push_reserved.ensures.capacity
 
 pub push_reserved-requires : goal.push_reserved-requires

@@ -1,10 +1,11 @@
 use Rattle.std.proofs.Common.{◌≡◌, ℕ, List, false, filter, get_or, length, map, ap, subst, sym, arith, ◌∙◌}
-use Rattle.std.specs.Prelude.{sum}
+use Rattle.std.specs.Prelude.{IfOk, sum}
 use Rattle.std.specs.List.{enumerate_from}
+use Rattle.plan_model.specs.Planning.{Instance}
 use Rattle.pool_settings.specs.Kept.{settings_view}
 use Rattle.pool_settings.specs.Settings.{Settings}
 use Rattle.pool_settings.specs.Planning.{instance_of}
-use Rattle.pool_settings.proofs.Planned.{AreParts, only_memory, planned, same_instance, same_taken, taken}
+use Rattle.pool_settings.proofs.Planned.{AreParts, planned, same_instance, same_taken, taken}
 use Rattle.pool_settings.proofs.SlotSums.{length-owners_from}
 use Rattle.pool_settings.proofs.settings.Settings.input.Goals as goal
 
@@ -13,8 +14,8 @@ live_workers-requires c =
     let many : length c.owners.result.now ≡ sum (settings_view c.self.inside).workers = ap length c.owners.ensures ∙ length-owners_from 0 (settings_view c.self.inside).workers in
     omega (arith, many, c.self.invariant.workers_few)
 
-pub returns-in-Ok : goal.returns-in-Ok
-returns-in-Ok c =
+pub returns : goal.returns
+returns c =
     let p = settings_view c.self.inside in
     let waiting = c.args.waiting.now in
     let marks = c.args.live.now in
@@ -24,13 +25,12 @@ returns-in-Ok c =
       least_is = c.deref-3.ensures.value;
       most_is = c.deref-4.ensures.value;
     } in
-    record {
-      problem = c.in-Ok.ensures.ok ∙ same_instance _ _ _ _ waiting p marks parts ∙ planned p c.self.invariant marks waiting
-          ∙ ap (λ (p : Settings). instance_of p marks waiting) c.self.view_is;
-    }
+    let made = same_instance _ _ _ _ waiting p marks parts ∙ planned p c.self.invariant marks waiting
+    ∙ ap (λ (p : Settings). instance_of p marks waiting) c.self.view_is in
+    record { problem = subst (λ (i : Instance). IfOk c.of_taken.result (λ input. input ≡ i)) made c.of_taken.ensures }
 
-pub unreachable-requires : goal.unreachable-requires
-unreachable-requires c =
+pub of_taken-requires : goal.of_taken-requires
+of_taken-requires c =
     let p = settings_view c.self.inside in
     let waiting = c.args.waiting.now in
     let marks = c.args.live.now in
@@ -41,5 +41,4 @@ unreachable-requires c =
       most_is = c.deref-4.ensures.value;
     } in
     let paired : length waiting ≡ length p.functions = subst (λ (p : Settings). length waiting ≡ length p.functions) (sym c.self.view_is) c.requires in
-    let sound = taken p c.self.invariant marks waiting paired in
-    c.in_default.not-Memory (only_memory c.in-Err.error _ _ _ _ _ (same_taken _ _ _ _ waiting p marks parts sound) c.in-Err.ensures.refused)
+    record { taken = same_taken _ _ _ _ waiting p marks parts (taken p c.self.invariant marks waiting paired) }
