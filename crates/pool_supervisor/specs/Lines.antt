@@ -1,9 +1,12 @@
 -- What an attempt of the supervisor came to, and its line.
-use Rattle.std.specs.Prelude.{ℕ, ◌-◌, ◌^◌, ◌++◌, List, [], Option, Some, None, codes, nat_lt, if◌then◌else◌}
+use Rattle.std.specs.Prelude.{ℕ, ◌++◌, List, [], Option, Some, None, codes}
 use Rattle.std.specs.Fmt.{decimal}
 use Rattle.refusal.specs.Label.{Label, label_words}
 use Rattle.gear_status.specs.StatusRefusals.{status_line_of, status_label}
 use Rattle.gear_status.specs.declared.error.StatusError.{StatusError}
+use Rattle.plan_model.specs.Backlogs.{as_backlog, backlog_words}
+use Rattle.plan_model.specs.declared.level.Backlog.{Backlog}
+use Rattle.plan_model.specs.declared.level.Backlog.TheVariants as backlog
 use Rattle.pool_core.specs.CallRefusals.{load_label, view_label, adopt_label}
 use Rattle.pool_core.specs.declared.answer.Ran.{Ran}
 use Rattle.pool_supervisor.specs.declared.attempt.PoolRefusal.{PoolRefusal}
@@ -17,11 +20,15 @@ refusal_label (refusal.Load error) = load_label error
 refusal_label (refusal.View error) = view_label error
 refusal_label (refusal.Adopt error) = adopt_label error
 
--- a round with this backlog, or with none where there is no plan
+-- a round with this backlog
+abbrev pub planned_attempt : ℕ → Backlog → Attempt
+planned_attempt round (backlog.Jobs jobs) = attempt.Backlog round jobs
+planned_attempt round (backlog.Unserved jobs) = attempt.Unserved round jobs
+
+-- a round with this backlog number, or with none if there is no plan
 abbrev pub attempt_with : ℕ → Option ℕ → Attempt
 attempt_with round None = attempt.NoPlan round
-attempt_with round (Some backlog) =
-    if nat_lt backlog (2 ^ 32) then attempt.Backlog round backlog else attempt.Unserved round (backlog - 2 ^ 32)
+attempt_with round (Some number) = planned_attempt round (as_backlog number)
 
 abbrev pub attempt_of : Ran → Attempt
 attempt_of ran = attempt_with ran.number ran.backlog
@@ -35,8 +42,8 @@ abbrev pub status_words : StatusError → List ℕ
 status_words error = codes "status " ++ label_words (status_label error) ++ line_words (status_line_of error)
 
 abbrev pub attempt_words : Attempt → List ℕ
-attempt_words (attempt.Backlog round backlog) = codes "round " ++ decimal round ++ codes " backlog " ++ decimal backlog
-attempt_words (attempt.Unserved round waiting) = codes "round " ++ decimal round ++ codes " unserved " ++ decimal waiting
+attempt_words (attempt.Backlog round jobs) = codes "round " ++ decimal round ++ codes " " ++ backlog_words (backlog.Jobs jobs)
+attempt_words (attempt.Unserved round jobs) = codes "round " ++ decimal round ++ codes " " ++ backlog_words (backlog.Unserved jobs)
 attempt_words (attempt.NoPlan round) = codes "round " ++ decimal round ++ codes " noplan"
 attempt_words attempt.NoLink = codes "nolink"
 attempt_words (attempt.Status error) = status_words error

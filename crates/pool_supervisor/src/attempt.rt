@@ -3,7 +3,7 @@ ghost use Rattle.std.specs.Prelude.{◌≡◌, IfOk, string_bytes};
 ghost use Rattle.pool_supervisor.specs.Lines.{attempt_of, attempt_words, attempt_line, status_words};
 
 use gear_status::StatusError;
-use plan_model::UNSERVED;
+use plan_model::Backlog;
 use pool_core::{AdoptError, LoadError, Ran, ViewError};
 use refusal::{Label, Labelled};
 use std::alloc::{AllocError, Global};
@@ -72,13 +72,12 @@ impl Attempt {
         ensures { result ≡ attempt_of ran.now }
     {
         let round = ran.number;
-        match ran.backlog {
-            None => Attempt::NoPlan { round },
-            Some(backlog) if backlog < UNSERVED => Attempt::Backlog { round, backlog },
-            Some(backlog) => Attempt::Unserved {
-                round,
-                waiting: backlog - UNSERVED,
-            },
+        let Some(number) = ran.backlog else {
+            return Attempt::NoPlan { round };
+        };
+        match Backlog::of(number) {
+            Backlog::Jobs(backlog) => Attempt::Backlog { round, backlog },
+            Backlog::Unserved(waiting) => Attempt::Unserved { round, waiting },
         }
     }
 }
@@ -89,8 +88,14 @@ pub fn attempt_words(alloc: Global, attempt: &Attempt) -> Result<String, AllocEr
 {
     let mut text = String::new(alloc);
     match attempt {
-        Attempt::Backlog { round, backlog } => write!(text, "round {round} backlog {backlog}")?,
-        Attempt::Unserved { round, waiting } => write!(text, "round {round} unserved {waiting}")?,
+        Attempt::Backlog { round, backlog } => {
+            let words = Backlog::Jobs(*backlog);
+            write!(text, "round {round} {words}")?
+        }
+        Attempt::Unserved { round, waiting } => {
+            let words = Backlog::Unserved(*waiting);
+            write!(text, "round {round} {words}")?
+        }
         Attempt::NoPlan { round } => write!(text, "round {round} noplan")?,
         Attempt::NoLink => write!(text, "nolink")?,
         Attempt::Status(error) => return status_words(alloc, *error),
