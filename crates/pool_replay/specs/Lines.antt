@@ -1,6 +1,7 @@
 -- What a command prints, without its line feed.
-use Rattle.std.specs.Prelude.{ℕ, ◌-◌, ◌^◌, ◌++◌, List, [], length, Option, Some, None, Result, Ok, Err, codes, nat_lt, if◌then◌else◌}
+use Rattle.std.specs.Prelude.{ℕ, ◌++◌, List, [], length, Option, Some, None, Result, Ok, Err, codes, nat_lt, if◌then◌else◌}
 use Rattle.std.specs.Fmt.{decimal}
+use Rattle.plan_model.specs.Backlogs.{as_backlog, backlog_words}
 use Rattle.plan_model.specs.Certificate.{Certificate}
 use Rattle.plan_model.specs.declared.answer.Answer.{Answer}
 use Rattle.plan_model.specs.declared.answer.Answer.TheVariants as answers
@@ -65,15 +66,13 @@ report_line (Ok Stay) = codes "ok stay"
 report_line (Ok Retire) = codes "ok retire"
 report_line (Err e) = refused_line (report_label e)
 
--- a backlog above all numbers of jobs counts what nobody serves
-abbrev pub backlog_words : Option ℕ → List ℕ
-backlog_words None = codes "noplan"
-backlog_words (Some backlog) =
-    if nat_lt backlog (2 ^ 32) then codes "backlog " ++ decimal backlog
-    else codes "unserved " ++ decimal (backlog - 2 ^ 32)
+-- what the backlog number of an answer says, and `noplan` where it has none
+abbrev pub found_words : Option ℕ → List ℕ
+found_words None = codes "noplan"
+found_words (Some number) = backlog_words (as_backlog number)
 
 abbrev pub ran_line : Ran → List ℕ
-ran_line ran = codes "ok " ++ decimal ran.number ++ codes " " ++ backlog_words ran.backlog ++ codes " moved " ++ decimal ran.moved
+ran_line ran = codes "ok " ++ decimal ran.number ++ codes " " ++ found_words ran.backlog ++ codes " moved " ++ decimal ran.moved
 
 abbrev pub ran_or : {E : Type 0} → (E → Label) → Result Ran E → List ℕ
 ran_or label_of (Ok ran) = ran_line ran
@@ -84,7 +83,7 @@ backlog_if_planned (answers.Planned plan backlog short) = Some backlog
 backlog_if_planned (answers.NoPlan short) = None
 
 abbrev pub view_line : Result Certificate ViewError → List ℕ
-view_line (Ok viewed) = codes "ok " ++ backlog_words (backlog_if_planned viewed.answer)
+view_line (Ok viewed) = codes "ok " ++ found_words (backlog_if_planned viewed.answer)
 view_line (Err e) = refused_line (view_label e)
 
 abbrev pub job_line : Settings → Option Standing → List ℕ

@@ -3,7 +3,7 @@
 ghost use Rattle.std.specs.Prelude.{◌≡◌, IfOk, string_bytes};
 ghost use Rattle.pool_replay.specs.Lines as spec;
 
-use plan_model::{Answer, Certified, UNSERVED};
+use plan_model::{Answer, Backlog, Certified};
 use pool_core::{
     Chapter, ChapterError, GrabError, JoinError, Pass, Ran, ReportError, StayOrRetire, ViewError,
 };
@@ -99,19 +99,15 @@ pub fn report_line(
     }
 }
 
-/// `backlog K`, or `unserved W` where the backlog is above all numbers of jobs, or `noplan`.
-fn backlog_words(alloc: Global, backlog: Option<u64>) -> Result<String, AllocError>
-    ensures { IfOk result (λ s. string_bytes s ≡ spec.backlog_words backlog) }
+/// What the backlog number of an answer says, and `noplan` if it has none.
+fn found_words(alloc: Global, number: Option<u64>) -> Result<String, AllocError>
+    ensures { IfOk result (λ s. string_bytes s ≡ spec.found_words number) }
 {
-    match backlog {
+    match number {
         None => String::from_str(alloc, "noplan"),
-        Some(backlog) => {
-            if backlog < UNSERVED {
-                format!(in alloc; "backlog {backlog}")
-            } else {
-                let unserved = backlog - UNSERVED;
-                format!(in alloc; "unserved {unserved}")
-            }
+        Some(number) => {
+            let backlog = Backlog::of(number);
+            format!(in alloc; "{backlog}")
         }
     }
 }
@@ -120,10 +116,10 @@ fn ran_line(alloc: Global, ran: &Ran) -> Result<String, AllocError>
     ensures { IfOk result (λ s. string_bytes s ≡ spec.ran_line ran.now) }
 {
     let number = ran.number;
-    let backlog = backlog_words(alloc, ran.backlog)?;
+    let found = found_words(alloc, ran.backlog)?;
     let moved = ran.moved;
     let mut line = String::new(alloc);
-    write!(line, "ok {number} {backlog} moved {moved}")?;
+    write!(line, "ok {number} {found} moved {moved}")?;
     Ok(line)
 }
 
@@ -154,8 +150,8 @@ pub fn view_line(alloc: Global, answer: &Result<Certified, ViewError>) -> Result
 {
     match answer {
         Ok(viewed) => {
-            let backlog = backlog_words(alloc, backlog_of(viewed.answer()))?;
-            format!(in alloc; "ok {backlog}")
+            let found = found_words(alloc, backlog_of(viewed.answer()))?;
+            format!(in alloc; "ok {found}")
         }
         Err(error) => refused(alloc, &error.label()),
     }
