@@ -45,7 +45,8 @@ impl Patience {
     ) -> Result<Option<usize>, DeviceFault>
         requires room { 0 < length buffer.old }
         requires count { (S.input source.old).failures < 2 ^ 64 - 1 }
-        ensures piece { (met : Met) × Meets (S.input source.old) met (S.input source.new) × IsPiece self.old met buffer.new result self.new }
+        ensures piece { (met : Met) × Meets (S.input source.old) met (S.input source.new)
+            × IsPiece self.old met buffer.new result self.new }
     {
         loop {
             match source.take(buffer)? {
