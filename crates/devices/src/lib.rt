@@ -4,6 +4,7 @@
 mod error;
 mod files;
 mod input;
+mod reads;
 mod results;
 mod streams;
 mod tcp;

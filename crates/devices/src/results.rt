@@ -6,23 +6,49 @@ ghost use Rattle.devices.specs.Results as spec;
 use crate::error::InputError;
 use std::io::ErrorKind;
 
-/// Whether a read that met an error of this kind is a lull, after so many lulls. One that a signal interrupted is, and no other;
-/// a device that has lulled 18,446,744,073,709,551,615 times can count no further lull, and fails.
-pub fn is_lull(kind: ErrorKind, lulls: u64) -> bool
-    ensures { result ≡ spec.is_lull kind lulls }
+/// Whether the reads of a stream have a time limit.
+#[derive(Clone, Copy)]
+pub enum TimeLimit {
+    /// None: a read waits for as long as it takes.
+    Unset,
+    /// A read that waits longer ends with an error.
+    Set,
+}
+
+/// What an error of the system says.
+#[derive(Clone, Copy)]
+pub enum Meaning {
+    /// There was nothing in the time of the call. More may come.
+    Timeout,
+    /// There is no memory, which says nothing of the device.
+    OutOfMemory,
+    /// The device failed.
+    Fault,
+}
+
+/// What an error of this kind says. A call that a signal interrupted has timed out. That the call would have to wait, or waited for
+/// too long, is a timeout if the stream has a time limit. Without one it is a fault: nothing waits for such a stream, so a caller that
+/// waited out its timeouts would only read it 64 times in a row.
+pub fn meaning_of(kind: ErrorKind, limit: TimeLimit) -> Meaning
+    ensures meaning { result ≡ spec.meaning_of kind limit }
 {
     match kind {
-        ErrorKind::Interrupted => lulls < u64::MAX,
-        _ => false,
+        ErrorKind::Interrupted => Meaning::Timeout,
+        ErrorKind::WouldBlock | ErrorKind::TimedOut => match limit {
+            TimeLimit::Set => Meaning::Timeout,
+            TimeLimit::Unset => Meaning::Fault,
+        },
+        ErrorKind::OutOfMemory => Meaning::OutOfMemory,
+        _ => Meaning::Fault,
     }
 }
 
-/// Why a call on a file failed that met an error of this kind: for want of memory, which says nothing of the file, or by `other`.
+/// Why a call on a file failed that met an error of this kind: out of memory, which says nothing of the file, or `other`.
 pub fn failed_by(kind: ErrorKind, other: InputError) -> InputError
-    ensures { result ≡ spec.failed_by kind other }
+    ensures failure { result ≡ spec.failed_by kind other }
 {
-    match kind {
-        ErrorKind::OutOfMemory => InputError::Memory,
-        _ => other,
+    match meaning_of(kind, TimeLimit::Unset) {
+        Meaning::OutOfMemory => InputError::Memory,
+        Meaning::Timeout | Meaning::Fault => other,
     }
 }

@@ -3,7 +3,8 @@
 ghost use Rattle.std.specs.Prelude.{◌≡◌};
 ghost use Rattle.devices.specs.Streams.{first_input, first_output};
 
-use crate::results::is_lull;
+use crate::reads::Reads;
+use crate::results::TimeLimit;
 use byte_io::{Device, DeviceFault, Sink, Source, Took};
 use std::io::{Read, Write};
 use std::marker::Model;
@@ -15,9 +16,7 @@ use std::snapshot::Snapshot;
 pub struct InputSource<R: Read> {
     reader: R,
     first: Snapshot<R>,
-    failures: u64,
-    lulls: u64,
-    has_ended: bool,
+    reads: Reads,
 }
 
 impl<R: Read> Model for InputSource<R> {
@@ -29,12 +28,12 @@ impl<R: Read> Model for InputSource<R> {
 
     ghost view = { λ s. record {
       given = given_of (R.remaining s.first.value) (R.remaining s.reader);
-      lulls = Some s.lulls;
-      failures = s.failures;
-      has_ended = s.has_ended;
+      lulls = Some s.reads.timeouts;
+      failures = s.reads.failures;
+      has_ended = s.reads.has_ended;
     } };
 
-    ghost invariant = { λ s. IsLeft (R.remaining s.first.value) (R.remaining s.reader) s.has_ended };
+    ghost invariant = { λ s. IsLeft (R.remaining s.first.value) (R.remaining s.reader) s.reads.has_ended };
 }
 
 impl<R: Read + Drop> InputSource<R> {
@@ -45,9 +44,7 @@ impl<R: Read + Drop> InputSource<R> {
         InputSource {
             first: Snapshot::of(&reader),
             reader,
-            failures: 0,
-            lulls: 0,
-            has_ended: false,
+            reads: Reads::new(),
         }
     }
 }
@@ -58,21 +55,14 @@ impl<R: Read + Drop> Device for InputSource<R> {
 
 impl<R: Read + Drop> Source for InputSource<R> {
     fn take(&mut self, buffer: &mut [u8]) -> Result<Took, DeviceFault> {
-        self.has_ended = false;
+        self.reads.has_ended = false;
         match self.reader.read(buffer) {
             Ok(0) => {
-                self.has_ended = true;
+                self.reads.has_ended = true;
                 Ok(Took::Ended)
             }
             Ok(count) => Ok(Took::Bytes(count)),
-            Err(error) => {
-                if is_lull(error.kind(), self.lulls) {
-                    self.lulls += 1;
-                    return Ok(Took::Lull);
-                }
-                self.failures += 1;
-                Err(DeviceFault)
-            }
+            Err(error) => self.reads.stopped(error.kind(), TimeLimit::Unset),
         }
     }
 }

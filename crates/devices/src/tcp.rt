@@ -3,14 +3,16 @@
 ghost use Rattle.std.specs.Prelude.{◌≡◌, ◌≤◌, IfOk};
 ghost use Rattle.byte_io.specs.Sides.{no_input, no_output};
 
-use byte_io::{Device, DeviceFault, Sink, Source, Took};
+use crate::reads::Reads;
+use crate::results::TimeLimit;
+use byte_io::{Device, DeviceFault, MAX_TIMEOUTS, Sink, Source, Took};
 use std::io;
 use std::io::{ErrorKind, Read, Write};
 use std::net::{Net, TcpStream, ToSocketAddrs};
 use std::time::Duration;
 
-/// How many lulls a dial or a write may take: one more than the lulls of one status text.
-const PATIENCE: u64 = 65;
+/// How many timeouts a dial or a write may take: one more than a call that reads waits out.
+const PATIENCE: u64 = MAX_TIMEOUTS as u64 + 1;
 
 /// A TCP stream to the job server, as a source and a sink with one descriptor.
 ///
@@ -20,18 +22,15 @@ const PATIENCE: u64 = 65;
 #[derive(Drop)]
 pub struct TcpLink {
     stream: TcpStream,
-    /// How many reads failed.
-    take_failures: u64,
+    reads: Reads,
     /// How many writes failed.
     give_failures: u64,
-    /// Whether the last read found the end.
-    has_ended: bool,
 }
 
 impl Device for TcpLink {
     ghost use Rattle.std.specs.Prelude.{None};
 
-    ghost input = { λ s. record { given = None; lulls = None; failures = s.take_failures; has_ended = s.has_ended } };
+    ghost input = { λ s. record { given = None; lulls = None; failures = s.reads.failures; has_ended = s.reads.has_ended } };
 
     ghost output = { λ s. record { got = None; failures = s.give_failures } };
 }
@@ -50,9 +49,8 @@ impl TcpLink {
         stream.set_write_timeout(Some(Duration::from_millis(lull_ms as u64 * PATIENCE)))?;
         Ok(TcpLink {
             stream,
-            take_failures: 0,
+            reads: Reads::new(),
             give_failures: 0,
-            has_ended: false,
         })
     }
 
@@ -80,22 +78,14 @@ impl TcpLink {
 
 impl Source for TcpLink {
     fn take(&mut self, buffer: &mut [u8]) -> Result<Took, DeviceFault> {
-        self.has_ended = false;
+        self.reads.has_ended = false;
         match self.stream.read(buffer) {
             Ok(0) => {
-                self.has_ended = true;
+                self.reads.has_ended = true;
                 Ok(Took::Ended)
             }
             Ok(count) => Ok(Took::Bytes(count)),
-            Err(error) => match error.kind() {
-                ErrorKind::WouldBlock | ErrorKind::TimedOut | ErrorKind::Interrupted => {
-                    Ok(Took::Lull)
-                }
-                _ => {
-                    self.take_failures += 1;
-                    Err(DeviceFault)
-                }
-            },
+            Err(error) => self.reads.stopped(error.kind(), TimeLimit::Set),
         }
     }
 }
