@@ -191,6 +191,18 @@ impl Pool {
         self.events.as_slice()
     }
 
+    /// Does nothing: brings what every pool keeps to where it is called. Its events, with those of the chapters before it, are a history
+    /// of its settings that leads to the state of now.
+    pub fn facts(&self)
+        ensures settings { AreSettings self.now.settings }
+        ensures replays { IsChapter self.now.settings self.now.chapters self.now.events self.now.state }
+        ensures within { length self.now.events + owed self.now.state ≤ self.now.settings.history }
+        ensures totals { (totals_of self.now).reported ≤ (totals_of self.now).grabbed }
+    {
+        let _events = self.history();
+        let _totals = self.totals();
+    }
+
     fn has_room(&self, count: u32) -> bool
         requires { count ≤ 3 }
         ensures { result ≡ has_room self.now count }

@@ -83,7 +83,7 @@ fn answer_line(
     let Some(command) = command_in(alloc, settings, line)? else {
         return Err(Stop::NoCommand);
     };
-    let _history = desk.pool.history();
+    desk.pool.facts();
     let mut answer = desk.execute(alloc, settings, command)?;
     answer.push('\n')?;
     output.push_str(answer.as_str())?;

@@ -8,4 +8,4 @@ pub execute-requires : goal.execute-requires
 execute-requires c =
     let within = subst (λ o. IfSome o (grammar.IsCommandWithin (slots c.args.settings.now))) c.in-Some.is c.in_ok-command.ensures.within in
     subst (λ n. grammar.IsCommandWithin n c.in-Some.command)
-    (sym (slots_of_chapter _ _ _ _ c.history-history.ensures.replays ∙ ap slots c.requires)) within
+    (sym (slots_of_chapter _ _ _ _ c.facts.ensures.replays ∙ ap slots c.requires)) within
