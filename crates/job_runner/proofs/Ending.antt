@@ -13,7 +13,7 @@ use Rattle.job_runner.specs.declared.end.SessionEnd.{SessionEnd}
 use Rattle.worker_state.specs.declared.cause.Cause.{Cause}
 use Rattle.job_runner.specs.declared.answering.Tally.{Tally}
 use Rattle.job_runner.specs.Book.{Ledger, after_loss}
-use Rattle.job_runner.specs.Course.{Duty, asks, Ends, OneAtATime}
+use Rattle.job_runner.specs.Course.{Duty, session_of, asks, Ends, OneAtATime}
 use Rattle.job_runner.specs.Ends.{loss_of}
 use Rattle.job_runner.specs.Run.{Link, Lost, Served, Reason, tally_of}
 use Rattle.byte_io.specs.Sides.{and_then}
@@ -90,10 +90,10 @@ one_where_asked law duty bytes taken t b reason e before after p same asked =
 
 -- what a session promises, as one fact over what was written
 abbrev pub Promised : Duty → List ℕ → Option (List ℕ) → Option (List ℕ) → Link → Link → Ledger → SessionEnd → Type 0
-Promised duty read before out old new book e = (bytes : List ℕ) × (out ≡ and_then before bytes) × Served duty read bytes old new book e
+Promised duty read before out old new book e = (bytes : List ℕ) × (out ≡ and_then before bytes) × Served (session_of duty before read) bytes old new book e
 
 -- with no loss
-pub promised_kept : SaysItsPackets → (duty : Duty) (read : List ℕ) (before out : Option (List ℕ)) (old new : Link) (b : Ledger) (e : SessionEnd) → Halts duty before read out (tally_of e) b e.cause × Reason duty.generation read e.grabbed old new b.last_answer e.cause → b.losses ≡ 0 → loss_of e.cause ≡ None → Promised duty read before out old new b e
+pub promised_kept : SaysItsPackets → (duty : Duty) (read : List ℕ) (before out : Option (List ℕ)) (old new : Link) (b : Ledger) (e : SessionEnd) → Halts (session_of duty before read) out (tally_of e) b e.cause × Reason (session_of duty before read) old new (tally_of e) b e.cause → b.losses ≡ 0 → loss_of e.cause ≡ None → Promised duty read before out old new b e
 promised_kept law duty read before out old new b e ran none is = (
   ran.0.bytes,
   ran.0.at,
@@ -109,7 +109,7 @@ promised_kept law duty read before out old new b e ran none is = (
 )
 
 -- with one
-pub promised_lost : SaysItsPackets → (duty : Duty) (read : List ℕ) (before out : Option (List ℕ)) (old new : Link) (b after : Ledger) (e : SessionEnd) (c : Cause) → Halts duty before read out (tally_of e) b e.cause × Reason duty.generation read e.grabbed old new b.last_answer e.cause → b.losses ≡ 0 → loss_of e.cause ≡ Some c → after ≡ after_loss b c → Promised duty read before out old new after e
+pub promised_lost : SaysItsPackets → (duty : Duty) (read : List ℕ) (before out : Option (List ℕ)) (old new : Link) (b after : Ledger) (e : SessionEnd) (c : Cause) → Halts (session_of duty before read) out (tally_of e) b e.cause × Reason (session_of duty before read) old new (tally_of e) b e.cause → b.losses ≡ 0 → loss_of e.cause ≡ Some c → after ≡ after_loss b c → Promised duty read before out old new after e
 promised_lost law duty read before out old new b after e c ran none is same = subst (λ (x : Ledger). Promised duty read before out old new x e) (sym same) (
   ran.0.bytes,
   ran.0.at,

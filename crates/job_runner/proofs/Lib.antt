@@ -5,6 +5,8 @@ pub mod Counts
 pub mod Exits
 pub mod Orders
 pub mod Listening
+pub mod Opening
+pub mod Reasons
 pub mod Turning
 pub mod Ending
 pub mod Replies

@@ -13,7 +13,6 @@ use Rattle.job_runner.specs.declared.end.EndCause.TheVariants.{WriteFault, Retir
 use Rattle.job_runner.specs.declared.end.EndCause.TheVariants as cause
 use Rattle.worker_state.specs.OrderParts.{OrderParts}
 use Rattle.worker_state.specs.declared.order.What.TheVariants.{Stop}
-use Rattle.job_runner.specs.declared.port.PortAnswer.{PortAnswer}
 use Rattle.job_runner.specs.declared.port.PortAnswer.TheVariants as answer
 use Rattle.job_runner.specs.declared.order.Phase.{Phase}
 use Rattle.job_runner.specs.declared.order.Phase.TheVariants.{Idle}
@@ -30,6 +29,15 @@ pub record Duty : Type 0 where
   pub worker : List ℕ
   pub generation : ℕ
   pub functions : List (List ℕ)
+
+-- A session so far: what it is for, what stood on its link when it began, and what it has read.
+pub record Session : Type 0 where
+  pub duty : Duty
+  pub before : Option (List ℕ)
+  pub read : List ℕ
+
+abbrev pub session_of : Duty → Option (List ℕ) → List ℕ → Session
+session_of duty before read = record { duty = duty; before = before; read = read }
 
 abbrev pub asks : Packet → Bool
 asks (can_do name) = false
@@ -160,18 +168,18 @@ known functions f = option_to_list (name_of functions f)
 abbrev pub IsStop : ℕ → OrderParts → Type 0
 IsStop generation order = (order.what ≡ Stop) × (order.generation ≡ generation)
 
--- what a port's last answer has to be where it ended the session
-abbrev pub PortReason : ℕ → EndCause → Option PortAnswer → Type 0
-PortReason generation Retired last = last ≡ Some answer.Retire
-PortReason generation cause.Gone last = last ≡ Some answer.Gone
-PortReason generation cause.HistoryFull last = last ≡ Some answer.HistoryFull
-PortReason generation Stopped last = (order : OrderParts) × (last ≡ Some (answer.Ordered order)) × IsStop generation order
-PortReason generation cause.Closed last = ⊥
-PortReason generation cause.ReadFault last = ⊥
-PortReason generation cause.BadPacket last = ⊥
-PortReason generation cause.ServerError last = ⊥
-PortReason generation cause.TurnsUsed last = ⊥
-PortReason generation other last = Unit {0}
+-- What a port's last answer has to be if it ended the session. No answer of a port ends one for what was read.
+abbrev pub PortReason : ℕ → Ledger → EndCause → Type 0
+PortReason generation book Retired = book.last_answer ≡ Some answer.Retire
+PortReason generation book cause.Gone = book.last_answer ≡ Some answer.Gone
+PortReason generation book cause.HistoryFull = book.last_answer ≡ Some answer.HistoryFull
+PortReason generation book Stopped = (order : OrderParts) × (book.last_answer ≡ Some (answer.Ordered order)) × IsStop generation order
+PortReason generation book cause.Closed = ⊥
+PortReason generation book cause.ReadFault = ⊥
+PortReason generation book cause.BadPacket = ⊥
+PortReason generation book cause.ServerError = ⊥
+PortReason generation book cause.TurnsUsed = ⊥
+PortReason generation book other = Unit {0}
 
 -- a session that waits or sleeps has a function registered
 abbrev pub IsServing : ℕ → Phase → Option ℕ → Type 0

@@ -9,13 +9,12 @@ use Rattle.pool_settings.specs.Slots.{worker_text}
 use Rattle.job_runner.specs.declared.end.EndCause.{EndCause}
 use Rattle.job_runner.specs.declared.end.EndCause.TheVariants as cause
 use Rattle.job_runner.specs.declared.order.Phase.TheVariants.{Idle}
-use Rattle.job_runner.specs.declared.port.PortAnswer.{PortAnswer}
 use Rattle.job_runner.specs.declared.state.State.{State}
 use Rattle.job_runner.specs.declared.answering.Tally.{Tally}
 use Rattle.job_runner.specs.declared.worker.Worker.{Worker}
 use Rattle.job_runner.specs.Told.{Told}
 use Rattle.job_runner.specs.Book.{Ledger}
-use Rattle.job_runner.specs.Course.{Duty, Ends, PortReason}
+use Rattle.job_runner.specs.Course.{Duty, Session, session_of, Ends, PortReason}
 use Rattle.job_runner.specs.Run.{Rests}
 
 abbrev pub first_state : State
@@ -34,30 +33,31 @@ duty_of told settings worker =
 abbrev pub duty_in : {J : Type 0} → (J → List ℕ → List ℕ → Option Told) → Worker J → Duty
 duty_in told worker = duty_of (told worker.place.jobs.now) worker.place.settings.now worker.pass.now
 
+-- the session of a worker so far
+abbrev pub session_in : {J : Type 0} → (J → List ℕ → List ℕ → Option Told) → Worker J → Option (List ℕ) → List ℕ → Session
+session_in told worker before read = session_of (duty_in told worker) before read
+
 -- the ends that sending one packet may have
 abbrev pub IsSendFault : EndCause → Type 0
 IsSendFault cause.Memory = Unit {0}
 IsSendFault cause.WriteFault = Unit {0}
 IsSendFault other = ⊥
 
--- why a session ends at a message
-abbrev pub StepReason : ℕ → Message → Tally → Tally → Option PortAnswer → EndCause → Type 0
-StepReason generation m old new last cause.BadPacket = (new.grabbed ≡ old.grabbed) × (0 < length (assignments_in (m ∷ [])))
-StepReason generation m old new last cause.ServerError = (code text : List ℕ) × (m ≡ server_error code text)
-StepReason generation m old new last other = PortReason generation other last
+-- Why a session ends at a message, or at its port. `old` and `new` are its counts before and after.
+abbrev pub StepReason : ℕ → Message → Tally → Tally → Ledger → EndCause → Type 0
+StepReason generation m old new book cause.BadPacket = (new.grabbed ≡ old.grabbed) × (0 < length (assignments_in (m ∷ [])))
+StepReason generation m old new book cause.ServerError = (code text : List ℕ) × (m ≡ server_error code text)
+StepReason generation m old new book other = PortReason generation book other
 
--- After `read` was read and `written` stood on the link, all messages that were given are served. `before` is what
--- stood there when the session began.
-pub record Stands (duty : Duty) (before : Option (List ℕ)) (read : List ℕ) (written : Option (List ℕ)) (reader : Reading)
-    (s : State) (book : Ledger) : Type 0 where
+-- Now that `written` stands on the link, all messages that were given are served.
+pub record Stands (session : Session) (written : Option (List ℕ)) (reader : Reading) (s : State) (book : Ledger) : Type 0 where
   pub bytes : List ℕ
   pub given : List Message
-  pub at : written ≡ and_then before bytes
-  pub rests : Rests duty read bytes given reader s book
+  pub at : written ≡ and_then session.before bytes
+  pub rests : Rests session bytes given reader s book
 
 -- the session is at its end
-pub record Halts (duty : Duty) (before : Option (List ℕ)) (read : List ℕ) (written : Option (List ℕ)) (tally : Tally)
-    (book : Ledger) (reason : EndCause) : Type 0 where
+pub record Halts (session : Session) (written : Option (List ℕ)) (tally : Tally) (book : Ledger) (reason : EndCause) : Type 0 where
   pub bytes : List ℕ
-  pub at : written ≡ and_then before bytes
-  pub ends : Ends duty bytes (assignments read) tally book reason
+  pub at : written ≡ and_then session.before bytes
+  pub ends : Ends session.duty bytes (assignments session.read) tally book reason

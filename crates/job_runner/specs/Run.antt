@@ -10,13 +10,12 @@ use Rattle.job_runner.specs.declared.end.EndCause.{EndCause}
 use Rattle.job_runner.specs.declared.end.EndCause.TheVariants as cause
 use Rattle.job_runner.specs.declared.end.SessionEnd.{SessionEnd}
 use Rattle.worker_state.specs.declared.cause.Cause.{Cause}
-use Rattle.job_runner.specs.declared.port.PortAnswer.{PortAnswer}
 use Rattle.job_runner.specs.declared.state.State.{State}
 use Rattle.job_runner.specs.declared.answering.Tally.{Tally}
 use Rattle.job_runner.specs.Ends.{loss_of}
 use Rattle.job_runner.specs.Told.{replies}
 use Rattle.job_runner.specs.Book.{Ledger}
-use Rattle.job_runner.specs.Course.{Duty, asks, Wrote, Even, Ends, GoesOnOrEnds, known, IsServing, PortReason}
+use Rattle.job_runner.specs.Course.{Duty, Session, asks, Wrote, Even, Ends, GoesOnOrEnds, known, IsServing, PortReason}
 
 -- Between two messages, the reader aside: each assignment so far is answered, and the counts agree.
 pub record AreAnswered (duty : Duty) (bytes : List ℕ) (done : List AssignedJob) (s : State) (book : Ledger) : Type 0 where
@@ -29,9 +28,9 @@ abbrev pub Acts : Duty → List ℕ → List AssignedJob → State → Ledger �
 Acts duty bytes done s book result = GoesOnOrEnds (AreAnswered duty bytes done s book) (Ends duty bytes done s.tally book) result
 
 -- The bytes read say the messages that were given, and those that the reader still holds.
-pub record Rests (duty : Duty) (read bytes : List ℕ) (given : List Message) (reader : Reading) (s : State) (book : Ledger) : Type 0 where
-  pub heard : reading read ≡ behind given reader
-  pub holds : AreAnswered duty bytes (assignments_in given) s book
+pub record Rests (session : Session) (bytes : List ℕ) (given : List Message) (reader : Reading) (s : State) (book : Ledger) : Type 0 where
+  pub heard : reading session.read ≡ behind given reader
+  pub holds : AreAnswered session.duty bytes (assignments_in given) s book
 
 -- a stream names an error
 abbrev pub HasError : List Message → Type 0
@@ -52,20 +51,20 @@ pub record LinkKept {T : Type 0} (old new : Link) (result : Result T EndCause) :
   pub no_failure : OnOk result (new.output.failures ≡ old.output.failures)
   pub write_fault : result ≡ Err cause.WriteFault → new.output.failures ≡ old.output.failures + 1
 
--- why a session ends at what was read, or at its port
-abbrev pub ReadReason : ℕ → List ℕ → ℕ → Option PortAnswer → EndCause → Type 0
-ReadReason generation read grabbed last cause.BadPacket =
-    (fault_of (reading read).ending ≢ None) ⊎ (grabbed < length (assignments read))
-ReadReason generation read grabbed last cause.ServerError = HasError (reading read).messages
-ReadReason generation read grabbed last other = PortReason generation other last
+-- Why a session ends at what was read, or at its port, by its counts and its port's book then.
+abbrev pub ReadReason : Session → Tally → Ledger → EndCause → Type 0
+ReadReason session tally book cause.BadPacket =
+    (fault_of (reading session.read).ending ≢ None) ⊎ (tally.grabbed < length (assignments session.read))
+ReadReason session tally book cause.ServerError = HasError (reading session.read).messages
+ReadReason session tally book other = PortReason session.duty.generation book other
 
--- Each cause stands only where its reason did. `old` and `new` are what the link tells before and after.
-abbrev pub Reason : ℕ → List ℕ → ℕ → Link → Link → Option PortAnswer → EndCause → Type 0
-Reason generation read grabbed old new last cause.Closed = new.input.has_ended ≡ true
-Reason generation read grabbed old new last cause.ReadFault = new.input.failures ≡ old.input.failures + 1
-Reason generation read grabbed old new last cause.WriteFault = new.output.failures ≡ old.output.failures + 1
-Reason generation read grabbed old new last cause.TurnsUsed = Unit {0}
-Reason generation read grabbed old new last other = ReadReason generation read grabbed last other
+-- Each cause stands only if its reason did. `old` and `new` are what the link tells before and after.
+abbrev pub Reason : Session → Link → Link → Tally → Ledger → EndCause → Type 0
+Reason session old new tally book cause.Closed = new.input.has_ended ≡ true
+Reason session old new tally book cause.ReadFault = new.input.failures ≡ old.input.failures + 1
+Reason session old new tally book cause.WriteFault = new.output.failures ≡ old.output.failures + 1
+Reason session old new tally book cause.TurnsUsed = Unit {0}
+Reason session old new tally book other = ReadReason session tally book other
 
 -- no call of `lose`, or one with this cause
 abbrev pub Lost : Option Cause → Ledger → Type 0
@@ -75,15 +74,15 @@ Lost (Some c) book = (book.losses ≡ 1) × (book.last_loss ≡ Some c)
 abbrev pub tally_of : SessionEnd → Tally
 tally_of e = record { grabbed = e.grabbed; answered = e.answered; reported = e.reported }
 
--- What a session promises, of all that it read and wrote. But for a failed write, what it wrote is whole packets, and those that
+-- What a session promises at its end, of all that it read and wrote. But for a failed write, what it wrote is whole packets, and those that
 -- answer jobs are the replies to the first `answered` jobs that were assigned to it. After each whole packet at most one function is
 -- registered, and exactly one after a packet that asks for a job or to be woken.
-pub record Served (duty : Duty) (read bytes : List ℕ) (old new : Link) (book : Ledger) (e : SessionEnd) : Type 0 where
-  pub ends : Ends duty bytes (assignments read) (tally_of e) book e.cause
+pub record Served (session : Session) (bytes : List ℕ) (old new : Link) (book : Ledger) (e : SessionEnd) : Type 0 where
+  pub ends : Ends session.duty bytes (assignments session.read) (tally_of e) book e.cause
   pub whole : e.cause ≢ cause.WriteFault → (sent bytes).packets ≡ ends.cut.sent
-  pub work : e.cause ≢ cause.WriteFault → work_requests bytes ≡ replies duty.told (take e.answered (assignments read))
+  pub work : e.cause ≢ cause.WriteFault → work_requests bytes ≡ replies session.duty.told (take e.answered (assignments session.read))
   pub registers : (k : ℕ) → length (registered (text_of (take k (ends.cut.sent ++ ends.cut.next)))) ≤ 1
   pub asking : (before after : List Packet) (p : Packet)
       → ends.cut.sent ++ ends.cut.next ≡ before ++ p ∷ after → asks p ≡ true → length (registered (text_of (before ++ p ∷ []))) ≡ 1
-  pub reason : Reason duty.generation read e.grabbed old new book.last_answer e.cause
+  pub reason : Reason session old new (tally_of e) book e.cause
   pub lost : Lost (loss_of e.cause) book

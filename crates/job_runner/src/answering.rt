@@ -63,7 +63,7 @@ pub fn answer<L: Sink, P: PoolPort, J: Jobs>(
         (more : List ℕ) × ((L.output link.new).got ≡ and_then before more)
         × GoesOnOrEnds (Wrote duty more registered (done ++ job_of job ∷ []) × Even tally.new (P.book port.new) (length done + 1))
         (Ends duty more (done ++ job_of job ∷ []) tally.new (P.book port.new)) result }
-    ensures reason { IfErr result (λ cause. PortReason worker.now.pass.now.generation cause (P.book port.new).last_answer) }
+    ensures reason { IfErr result (PortReason worker.now.pass.now.generation (P.book port.new)) }
     ensures link { LinkKept (seen_link L.input L.output link.old) (seen_link L.input L.output link.new) result }
     ensures losses { (P.book port.new).losses ≡ (P.book port.old).losses }
 {

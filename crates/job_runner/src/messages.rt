@@ -58,7 +58,7 @@ pub fn act<L: Sink, P: PoolPort, J: Jobs>(
         × Acts duty more (done ++ assignments_in (message_of message ∷ [])) state.new (P.book port.new) result }
     ensures link { LinkKept (seen_link L.input L.output link.old) (seen_link L.input L.output link.new) result }
     ensures reason { IfErr result (StepReason worker.now.pass.now.generation (message_of message) state.old.tally state.new.tally
-        (P.book port.new).last_answer) }
+        (P.book port.new)) }
     ensures losses { (P.book port.new).losses ≡ (P.book port.old).losses }
 {
     match message {
@@ -105,7 +105,7 @@ pub fn glance<L: Sink, P: PoolPort, J>(
         → (L.output link.old).got ≡ and_then before bytes → AreAnswered duty bytes done state.old (P.book port.old) →
         (more : List ℕ) × ((L.output link.new).got ≡ and_then before more) × Acts duty more done state.new (P.book port.new) result }
     ensures link { LinkKept (seen_link L.input L.output link.old) (seen_link L.input L.output link.new) result }
-    ensures reason { IfErr result (λ cause. PortReason worker.now.pass.now.generation cause (P.book port.new).last_answer) }
+    ensures reason { IfErr result (PortReason worker.now.pass.now.generation (P.book port.new)) }
     ensures losses { (P.book port.new).losses ≡ (P.book port.old).losses }
 {
     let order = port.order(worker.pass);

@@ -139,7 +139,7 @@ pub fn obey<L: Sink, P: PoolPort, J>(
         × GoesOnOrEnds (Wrote duty more (known duty.functions registered.new) done × Even tally (P.book port.new) (length done))
         (Ends duty more done tally (P.book port.new)) result }
     ensures serving { IfOk result (λ phase. IsServing (length worker.now.place.settings.now.functions) phase registered.new) }
-    ensures reason { IfErr result (λ cause. PortReason worker.now.pass.now.generation cause (P.book port.new).last_answer) }
+    ensures reason { IfErr result (PortReason worker.now.pass.now.generation (P.book port.new)) }
     ensures link { LinkKept (seen_link L.input L.output link.old) (seen_link L.input L.output link.new) result }
     ensures losses { (P.book port.new).losses ≡ (P.book port.old).losses }
 {

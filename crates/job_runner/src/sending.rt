@@ -11,8 +11,21 @@ ghost use Rattle.job_runner.specs.Run.{LinkKept, seen_link};
 
 use crate::end::EndCause;
 use byte_io::{Sink, give_all};
-use gear_packets::{EncodeError, Request, encode, encode_into};
+use gear_packets::{EncodeError, Request, encode_into};
 use std::alloc::{AllocError, Global};
+
+/// Puts a packet that breaks no rule behind a text. The only error is want of memory.
+fn add(alloc: Global, text: &mut Vec<u8>, request: &Request) -> Result<(), AllocError>
+    requires accepted { IsAccepted (packet_of request.now) }
+    ensures spelled { OnOk result (text.new.items ≡ text.old.items ++ spelling (packet_of request.now)) }
+    ensures sent { OnOk result (IsSent (packet_of request.now)) }
+{
+    match encode_into(alloc, text, request) {
+        Ok(()) => Ok(()),
+        Err(EncodeError::Memory) => Err(AllocError),
+        Err(EncodeError::TooLarge | EncodeError::NulInArgument) => unreachable!(),
+    }
+}
 
 /// Puts a packet behind a text, if there is one. The only error is want of memory.
 pub fn add_if(
@@ -25,12 +38,7 @@ pub fn add_if(
     ensures sent { OnOk result (AllByRecursion IsSent (option_to_list (option_map packet_of request.now))) }
 {
     match request {
-        Some(request) => match encode_into(alloc, text, request) {
-            Ok(()) => Ok(()),
-            Err(EncodeError::Memory) => Err(AllocError),
-            Err(EncodeError::TooLarge) => unreachable!(),
-            Err(EncodeError::NulInArgument) => unreachable!(),
-        },
+        Some(request) => add(alloc, text, request),
         None => Ok(()),
     }
 }
@@ -42,11 +50,9 @@ pub fn send<L: Sink>(alloc: Global, link: &mut L, request: &Request) -> Result<(
     ensures sends { Sends (L.output link.old).got (L.output link.new).got (packet_of request.now ∷ []) result }
     ensures link { LinkKept (seen_link L.input L.output link.old) (seen_link L.input L.output link.new) result }
 {
-    let text = match encode(alloc, request) {
-        Ok(text) => text,
-        Err(EncodeError::Memory) => return Err(EndCause::Memory),
-        Err(EncodeError::TooLarge) => unreachable!(),
-        Err(EncodeError::NulInArgument) => unreachable!(),
+    let mut text = Vec::new(alloc);
+    let Ok(()) = add(alloc, &mut text, request) else {
+        return Err(EndCause::Memory);
     };
     let Ok(()) = give_all(link, text.as_slice()) else {
         return Err(EndCause::WriteFault);

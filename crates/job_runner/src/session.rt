@@ -6,9 +6,9 @@ ghost use Rattle.byte_io.specs.Sides.{and_then};
 ghost use Rattle.pool_settings.specs.Slots.{slots, worker_text};
 ghost use Rattle.job_runner.specs.Told.{Told};
 ghost use Rattle.job_runner.specs.Book.{no_calls};
-ghost use Rattle.job_runner.specs.Course.{GoesOnOrEnds, IsAccepted, PortReason};
+ghost use Rattle.job_runner.specs.Course.{GoesOnOrEnds, IsAccepted, PortReason, session_of};
 ghost use Rattle.job_runner.specs.Run.{Acts, ReadReason, Reason, Served, seen_link, LinkKept};
-ghost use Rattle.job_runner.specs.Loop.{first_state, duty_of, duty_in, Stands, Halts};
+ghost use Rattle.job_runner.specs.Loop.{first_state, duty_of, session_in, Stands, Halts};
 
 use crate::answering::Tally;
 use crate::end::{EndCause, SessionEnd};
@@ -55,7 +55,7 @@ fn begin<L: Sink, P: PoolPort, J>(
     ensures acts { (told : List ℕ → List ℕ → Option Told) →
         (more : List ℕ) × ((L.output link.new).got ≡ and_then (L.output link.old).got more)
         × Acts (duty_of told worker.now.place.settings.now worker.now.pass.now) more [] state.new (P.book port.new) result }
-    ensures reason { IfErr result (λ cause. PortReason worker.now.pass.now.generation cause (P.book port.new).last_answer) }
+    ensures reason { IfErr result (PortReason worker.now.pass.now.generation (P.book port.new)) }
     ensures link { LinkKept (seen_link L.input L.output link.old) (seen_link L.input L.output link.new) result }
     ensures losses { (P.book port.new).losses ≡ (P.book port.old).losses }
 {
@@ -82,14 +82,14 @@ fn drain<L: Sink, P: PoolPort, J: Jobs>(
 ) -> Result<(), EndCause>
     requires link { (L.output link.old).failures < 2 ^ 64 - 1 }
     requires stands { (before : Option (List ℕ)) × (read : List ℕ) × (length read < 2 ^ 60)
-        × Stands (duty_in J.told worker.now) before read (L.output link.old).got reader.old state.old (P.book port.old) }
+        × Stands (session_in J.told worker.now before read) (L.output link.old).got reader.old state.old (P.book port.old) }
     ensures leaves { (before : Option (List ℕ)) (read : List ℕ)
-        → Stands (duty_in J.told worker.now) before read (L.output link.old).got reader.old state.old (P.book port.old)
-        → GoesOnOrEnds (Stands (duty_in J.told worker.now) before read (L.output link.new).got reader.new state.new (P.book port.new))
-        (Halts (duty_in J.told worker.now) before read (L.output link.new).got state.new.tally (P.book port.new)) result }
+        → Stands (session_in J.told worker.now before read) (L.output link.old).got reader.old state.old (P.book port.old)
+        → GoesOnOrEnds (Stands (session_in J.told worker.now before read) (L.output link.new).got reader.new state.new (P.book port.new))
+        (Halts (session_in J.told worker.now before read) (L.output link.new).got state.new.tally (P.book port.new)) result }
     ensures reason { (before : Option (List ℕ)) (read : List ℕ)
-        → Stands (duty_in J.told worker.now) before read (L.output link.old).got reader.old state.old (P.book port.old)
-        → IfErr result (ReadReason worker.now.pass.now.generation read state.new.tally.grabbed (P.book port.new).last_answer) }
+        → Stands (session_in J.told worker.now before read) (L.output link.old).got reader.old state.old (P.book port.old)
+        → IfErr result (ReadReason (session_in J.told worker.now before read) state.new.tally (P.book port.new)) }
     ensures link { LinkKept (seen_link L.input L.output link.old) (seen_link L.input L.output link.new) result }
     ensures losses { (P.book port.new).losses ≡ (P.book port.old).losses }
 {
@@ -119,14 +119,14 @@ fn turn<L: Source + Sink, P: PoolPort, J: Jobs>(
     requires room { length buffer.old ≡ 4096 }
     requires stands { (before start : Option (List ℕ)) × (read : List ℕ)
         × ((L.input link.old).given ≡ and_then start read) × (length read < 2 ^ 59)
-        × Stands (duty_in J.told worker.now) before read (L.output link.old).got reader.old state.old (P.book port.old) }
+        × Stands (session_in J.told worker.now before read) (L.output link.old).got reader.old state.old (P.book port.old) }
     ensures turns { (before start : Option (List ℕ)) (read : List ℕ) → (L.input link.old).given ≡ and_then start read
-        → Stands (duty_in J.told worker.now) before read (L.output link.old).got reader.old state.old (P.book port.old)
+        → Stands (session_in J.told worker.now before read) (L.output link.old).got reader.old state.old (P.book port.old)
         → (more : List ℕ) × ((L.input link.new).given ≡ and_then start more) × (length more ≤ length read + 4096)
-        × GoesOnOrEnds (Stands (duty_in J.told worker.now) before more (L.output link.new).got reader.new state.new (P.book port.new))
-        (λ cause. Halts (duty_in J.told worker.now) before more (L.output link.new).got state.new.tally (P.book port.new) cause
-        × Reason worker.now.pass.now.generation more state.new.tally.grabbed
-        (seen_link L.input L.output link.old) (seen_link L.input L.output link.new) (P.book port.new).last_answer cause) result }
+        × GoesOnOrEnds (Stands (session_in J.told worker.now before more) (L.output link.new).got reader.new state.new (P.book port.new))
+        (λ cause. Halts (session_in J.told worker.now before more) (L.output link.new).got state.new.tally (P.book port.new) cause
+        × Reason (session_in J.told worker.now before more)
+        (seen_link L.input L.output link.old) (seen_link L.input L.output link.new) state.new.tally (P.book port.new) cause) result }
     ensures no_read_failure { OnOk result ((L.input link.new).failures ≡ (L.input link.old).failures) }
     ensures no_failure { OnOk result ((L.output link.new).failures ≡ (L.output link.old).failures) }
     ensures losses { (P.book port.new).losses ≡ (P.book port.old).losses }
@@ -155,9 +155,9 @@ fn serve<L: Source + Sink, P: PoolPort, J: Jobs>(
     requires first { state.old ≡ first_state }
     requires fresh { P.book port.old ≡ no_calls }
     ensures ran { (read : List ℕ) × ((L.input link.new).given ≡ and_then (L.input link.old).given read)
-        × (Halts (duty_in J.told worker.now) (L.output link.old).got read (L.output link.new).got state.new.tally (P.book port.new) result
-        × Reason worker.now.pass.now.generation read state.new.tally.grabbed
-        (seen_link L.input L.output link.old) (seen_link L.input L.output link.new) (P.book port.new).last_answer result) }
+        × (Halts (session_in J.told worker.now (L.output link.old).got read) (L.output link.new).got state.new.tally (P.book port.new) result
+        × Reason (session_in J.told worker.now (L.output link.old).got read)
+        (seen_link L.input L.output link.old) (seen_link L.input L.output link.new) state.new.tally (P.book port.new) result) }
     ensures losses { (P.book port.new).losses ≡ 0 }
 {
     match begin(worker, link, port, state) {
@@ -197,7 +197,7 @@ pub fn serve_worker<L: Source + Sink, P: PoolPort, J: Jobs>(
     ensures served { (read bytes : List ℕ)
         × ((L.input link.new).given ≡ and_then (L.input link.old).given read)
         × ((L.output link.new).got ≡ and_then (L.output link.old).got bytes)
-        × Served (duty_of (J.told place.entry.jobs.now) place.entry.settings.now pass) read bytes
+        × Served (session_of (duty_of (J.told place.entry.jobs.now) place.entry.settings.now pass) (L.output link.old).got read) bytes
         (seen_link L.input L.output link.old) (seen_link L.input L.output link.new) (P.book port.new) result }
 {
     let mut state = State {
@@ -241,7 +241,7 @@ pub fn run_session<L: Source + Sink, P: PoolPort, J: Jobs>(
     ensures served { (read bytes : List ℕ)
         × ((L.input link.new).given ≡ and_then (L.input link.old).given read)
         × ((L.output link.new).got ≡ and_then (L.output link.old).got bytes)
-        × Served (duty_of (J.told jobs.now) settings.now pass) read bytes
+        × Served (session_of (duty_of (J.told jobs.now) settings.now pass) (L.output link.old).got read) bytes
         (seen_link L.input L.output link.old) (seen_link L.input L.output link.new) (P.book port.new) result }
 {
     let place = Workplace {

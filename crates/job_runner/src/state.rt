@@ -42,7 +42,7 @@ pub fn follow<L: Sink, P: PoolPort, J>(
         → (L.output link.old).got ≡ and_then before bytes → AreAnswered duty bytes done state.old (P.book port.old) →
         (more : List ℕ) × ((L.output link.new).got ≡ and_then before more) × Acts duty more done state.new (P.book port.new) result }
     ensures link { LinkKept (seen_link L.input L.output link.old) (seen_link L.input L.output link.new) result }
-    ensures reason { IfErr result (λ cause. PortReason worker.now.pass.now.generation cause (P.book port.new).last_answer) }
+    ensures reason { IfErr result (PortReason worker.now.pass.now.generation (P.book port.new)) }
     ensures losses { (P.book port.new).losses ≡ (P.book port.old).losses }
 {
     match obey(worker, link, port, &mut state.registered) {
@@ -71,7 +71,7 @@ pub fn serve_job<L: Sink, P: PoolPort, J: Jobs>(
         (more : List ℕ) × ((L.output link.new).got ≡ and_then before more)
         × Acts duty more (done ++ job_of job ∷ []) state.new (P.book port.new) result }
     ensures link { LinkKept (seen_link L.input L.output link.old) (seen_link L.input L.output link.new) result }
-    ensures reason { IfErr result (λ cause. PortReason worker.now.pass.now.generation cause (P.book port.new).last_answer) }
+    ensures reason { IfErr result (PortReason worker.now.pass.now.generation (P.book port.new)) }
     ensures losses { (P.book port.new).losses ≡ (P.book port.old).losses }
 {
     match answer(worker, link, port, &mut state.tally, job) {

@@ -3,6 +3,7 @@ ghost use Rattle.std.specs.Prelude.{◌≡◌, ◌-◌, ◌<◌, ◌^◌, ℕ, L
 ghost use Rattle.byte_io.specs.Sides.{and_then};
 ghost use Rattle.job_runner.specs.Book.{Ledger};
 ghost use Rattle.job_runner.specs.Loop.{duty_of};
+ghost use Rattle.job_runner.specs.Course.{session_of};
 ghost use Rattle.job_runner.specs.Run.{Served};
 ghost use Rattle.pool_settings.specs.Slots.{slots};
 
@@ -113,7 +114,7 @@ pub fn run_worker<N: RunId, L: Source + Sink, J: Jobs, C: Watch, R: Wait>(
     ensures served { (read bytes : List ℕ) × (book : Ledger)
         × ((L.input link.new).given ≡ and_then (L.input link.old).given read)
         × ((L.output link.new).got ≡ and_then (L.output link.old).got bytes)
-        × Served (duty_of (J.told site.now.jobs.now) site.now.settings.now papers.worker.pass) read bytes
+        × Served (session_of (duty_of (J.told site.now.jobs.now) site.now.settings.now papers.worker.pass) (L.output link.old).got read) bytes
         (record { input = L.input link.old; output = L.output link.old })
         (record { input = L.input link.new; output = L.output link.new })
         book result.end }

@@ -1,4 +1,5 @@
-use Rattle.job_runner.proofs.Turning.{slept, not_slept, as_waiting}
+use Rattle.job_runner.proofs.Opening.{slept, not_slept}
+use Rattle.job_runner.proofs.Turning.{as_waiting}
 use Rattle.job_runner.proofs.messages.sleep.Goals as goal
 
 pub returns-in-Ok-clause-acts : goal.returns-in-Ok-clause-acts

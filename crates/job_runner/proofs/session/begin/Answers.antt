@@ -7,7 +7,7 @@ use Rattle.job_runner.specs.declared.end.EndCause.TheVariants.{Memory}
 use Rattle.job_runner.specs.Course.{IsAccepted, Sends, Ends}
 use Rattle.job_runner.specs.Run.{AreAnswered}
 use Rattle.job_runner.specs.Loop.{duty_of}
-use Rattle.job_runner.proofs.Turning.{introduced, not_introduced}
+use Rattle.job_runner.proofs.Opening.{introduced, not_introduced}
 use Rattle.job_runner.proofs.session.begin.Goals as goal
 
 pub returns-in_default-clause-acts : goal.returns-in_default-clause-acts

@@ -27,7 +27,7 @@ pub returns-in-Err-clause-reason : goal.returns-in-Err-clause-reason
 returns-in-Err-clause-reason g c = λ before read start.
     let duty = duty_of (g.J.Jobs.told c.args.worker.now.place.jobs.now) c.args.worker.now.place.settings.now c.args.worker.now.pass.now in
     let st = c.loop-message.invariant.stands before read start in
-    reason_next c.args.worker.now.pass.now.generation duty before read _ (message_of c.in-Some.message) _ _ c.loop-message.state c.act.new.state.tally _ _ c.in-Err.cause st c.in-Some.ensures.given c.in-Err.ensures.reason
+    reason_next duty before read _ (message_of c.in-Some.message) _ _ c.loop-message.state c.act.new.state.tally (g.P.PoolPort.book c.loop-message.port) (g.P.PoolPort.book c.act.new.port) c.in-Err.cause st c.in-Some.ensures.given c.in-Err.ensures.reason
 
 pub loop-message-preserved : goal.loop-message-preserved
 loop-message-preserved g c =

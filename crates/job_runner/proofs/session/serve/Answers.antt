@@ -4,9 +4,11 @@ use Rattle.job_runner.specs.declared.end.EndCause.{EndCause}
 use Rattle.job_runner.specs.declared.end.EndCause.TheVariants.{TurnsUsed}
 use Rattle.job_runner.specs.Book.{Ledger}
 use Rattle.job_runner.specs.Run.{Link}
+use Rattle.job_runner.specs.Course.{session_of}
 use Rattle.job_runner.specs.Loop.{duty_of}
 use Rattle.byte_io.proofs.Devices.{told_nothing}
-use Rattle.job_runner.proofs.Turning.{outer_reason, read_reason, begun_halts, begun_stands, reason_from, stands_halts}
+use Rattle.job_runner.proofs.Reasons.{outer_reason, read_reason, reason_from}
+use Rattle.job_runner.proofs.Turning.{begun_halts, begun_stands, stands_halts}
 use Rattle.job_runner.proofs.session.serve.Goals as goal
 
 pub returns-in-Err-clause-ran : goal.returns-in-Err-clause-ran
@@ -20,7 +22,7 @@ returns-in-Err-clause-ran g c =
       ap (λ (i : Input). i.given) c.begin.ensures.link.input ∙ told_nothing old.input.given,
       (
         begun_halts duty _ _ _ _ c.in-Err.cause left,
-        outer_reason c.args.worker.now.pass.now.generation [] c.begin.new.state.tally.grabbed old new _ c.in-Err.cause (read_reason c.args.worker.now.pass.now.generation [] c.begin.new.state.tally.grabbed _ c.in-Err.cause c.in-Err.ensures.reason)
+        outer_reason (session_of duty old.output.got []) old new c.begin.new.state.tally (g.P.PoolPort.book c.begin.new.port) c.in-Err.cause (read_reason (session_of duty old.output.got []) c.begin.new.state.tally (g.P.PoolPort.book c.begin.new.port) c.in-Err.cause c.in-Err.ensures.reason)
             (λ x. c.in-Err.ensures.link.write_fault (ap (λ (y : EndCause). let z : Result (Unit {0}) EndCause = Err y in z) x)),
       ),
     )
@@ -57,6 +59,7 @@ loop-made-preserved g c =
 
 pub returns-in-Err-turn-clause-ran : goal.returns-in-Err-turn-clause-ran
 returns-in-Err-turn-clause-ran g c =
+    let duty = duty_of (g.J.Jobs.told c.args.worker.now.place.jobs.now) c.args.worker.now.place.settings.now c.args.worker.now.pass.now in
     let before = (g.L.Device.output c.args.link.now).got in
     let start = (g.L.Device.input c.args.link.now).given in
     let older : Link = record { input = g.L.Device.input c.args.link.now; output = g.L.Device.output c.args.link.now } in
@@ -64,7 +67,7 @@ returns-in-Err-turn-clause-ran g c =
     let new : Link = record { input = g.L.Device.input c.turn.new.link; output = g.L.Device.output c.turn.new.link } in
     let now = c.loop-made.invariant.stands in
     let next = c.in-Err-turn.ensures.turns before start now.0 now.1 now.3 in
-    (next.0, next.1, (next.3.0, reason_from c.args.worker.now.pass.now.generation next.0 c.turn.new.state.tally.grabbed older old new _ c.in-Err-turn.cause next.3.1 c.loop-made.invariant.read_failures c.loop-made.invariant.write_failures))
+    (next.0, next.1, (next.3.0, reason_from (session_of duty before next.0) older old new c.turn.new.state.tally (g.P.PoolPort.book c.turn.new.port) c.in-Err-turn.cause next.3.1 c.loop-made.invariant.read_failures c.loop-made.invariant.write_failures))
 
 pub returns-in-Ok-drain-clause-ran : goal.returns-in-Ok-drain-clause-ran
 returns-in-Ok-drain-clause-ran g c =
@@ -76,9 +79,10 @@ returns-in-Ok-drain-clause-ran g c =
 
 pub returns-clause-ran : goal.returns-clause-ran
 returns-clause-ran g c =
+    let duty = duty_of (g.J.Jobs.told c.args.worker.now.place.jobs.now) c.args.worker.now.place.settings.now c.args.worker.now.pass.now in
     let before = (g.L.Device.output c.args.link.now).got in
     let old : Link = record { input = g.L.Device.input c.args.link.now; output = g.L.Device.output c.args.link.now } in
     let new : Link = record { input = g.L.Device.input c.drain.new.link; output = g.L.Device.output c.drain.new.link } in
     let now = c.loop-made.invariant.stands in
     let left = c.in-Err-drain.ensures.leaves before now.0 now.3 in
-    (now.0, ap (λ (i : Input). i.given) c.drain.ensures.link.input ∙ now.1, (left, outer_reason c.args.worker.now.pass.now.generation now.0 c.drain.new.state.tally.grabbed old new _ c.in-Err-drain.cause (c.in-Err-drain.ensures.reason before now.0 now.3) (λ x. c.in-Err-drain.ensures.link.write_fault (ap (λ (y : EndCause). let z : Result (Unit {0}) EndCause = Err y in z) x) ∙ ap (λ (n : ℕ). n + 1) c.loop-made.invariant.write_failures)))
+    (now.0, ap (λ (i : Input). i.given) c.drain.ensures.link.input ∙ now.1, (left, outer_reason (session_of duty before now.0) old new c.drain.new.state.tally (g.P.PoolPort.book c.drain.new.port) c.in-Err-drain.cause (c.in-Err-drain.ensures.reason before now.0 now.3) (λ x. c.in-Err-drain.ensures.link.write_fault (ap (λ (y : EndCause). let z : Result (Unit {0}) EndCause = Err y in z) x) ∙ ap (λ (n : ℕ). n + 1) c.loop-made.invariant.write_failures)))

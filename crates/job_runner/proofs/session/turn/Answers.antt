@@ -3,16 +3,19 @@ use Rattle.gear_packets.specs.Text.{assignments_in}
 use Rattle.byte_io.specs.Sides.{Input, Output}
 use Rattle.job_runner.specs.declared.end.EndCause.{EndCause}
 use Rattle.job_runner.specs.Run.{Link}
+use Rattle.job_runner.specs.Course.{session_of}
 use Rattle.job_runner.specs.Loop.{duty_of}
-use Rattle.job_runner.proofs.Turning.{outer_reason, glanced, read_ended}
+use Rattle.job_runner.proofs.Reasons.{outer_reason}
+use Rattle.job_runner.proofs.Turning.{glanced, read_ended}
 use Rattle.job_runner.proofs.session.turn.Goals as goal
 
 pub returns-in-Err-clause-turns : goal.returns-in-Err-clause-turns
 returns-in-Err-clause-turns g c = λ before start read at stands.
+    let duty = duty_of (g.J.Jobs.told c.args.worker.now.place.jobs.now) c.args.worker.now.place.settings.now c.args.worker.now.pass.now in
     let left = c.in-Err.ensures.leaves before read stands in
     let old : Link = record { input = g.L.Device.input c.args.link.now; output = g.L.Device.output c.args.link.now } in
     let new : Link = record { input = g.L.Device.input c.drain.new.link; output = g.L.Device.output c.drain.new.link } in
-    (read, ap (λ (i : Input). i.given) c.drain.ensures.link.input ∙ at, omega arith, (left, outer_reason c.args.worker.now.pass.now.generation read c.drain.new.state.tally.grabbed old new _ c.in-Err.cause (c.in-Err.ensures.reason before read stands) (λ x. c.in-Err.ensures.link.write_fault (ap (λ (y : EndCause). let z : Result (Unit {0}) EndCause = Err y in z) x))))
+    (read, ap (λ (i : Input). i.given) c.drain.ensures.link.input ∙ at, omega arith, (left, outer_reason (session_of duty before read) old new c.drain.new.state.tally (g.P.PoolPort.book c.drain.new.port) c.in-Err.cause (c.in-Err.ensures.reason before read stands) (λ x. c.in-Err.ensures.link.write_fault (ap (λ (y : EndCause). let z : Result (Unit {0}) EndCause = Err y in z) x))))
 
 pub returns-in-Ok-Piece-clause-turns : goal.returns-in-Ok-Piece-clause-turns
 returns-in-Ok-Piece-clause-turns g c = λ before start read at stands.
@@ -31,7 +34,7 @@ returns-in-Ok-Lull-clause-turns g c = λ before start read at stands.
       heard.0,
       ap (λ (i : Input). i.given) c.glance.ensures.link.input ∙ heard.1,
       omega (arith, heard.2, c.requires.room),
-      glanced duty before heard.0 _ st.given _ c.glance.new.state _ c.args.worker.now.pass.now.generation old new c.glance.result heard.3
+      glanced duty before heard.0 _ st.given _ c.glance.new.state _ old new c.glance.result heard.3
           (c.glance.ensures.acts duty before st.bytes (assignments_in st.given) refl (ap (λ (o : Output). o.got) c.in-Ok-Lull.ensures.output ∙ st.at) st.rests.holds) c.glance.ensures.reason (λ x. c.glance.ensures.link.write_fault x ∙ ap (λ (n : ℕ). n + 1) (same ∙ c.in-Ok.ensures.link.no_failure)),
     )
 
@@ -46,7 +49,7 @@ returns-in-Err-hear-clause-turns g c = λ before start read at stands.
       heard.0,
       heard.1,
       omega (arith, heard.2, c.requires.room),
-      read_ended duty before st.bytes heard.0 _ st.given c.drain.new.state _ c.args.worker.now.pass.now.generation old new c.in-Err-hear.cause (ap (λ (o : Output). o.got) c.in-Err-hear.ensures.output ∙ st.at) st.rests.holds heard.3 c.in-Err-hear.ensures.causes
+      read_ended duty before st.bytes heard.0 _ st.given c.drain.new.state _ old new c.in-Err-hear.cause (ap (λ (o : Output). o.got) c.in-Err-hear.ensures.output ∙ st.at) st.rests.holds heard.3 c.in-Err-hear.ensures.causes
           (λ x. c.in-Err-hear.ensures.closed (ap (λ (y : EndCause). let z : Result _ EndCause = Err y in z) x))
           (λ x. c.in-Err-hear.ensures.read_fault (ap (λ (y : EndCause). let z : Result _ EndCause = Err y in z) x) ∙ ap (λ (n : ℕ). n + 1) same),
     )
