@@ -155,7 +155,8 @@ fn serve<L: Source + Sink, P: PoolPort, J: Jobs>(
     requires first { state.old ≡ first_state }
     requires fresh { P.book port.old ≡ no_calls }
     ensures ran { (read : List ℕ) × ((L.input link.new).given ≡ and_then (L.input link.old).given read)
-        × (Halts (session_in J.told worker.now (L.output link.old).got read) (L.output link.new).got state.new.tally (P.book port.new) result
+        × (Halts (session_in J.told worker.now (L.output link.old).got read)
+        (L.output link.new).got state.new.tally (P.book port.new) result
         × Reason (session_in J.told worker.now (L.output link.old).got read)
         (seen_link L.input L.output link.old) (seen_link L.input L.output link.new) state.new.tally (P.book port.new) result) }
     ensures losses { (P.book port.new).losses ≡ 0 }

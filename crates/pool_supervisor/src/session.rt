@@ -114,7 +114,8 @@ pub fn run_worker<N: RunId, L: Source + Sink, J: Jobs, C: Watch, R: Wait>(
     ensures served { (read bytes : List ℕ) × (book : Ledger)
         × ((L.input link.new).given ≡ and_then (L.input link.old).given read)
         × ((L.output link.new).got ≡ and_then (L.output link.old).got bytes)
-        × Served (session_of (duty_of (J.told site.now.jobs.now) site.now.settings.now papers.worker.pass) (L.output link.old).got read) bytes
+        × Served (session_of (duty_of (J.told site.now.jobs.now) site.now.settings.now papers.worker.pass) (L.output link.old).got read)
+        bytes
         (record { input = L.input link.old; output = L.output link.old })
         (record { input = L.input link.new; output = L.output link.new })
         book result.end }
