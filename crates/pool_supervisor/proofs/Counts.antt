@@ -1,25 +1,27 @@
 -- How a call moves the totals, and what they count, by the pool's own laws.
 use Rattle.std.proofs.Common.{◌≡◌, ◌+◌, ◌++◌, length, false, sym, ap, subst, ◌∙◌, arith}
 use Rattle.std.specs.Prelude.{Result, Ok, Err, OnOk, OnErr, count_by}
-use Rattle.pool_settings.specs.Settings.{AreSettings}
+use Rattle.pool_settings.specs.Settings.{Settings, AreSettings}
+use Rattle.pool_settings.specs.Slots.{slots as slot_count}
 use Rattle.worker_state.specs.Slots.{is_open, is_reported, is_lost}
 use Rattle.pool_core.specs.declared.event.Event.{Event}
 use Rattle.pool_core.specs.Machine.{State, first, replay, IsHistory}
-use Rattle.pool_core.specs.Kept.{IsChapter}
-use Rattle.pool_core.specs.Laws.{is_grab, is_report, one_if, EventsCount, HistoriesCount, HistoriesJoin}
+use Rattle.pool_core.specs.Laws.{is_grab, is_report, one_if, EventsCount, HistoriesCount, HistoriesJoin, HistoriesAreSound}
+use Rattle.pool_core.specs.Kept.{IsChapter, IsSoundState}
 use Rattle.pool_core.specs.Book.{Book, IsStep, totals_of}
 use Rattle.pool_supervisor.specs.Counted.{CountsItsEvents}
 
--- a call that is no grab and no report leaves both numbers
+-- a call that is no grab and no report leaves both numbers, and no call changes the settings
 pub same_totals : {A E : Type 0} (e : Event) (old new : Book) (result : Result A E) → EventsCount old → is_grab e ≡ false → is_report e ≡ false → OnOk result (IsStep e old new) → OnErr result (new ≡ old)
-    → ((totals_of new).grabbed ≡ (totals_of old).grabbed) × ((totals_of new).reported ≡ (totals_of old).reported)
+    → ((totals_of new).grabbed ≡ (totals_of old).grabbed) × ((totals_of new).reported ≡ (totals_of old).reported) × (new.settings ≡ old.settings)
 same_totals e old new (Ok x) counts no_grab no_report step same =
     let t = counts e new step in (
       omega (arith, t.0, ap one_if no_grab),
       omega (arith, t.1, ap one_if no_report),
+      step.settings,
     )
 same_totals e old new (Err x) counts no_grab no_report step same =
-    (ap (λ (b : Book). (totals_of b).grabbed) same, ap (λ (b : Book). (totals_of b).reported) same)
+    (ap (λ (b : Book). (totals_of b).grabbed) same, ap (λ (b : Book). (totals_of b).reported) same, ap (λ (b : Book). b.settings) same)
 
 -- the totals are the numbers of grabs and of reports of the whole history
 pub counts_its_events : (book : Book) → AreSettings book.settings → IsChapter book.settings book.chapters book.events book.state → HistoriesJoin → HistoriesCount → CountsItsEvents book (totals_of book)
@@ -46,3 +48,12 @@ accounts_for_each book valid chapter join count =
     let counted = count book.settings valid (counts.earlier ++ book.events) counts.replays.history in
     subst (λ (s : State). length s.standings ≡ count_by is_open s.standings + count_by is_reported s.standings + count_by is_lost s.standings)
     (sym counts.replays.replayed) counted.sum
+
+-- there is a slot for each worker of the settings
+pub a_slot_for_each : (book : Book) (settings : Settings) → AreSettings book.settings → IsChapter book.settings book.chapters book.events book.state → HistoriesJoin → HistoriesCount → HistoriesAreSound
+    → book.settings ≡ settings → length book.state.slots ≡ slot_count settings
+a_slot_for_each book settings valid chapter join count sound same =
+    let counts = counts_its_events book valid chapter join count in
+    let now = sound book.settings valid (counts.earlier ++ book.events) counts.replays.history in
+    let here : IsSoundState book.settings book.state = subst (λ (s : State). IsSoundState book.settings s) (sym counts.replays.replayed) now in
+    here.slots ∙ ap (λ (s : Settings). slot_count s) same

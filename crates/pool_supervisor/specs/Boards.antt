@@ -1,7 +1,26 @@
--- The board that a run has.
+-- What the name of a run stands for.
 use Rattle.std.specs.Prelude.{[]}
 use Rattle.atomic_table.specs.Seated.{TableId}
+use Rattle.pool_settings.specs.Settings.{Settings}
 
 -- the name of no board
 abbrev pub no_board : TableId
 no_board = record { words = 0; slots = 0; views_name = 0; atom = 0; block = 0; offset = 0; slot_names = [] }
+
+-- the settings of no pool
+abbrev pub no_settings : Settings
+no_settings =
+    record {
+      server = [];
+      job_timeout_ms = 0;
+      max_runs = 0;
+      round_ms = 0;
+      lull_ms = 0;
+      history = 0;
+      functions = [];
+      least = [];
+      most = [];
+      machines = [];
+      workers = [];
+      may = [];
+    }

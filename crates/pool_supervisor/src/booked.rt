@@ -1,17 +1,19 @@
 //! What lies under the lock.
 ghost use Rattle.std.specs.Prelude.{◌≡◌, ◌+◌, ◌<◌, ◌≤◌, length, slice_index_or, OnErr, OnOk};
+ghost use Rattle.pool_settings.specs.Slots.{slots as slot_count};
 ghost use Rattle.worker_state.specs.Orders.{no_order, IsOrder};
 ghost use Rattle.pool_core.specs.Book.{totals_of};
 ghost use Rattle.pool_core.specs.Calls.{Joins, Loads, Views, Adopts, Grabs, Begins, Reports, Loses, Expires, EndsChapter};
 ghost use Rattle.pool_supervisor.specs.Counted.{CountsItsEvents};
 
+use crate::place::RunLedger;
 use gear_packets::Handle;
 use gear_status::Load;
 use plan_model::{Certified, Input, Plan, SlotId};
 use pool_core::{
     AdoptError, BeginError, Chapter, ChapterError, ExpireError, GrabError, JoinError, LoadError,
     LoseError, Pass, Pool, Ran, ReportError, StayOrRetire, Totals, ViewError, events_count,
-    histories_count, histories_join,
+    histories_are_sound, histories_count, histories_join,
 };
 use std::marker::Model;
 use std::sync::ledger::{self, Blank, Ledger, Share};
@@ -21,18 +23,18 @@ use worker_state::{Cause, EndKind, Order, Ticket};
 ///
 /// The two books stand at the totals of the pool at every moment at which the lock is free: one counts the jobs that were grabbed,
 /// the other those that were reported, over all chapters of the history. A share can rise only with its book, so no session can
-/// tell of a job that the pool does not count.
+/// tell of a job that the pool does not count. The settings of the pool are those in the name of its run.
 ///
 /// Each call is the call of the pool of that name, with the same answers; `grab` and `reported` move a book and a share besides.
 /// Contracts see it as its pool.
 #[derive(Drop)]
-pub struct Booked<G: Ledger, D: Ledger> {
+pub struct Booked<G: RunLedger, D: Ledger> {
     pool: Pool,
     grabbed: ledger::Book<G>,
     reported: ledger::Book<D>,
 }
 
-impl<G: Ledger, D: Ledger> Model for Booked<G, D> {
+impl<G: RunLedger, D: Ledger> Model for Booked<G, D> {
     ghost use Rattle.std.specs.Prelude.{◌≡◌};
     ghost use Rattle.pool_core.specs.Book.{Book, totals_of};
 
@@ -40,13 +42,15 @@ impl<G: Ledger, D: Ledger> Model for Booked<G, D> {
 
     ghost view = { λ b. b.pool };
 
-    ghost invariant = { λ b. (b.grabbed.total ≡ (totals_of b.pool).grabbed) × (b.reported.total ≡ (totals_of b.pool).reported) };
+    ghost invariant = { λ b. (b.grabbed.total ≡ (totals_of b.pool).grabbed) × (b.reported.total ≡ (totals_of b.pool).reported)
+        × (b.pool.settings ≡ G.settings) };
 }
 
-impl<G: Ledger, D: Ledger> Booked<G, D> {
+impl<G: RunLedger, D: Ledger> Booked<G, D> {
     /// A pool that has grabbed nothing, with the whole shares of both ledgers, which stand at 0.
     pub fn new(pool: Pool, grabbed: Blank, reported: Blank) -> (Booked<G, D>, Share<G>, Share<D>)
         requires pool { (totals_of pool).grabbed ≡ 0 }
+        requires settings { pool.settings ≡ G.settings }
         requires grabbed { (grabbed.name ≡ G.name) × (grabbed.parts ≡ G.parts) }
         requires reported { (reported.name ≡ D.name) × (reported.parts ≡ D.parts) }
         ensures pool { result.0 ≡ pool }
@@ -200,6 +204,17 @@ impl<G: Ledger, D: Ledger> Booked<G, D> {
         grab_book.audit(grabbed);
         report_book.audit(reported);
         pool.totals()
+    }
+
+    /// Does nothing: what every pool of a run keeps. Its settings are those in the run's name, and so is the number of its slots.
+    pub fn facts(&self)
+        ensures settings { self.now.settings ≡ G.settings }
+        ensures slots { length self.now.state.slots ≡ slot_count G.settings }
+    {
+        let _events = self.pool.history();
+        histories_join();
+        histories_count();
+        histories_are_sound();
     }
 
     /// The pool, for its readers.

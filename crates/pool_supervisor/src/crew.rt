@@ -1,16 +1,16 @@
 //! The sessions of a run: started as threads, and joined as they end.
-ghost use Rattle.std.specs.Prelude.{◌≡◌, ◌+◌, ◌-◌, ◌<◌, ◌≤◌, ◌^◌, IfOk, IfSome, OnOk, vec_len, vec_capacity};
+ghost use Rattle.std.specs.Prelude.{◌≡◌, ◌+◌, ◌-◌, ◌<◌, ◌≤◌, ◌^◌, IfSome, OnOk, vec_len};
 ghost use Rattle.pool_settings.specs.Slots.{slots as slot_count};
 
+use crate::attempts::Lines;
 use crate::ends::EndCounts;
 use crate::place::{Grabs, Place, Reports, RunId};
 use crate::port::Watch;
+use crate::run::RunEnd;
 use crate::session::{Enrolled, Papers, Returned, Site, run_worker};
-use crate::shared::Shared;
 use byte_io::{Sink, Source};
 use job_runner::Jobs;
-use order_board::{Board, SeatSource};
-use pool_core::Totals;
+use order_board::SeatSource;
 use std::alloc::{AllocError, Global};
 use std::marker::Model;
 use std::sync::atomic::{AtomicBool, Ordering};
@@ -69,22 +69,6 @@ impl<N: RunId> Model for Crew<N> {
         × (c.reports.parts + vec_len c.running + c.not_started ≡ 2 ^ 40) × (c.reports.amount ≡ c.reported) };
 }
 
-/// What all sessions of a run came to: the pool's totals, and the equal numbers that their shares add up to.
-#[derive(Clone, Copy, Debug, PartialEq, Eq)]
-pub struct Sums {
-    /// The totals of the pool.
-    pub totals: Totals,
-    /// How many jobs the sessions grabbed.
-    pub grabbed: u64,
-    /// How many jobs the sessions reported.
-    pub reported: u64,
-    /// Why the sessions ended.
-    pub ends: EndCounts,
-    pub ghost accounts: { totals.grabbed ≡ totals.running + totals.reported + totals.lost },
-    pub ghost grabs_agree: { totals.grabbed ≡ grabbed },
-    pub ghost reports_agree: { totals.reported ≡ reported },
-}
-
 impl<N: RunId> Crew<N> {
     /// No session yet, over the whole shares, which stand at 0.
     pub fn new(alloc: Global, grabs: Share<Grabs<N>>, reports: Share<Reports<N>>) -> Crew<N>
@@ -124,72 +108,6 @@ impl<N: RunId> Crew<N> {
         })
     }
 
-    /// Starts a session in a thread of its own. At `Err` no thread could be started, and the sums can no more be told.
-    pub fn start<
-        's,
-        'e: 's,
-        L: Source + Sink + Send + Drop + 's,
-        J: Jobs + Sync,
-        C: Watch + Sync,
-        R: Threads + Wait + Sync,
-    >(
-        &mut self,
-        scope: &Scope<'s, &'e ()>,
-        site: Site<'e, N, J, C, R>,
-        berth: Berth,
-        link: L,
-        worker: Enrolled<N>,
-    ) -> Result<(), AllocError>
-    where
-        N: Send + Sync + 's,
-        requires room { self.old.running < self.old.room }
-        requires parts { self.old.running + self.old.not_started + 2 ≤ 2 ^ 40 }
-        requires board { site.board.now.id ≡ N.board }
-        requires slot { worker.pass.slot < slot_count site.settings.now }
-        requires link { ((L.output link).failures < 2 ^ 64 - 1) × ((L.input link).failures < 2 ^ 64 - 1) }
-    {
-        let Crew {
-            running,
-            grabs,
-            reports,
-            not_started,
-            ..
-        } = self;
-        let papers = Papers {
-            worker,
-            grabbed: grabs.split_off(1, 0),
-            reported: reports.split_off(1, 0),
-        };
-        let Berth {
-            has_ended,
-            of_session,
-        } = berth;
-        let work = move || -> Returned<N>
-            requires board { site.board.now.id ≡ N.board }
-            requires slot { papers.worker.pass.slot < slot_count site.settings.now }
-            requires link { ((L.output link).failures < 2 ^ 64 - 1) × ((L.input link).failures < 2 ^ 64 - 1) }
-        {
-            let mut link = link;
-            let returned = run_worker(&site, &mut link, papers);
-            drop(link);
-            of_session.store(true, Ordering::SeqCst);
-            returned
-        };
-        match thread::Builder::new()
-            .stack_size(STACK)
-            .spawn_scoped(scope, work)
-        {
-            Ok(handle) => {
-                running.push_reserved(Started { handle, has_ended });
-                Ok(())
-            }
-            Err(_) => {
-                *not_started += 1;
-                Err(AllocError)
-            }
-        }
-    }
-
     /// Whether a session has ended.
     fn has_ended(&self, at: usize) -> bool
         requires { at < self.now.running }
@@ -198,16 +116,14 @@ impl<N: RunId> Crew<N> {
     }
 
     /// Joins a session, adds up what it did, and takes its seat back.
-    fn take_back<R: Threads + Wait>(
+    fn take_back<J, C, R: Threads + Wait>(
         &mut self,
-        rt: &R,
-        shared: &Shared<Grabs<N>, Reports<N>>,
-        board: &Board,
+        site: &Site<'_, N, J, C, R>,
         source: &mut SeatSource,
         at: usize,
     )
         requires at { at < self.old.running }
-        requires board { (board.now.id ≡ N.board) × (source.old.board ≡ N.board) }
+        requires board { source.old.board ≡ N.board }
         ensures one { self.new.running + 1 ≡ self.old.running }
         ensures source { source.new ≡ source.old }
     {
@@ -229,52 +145,51 @@ impl<N: RunId> Crew<N> {
             place,
             grabbed: grab_share,
             reported: report_share,
-        } = handle.join(rt);
+        } = handle.join(site.lent.rt);
         grabs.merge(grab_share);
         reports.merge(report_share);
         // The books bound the shares, and so the sums.
-        let _ = shared.hold(rt).settle(grabs, reports);
+        let _ = site.shared.hold(site.lent.rt).settle(grabs, reports);
         *grabbed += end.grabbed;
         *reported += end.reported;
         ends.count(end.cause);
         let Place { seat, of: _ } = place;
-        board.give_back(seat, source);
+        site.run.board.give_back(seat, source);
     }
 
     /// Joins the sessions that have ended, so that none keeps a handle or a thread for longer than an attempt. It waits for no session
     /// that goes on.
-    pub fn join_ended<R: Threads + Wait>(
+    pub fn join_ended<J, C, R: Threads + Wait>(
         &mut self,
-        rt: &R,
-        shared: &Shared<Grabs<N>, Reports<N>>,
-        board: &Board,
+        site: &Site<'_, N, J, C, R>,
         source: &mut SeatSource,
     )
-        requires board { (board.now.id ≡ N.board) × (source.old.board ≡ N.board) }
+        requires board { source.old.board ≡ N.board }
         ensures source { source.new ≡ source.old }
     {
         let mut at = self.running.len();
         while at > 0 {
             at -= 1;
             if self.has_ended(at) {
-                self.take_back(rt, shared, board, source, at);
+                self.take_back(site, source, at);
             }
         }
     }
 
-    /// Joins all sessions, as each ends, and takes the totals. None where a session could not be started.
-    pub fn join_all<R: Threads + Wait>(
+    /// Joins all sessions, as each ends, and takes the totals: what the run came to, with these lines. None if a session could not be
+    /// started.
+    pub fn join_all<J, C, R: Threads + Wait>(
         mut self,
-        rt: &R,
-        shared: &Shared<Grabs<N>, Reports<N>>,
-        board: &Board,
+        site: &Site<'_, N, J, C, R>,
         source: &mut SeatSource,
-    ) -> Option<Sums>
-        requires board { (board.now.id ≡ N.board) × (source.old.board ≡ N.board) }
+        lines: Lines,
+    ) -> Option<RunEnd>
+        requires board { source.old.board ≡ N.board }
+        ensures lines { IfSome result (λ ended. vec_len ended.lines ≡ vec_len lines.told) }
     {
         while self.running.len() > 0 {
             let last = self.running.len() - 1;
-            self.take_back(rt, shared, board, source, last);
+            self.take_back(site, source, last);
         }
         if self.not_started > 0 {
             return None;
@@ -288,12 +203,83 @@ impl<N: RunId> Crew<N> {
             ends,
             not_started: _,
         } = self;
-        let totals = shared.hold(rt).settle(&mut grabs, &mut reports);
-        Some(Sums {
+        let Lines {
+            told,
+            chapters,
+            rounds: _,
+        } = lines;
+        let totals = site
+            .shared
+            .hold(site.lent.rt)
+            .settle(&mut grabs, &mut reports);
+        Some(RunEnd {
             totals,
             grabbed,
             reported,
             ends,
+            chapters,
+            lines: told,
         })
+    }
+}
+
+impl<'e, N: RunId, J: Jobs + Sync, C: Watch + Sync, R: Threads + Wait + Sync> Site<'e, N, J, C, R> {
+    /// Starts a session of the crew in a thread of its own. At `Err` no thread could be started, and the crew's sums can no more be told.
+    pub fn start<'s, L: Source + Sink + Send + Drop + 's>(
+        self,
+        scope: &Scope<'s, &'e ()>,
+        crew: &mut Crew<N>,
+        berth: Berth,
+        link: L,
+        worker: Enrolled<N>,
+    ) -> Result<(), AllocError>
+    where
+        'e: 's,
+        N: Send + Sync + 's,
+        requires room { crew.old.running < crew.old.room }
+        requires parts { crew.old.running + crew.old.not_started + 2 ≤ 2 ^ 40 }
+        requires slot { worker.pass.slot < slot_count self.run.settings.now }
+        requires link { ((L.output link).failures < 2 ^ 64 - 1) × ((L.input link).failures < 2 ^ 64 - 1) }
+    {
+        let site = self;
+        let Crew {
+            running,
+            grabs,
+            reports,
+            not_started,
+            ..
+        } = crew;
+        let papers = Papers {
+            worker,
+            grabbed: grabs.split_off(1, 0),
+            reported: reports.split_off(1, 0),
+        };
+        let Berth {
+            has_ended,
+            of_session,
+        } = berth;
+        let work = move || -> Returned<N>
+            requires slot { papers.worker.pass.slot < slot_count site.run.settings.now }
+            requires link { ((L.output link).failures < 2 ^ 64 - 1) × ((L.input link).failures < 2 ^ 64 - 1) }
+        {
+            let mut link = link;
+            let returned = run_worker(&site, &mut link, papers);
+            drop(link);
+            of_session.store(true, Ordering::SeqCst);
+            returned
+        };
+        match thread::Builder::new()
+            .stack_size(STACK)
+            .spawn_scoped(scope, work)
+        {
+            Ok(handle) => {
+                running.push_reserved(Started { handle, has_ended });
+                Ok(())
+            }
+            Err(_) => {
+                *not_started += 1;
+                Err(AllocError)
+            }
+        }
     }
 }

@@ -1,18 +1,24 @@
 //! The name of a run, and a session's place at its board.
-ghost use Rattle.std.specs.Prelude.{◌≡◌};
+ghost use Rattle.std.specs.Prelude.{◌≡◌, ◌≤◌};
 ghost use Rattle.atomic_table.specs.Seated.{TableId};
+ghost use Rattle.pool_settings.specs.Slots.{slots};
 
-use order_board::ReaderSeat;
+use order_board::{Board, ReaderSeat};
+use pool_settings::Settings;
+use std::alloc::AllocError;
 use std::marker::{Brand, PhantomData};
 use std::sync::ledger::Ledger;
 
-/// The name of a run: its board, and the ledgers of its grabs and of its reports. Each call of a program picks it, so that what a thread
-/// hands back is known to be of its own run.
+/// The name of a run: its board, the settings of its pool, and the ledgers of its grabs and of its reports. Each call of a program picks
+/// it, so that what a thread hands back is known to be of its own run.
 pub trait RunId {
     ghost use Rattle.std.specs.Prelude.{ℕ};
     ghost use Rattle.atomic_table.specs.Seated.{TableId};
+    ghost use Rattle.pool_settings.specs.Settings.{Settings};
 
     ghost board: { TableId };
+
+    ghost settings: { Settings };
 
     ghost grabs: { ℕ };
 
@@ -20,13 +26,22 @@ pub trait RunId {
 }
 
 impl RunId for Brand {
-    ghost use Rattle.pool_supervisor.specs.Boards.{no_board};
+    ghost use Rattle.pool_supervisor.specs.Boards.{no_board, no_settings};
 
     ghost board = { no_board };
+
+    ghost settings = { no_settings };
 
     ghost grabs = { 0 };
 
     ghost reports = { 0 };
+}
+
+/// A ledger of a run. It knows the settings of the run's pool.
+pub trait RunLedger: Ledger {
+    ghost use Rattle.pool_settings.specs.Settings.{Settings};
+
+    ghost settings: { Settings };
 }
 
 /// The ledger of a run's grabs.
@@ -40,6 +55,10 @@ impl<N: RunId> Ledger for Grabs<N> {
     ghost name = { N.grabs };
 
     ghost parts = { 2 ^ 40 };
+}
+
+impl<N: RunId> RunLedger for Grabs<N> {
+    ghost settings = { N.settings };
 }
 
 /// The ledger of a run's reports.
@@ -65,3 +84,33 @@ pub struct Place<N: RunId> {
     /// The seat is one of that board.
     pub ghost here: { seat.board ≡ N.board },
 }
+
+/// The board of a run, which has a place for each slot, and the settings of its pool.
+pub struct RunBoard<'e, N: RunId> {
+    /// The board.
+    pub board: &'e Board,
+    /// The settings.
+    pub settings: &'e Settings,
+    /// Whose they are.
+    pub of: PhantomData<N>,
+    /// The board is the run's.
+    pub ghost here: { board.now.id ≡ N.board },
+    /// The settings are those of the run's pool.
+    pub ghost settings_are: { settings.now ≡ N.settings },
+    /// There is a place for each slot.
+    pub ghost room: { slots settings.now ≤ board.now.slots },
+}
+
+impl<'e, N: RunId> Clone for RunBoard<'e, N> {
+    ghost use Rattle.std.specs.Prelude.{◌≡◌, ⊤};
+
+    ghost is_clone = { λ board copy. copy ≡ board };
+
+    ghost is_infallible = { λ _. ⊤ };
+
+    fn clone(&self) -> Result<RunBoard<'e, N>, AllocError> {
+        Ok(*self)
+    }
+}
+
+impl<'e, N: RunId> Copy for RunBoard<'e, N> {}

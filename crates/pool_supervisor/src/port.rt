@@ -1,13 +1,16 @@
 //! A session's way to the shared pool.
 ghost use Rattle.std.specs.Prelude.{◌≡◌, ◌+◌};
 ghost use Rattle.job_runner.specs.Book.{no_calls};
+ghost use Rattle.pool_supervisor.specs.PortCalls.{book_of};
 
+use crate::calls::{Call, Calls, note};
 use crate::place::{Grabs, Place, Reports, RunId};
 use crate::shared::Shared;
 use gear_packets::Handle;
-use job_runner::{Gone, GrabRefusal, PoolPort, PortAnswer};
+use job_runner::{Gone, GrabRefusal, PoolPort};
 use order_board::Board;
 use pool_core::{GrabError, Pass, StayOrRetire};
+use std::snapshot::Snapshot;
 use std::sync::Wait;
 use std::sync::ledger::Share;
 use worker_state::{Cause, EndKind, Order, Ticket};
@@ -27,7 +30,7 @@ pub trait Watch {
 /// that it was given, at the time of the watch; a job that is grabbed when no time is known is never late. A refusal that says that
 /// the worker is not what its session takes it for is told as [`Gone`].
 ///
-/// It counts the calls that succeeded, and each share stands at its count.
+/// It keeps no count: its calls are told to contracts alone ([`Calls`]), and each share stands at the number of those that succeeded.
 #[derive(Drop)]
 pub struct SharedPort<'a, N: RunId, C, R> {
     rt: &'a R,
@@ -37,17 +40,12 @@ pub struct SharedPort<'a, N: RunId, C, R> {
     place: Place<N>,
     grab_share: Share<Grabs<N>>,
     report_share: Share<Reports<N>>,
-    grabs: u64,
-    begins: u64,
-    reports: u64,
-    losses: u64,
-    last_loss: Option<Cause>,
-    last_answer: Option<PortAnswer>,
+    calls: Snapshot<Calls>,
     ghost here: { board.now.id ≡ N.board },
     ghost grab_part: { grab_share.parts ≡ 1 },
     ghost report_part: { report_share.parts ≡ 1 },
-    ghost grabs_counted: { grab_share.amount ≡ grabs },
-    ghost reports_counted: { report_share.amount ≡ reports },
+    ghost grabs_counted: { grab_share.amount ≡ (book_of calls.value).grabs },
+    ghost reports_counted: { report_share.amount ≡ (book_of calls.value).reports },
 }
 
 impl<'a, N: RunId, C: Watch, R: Wait> SharedPort<'a, N, C, R> {
@@ -74,12 +72,7 @@ impl<'a, N: RunId, C: Watch, R: Wait> SharedPort<'a, N, C, R> {
             place,
             grab_share,
             report_share,
-            grabs: 0,
-            begins: 0,
-            reports: 0,
-            losses: 0,
-            last_loss: None,
-            last_answer: None,
+            calls: Snapshot::of(&Calls::New),
         }
     }
 
@@ -97,32 +90,29 @@ impl<'a, N: RunId, C: Watch, R: Wait> SharedPort<'a, N, C, R> {
             place,
             grab_share,
             report_share,
-            grabs: _,
-            begins: _,
-            reports: _,
-            losses: _,
-            last_loss: _,
-            last_answer: _,
+            calls: _,
         } = self;
         (grab_share, report_share, place)
     }
 }
 
-impl<'a, N: RunId, C: Watch, R: Wait> PoolPort for SharedPort<'a, N, C, R> {
-    ghost use Rattle.job_runner.specs.Book.{Ledger};
+/// What a session is told of a grab that the pool refused.
+fn refusal_of(error: GrabError) -> GrabRefusal {
+    match error {
+        GrabError::HistoryFull => GrabRefusal::HistoryFull,
+        GrabError::Memory => GrabRefusal::Memory,
+        GrabError::Gone | GrabError::Busy => GrabRefusal::Gone,
+    }
+}
 
-    ghost book = { λ p. record {
-      grabs = p.grabs;
-      begins = p.begins;
-      reports = p.reports;
-      losses = p.losses;
-      last_loss = p.last_loss;
-      last_answer = p.last_answer;
-    } };
+impl<'a, N: RunId, C: Watch, R: Wait> PoolPort for SharedPort<'a, N, C, R> {
+    ghost use Rattle.pool_supervisor.specs.PortCalls.{book_of};
+
+    ghost book = { λ p. book_of p.calls.value };
 
     fn order(&mut self, _pass: &Pass) -> Order {
         let order = self.board.read_by(&mut self.place.seat);
-        self.last_answer = Some(PortAnswer::Ordered(order));
+        note(&mut self.calls, Call::Order(order));
         order
     }
 
@@ -133,49 +123,28 @@ impl<'a, N: RunId, C: Watch, R: Wait> PoolPort for SharedPort<'a, N, C, R> {
         function: &[u8],
     ) -> Result<Ticket, GrabRefusal> {
         let now_ms = self.watch.now_ms().unwrap_or(u64::MAX);
-        let SharedPort {
-            rt,
-            shared,
-            grab_share,
-            grabs,
-            last_answer,
-            ..
-        } = self;
-        let mut held = shared.hold(*rt);
-        match held.grab(grab_share, pass, handle, function, now_ms) {
+        let mut held = self.shared.hold(self.rt);
+        match held.grab(&mut self.grab_share, pass, handle, function, now_ms) {
             Ok(ticket) => {
-                *grabs += 1;
-                *last_answer = Some(PortAnswer::Grabbed(ticket));
+                note(&mut self.calls, Call::Grab(Ok(ticket)));
                 Ok(ticket)
             }
-            Err(GrabError::HistoryFull) => {
-                *last_answer = Some(PortAnswer::HistoryFull);
-                Err(GrabRefusal::HistoryFull)
-            }
-            Err(GrabError::Memory) => {
-                *last_answer = Some(PortAnswer::Memory);
-                Err(GrabRefusal::Memory)
-            }
-            Err(GrabError::Gone) | Err(GrabError::Busy) => {
-                *last_answer = Some(PortAnswer::Gone);
-                Err(GrabRefusal::Gone)
+            Err(error) => {
+                let refusal = refusal_of(error);
+                note(&mut self.calls, Call::Grab(Err(refusal)));
+                Err(refusal)
             }
         }
     }
 
     fn begin_report(&mut self, pass: &Pass, ticket: Ticket) -> Result<(), Gone> {
         let begun = self.shared.hold(self.rt).begin_report(pass, ticket);
-        match begun {
-            Ok(()) => {
-                self.begins += 1;
-                self.last_answer = Some(PortAnswer::Began);
-                Ok(())
-            }
-            Err(_) => {
-                self.last_answer = Some(PortAnswer::Gone);
-                Err(Gone)
-            }
-        }
+        let answer = match begun {
+            Ok(()) => Ok(()),
+            Err(_) => Err(Gone),
+        };
+        note(&mut self.calls, Call::Begin(answer));
+        answer
     }
 
     fn reported(
@@ -184,36 +153,17 @@ impl<'a, N: RunId, C: Watch, R: Wait> PoolPort for SharedPort<'a, N, C, R> {
         ticket: Ticket,
         end: EndKind,
     ) -> Result<StayOrRetire, Gone> {
-        let SharedPort {
-            rt,
-            shared,
-            report_share,
-            reports,
-            last_answer,
-            ..
-        } = self;
-        let mut held = shared.hold(*rt);
-        match held.reported(report_share, pass, ticket, end) {
-            Ok(StayOrRetire::Stay) => {
-                *reports += 1;
-                *last_answer = Some(PortAnswer::Stay);
-                Ok(StayOrRetire::Stay)
-            }
-            Ok(StayOrRetire::Retire) => {
-                *reports += 1;
-                *last_answer = Some(PortAnswer::Retire);
-                Ok(StayOrRetire::Retire)
-            }
-            Err(_) => {
-                *last_answer = Some(PortAnswer::Gone);
-                Err(Gone)
-            }
-        }
+        let mut held = self.shared.hold(self.rt);
+        let answer = match held.reported(&mut self.report_share, pass, ticket, end) {
+            Ok(told) => Ok(told),
+            Err(_) => Err(Gone),
+        };
+        note(&mut self.calls, Call::Report(answer));
+        answer
     }
 
     fn lose(&mut self, pass: Pass, cause: Cause) {
-        self.losses += 1;
-        self.last_loss = Some(cause);
         let _ = self.shared.hold(self.rt).lose(pass, cause);
+        note(&mut self.calls, Call::Lose(cause));
     }
 }

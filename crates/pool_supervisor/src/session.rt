@@ -7,34 +7,51 @@ ghost use Rattle.job_runner.specs.Course.{session_of};
 ghost use Rattle.job_runner.specs.Run.{Served};
 ghost use Rattle.pool_settings.specs.Slots.{slots};
 
-use crate::place::{Grabs, Place, Reports, RunId};
+use crate::place::{Grabs, Place, Reports, RunBoard, RunId};
 use crate::port::{SharedPort, Watch};
 use crate::shared::Shared;
 use byte_io::{Sink, Source};
 use job_runner::{Jobs, SessionEnd, run_session};
-use order_board::Board;
 use pool_core::Pass;
-use pool_settings::Settings;
 use std::alloc::{AllocError, Global};
 use std::sync::Wait;
 use std::sync::ledger::Share;
 
-/// What a run lends to its sessions.
-pub struct Site<'e, N: RunId, J, C, R> {
+/// What a run is lent by its caller for its sessions.
+pub struct Lent<'e, J, C, R> {
     /// The right to wait for other threads.
     pub rt: &'e R,
     /// Where memory comes from.
     pub alloc: Global,
-    /// The pool.
-    pub shared: &'e Shared<Grabs<N>, Reports<N>>,
-    /// The board from which orders are read.
-    pub board: &'e Board,
     /// What tells the time.
     pub watch: &'e C,
     /// The jobs that workers can do.
     pub jobs: &'e J,
-    /// The settings of the pool.
-    pub settings: &'e Settings,
+}
+
+impl<'e, J, C, R> Clone for Lent<'e, J, C, R> {
+    ghost use Rattle.std.specs.Prelude.{◌≡◌, ⊤};
+
+    ghost is_clone = { λ lent copy. copy ≡ lent };
+
+    ghost is_infallible = { λ _. ⊤ };
+
+    fn clone(&self) -> Result<Lent<'e, J, C, R>, AllocError> {
+        Ok(*self)
+    }
+}
+
+// Not derived, since that would ask the same of all that is lent.
+impl<'e, J, C, R> Copy for Lent<'e, J, C, R> {}
+
+/// Where the sessions of a run are: what they are lent, their pool, and their board.
+pub struct Site<'e, N: RunId, J, C, R> {
+    /// What the run is lent.
+    pub lent: Lent<'e, J, C, R>,
+    /// The pool.
+    pub shared: &'e Shared<Grabs<N>, Reports<N>>,
+    /// The board from which orders are read, and the settings.
+    pub run: RunBoard<'e, N>,
 }
 
 impl<'e, N: RunId, J, C, R> Clone for Site<'e, N, J, C, R> {
@@ -49,7 +66,6 @@ impl<'e, N: RunId, J, C, R> Clone for Site<'e, N, J, C, R> {
     }
 }
 
-// Not derived, since that would ask the same of all that is lent.
 impl<'e, N: RunId, J, C, R> Copy for Site<'e, N, J, C, R> {}
 
 /// A worker that joined its pool, with its seat at the board.
@@ -107,15 +123,14 @@ pub fn run_worker<N: RunId, L: Source + Sink, J: Jobs, C: Watch, R: Wait>(
     link: &mut L,
     papers: Papers<N>,
 ) -> Returned<N>
-    requires board { site.now.board.now.id ≡ N.board }
-    requires slot { papers.worker.pass.slot < slots site.now.settings.now }
+    requires slot { papers.worker.pass.slot < slots site.now.run.settings.now }
     requires output { (L.output link.old).failures < 2 ^ 64 - 1 }
     requires input { (L.input link.old).failures < 2 ^ 64 - 1 }
     ensures served { (read bytes : List ℕ) × (book : Ledger)
         × ((L.input link.new).given ≡ and_then (L.input link.old).given read)
         × ((L.output link.new).got ≡ and_then (L.output link.old).got bytes)
-        × Served (session_of (duty_of (J.told site.now.jobs.now) site.now.settings.now papers.worker.pass) (L.output link.old).got read)
-        bytes
+        × Served (session_of (duty_of (J.told site.now.lent.jobs.now) site.now.run.settings.now papers.worker.pass)
+        (L.output link.old).got read) bytes
         (record { input = L.input link.old; output = L.output link.old })
         (record { input = L.input link.new; output = L.output link.new })
         book result.end }
@@ -125,23 +140,20 @@ pub fn run_worker<N: RunId, L: Source + Sink, J: Jobs, C: Watch, R: Wait>(
         grabbed,
         reported,
     } = papers;
-    let mut port = SharedPort::new(
-        site.rt,
-        site.shared,
-        site.watch,
-        site.board,
-        place,
-        (grabbed, reported),
-    );
-    let end = run_session(
-        site.alloc,
-        link,
-        &mut port,
-        site.jobs,
-        site.settings,
-        pass,
-        TURNS,
-    );
+    let Lent {
+        rt,
+        alloc,
+        watch,
+        jobs,
+    } = site.lent;
+    let RunBoard {
+        board,
+        settings,
+        of: _,
+    } = site.run;
+    let shares = (grabbed, reported);
+    let mut port = SharedPort::new(rt, site.shared, watch, board, place, shares);
+    let end = run_session(alloc, link, &mut port, jobs, settings, pass, TURNS);
     let (grabbed, reported, place) = port.into_parts();
     Returned {
         end,

@@ -3,6 +3,7 @@ ghost use Rattle.std.specs.Prelude.{◌≡◌};
 ghost use Rattle.pool_core.specs.Book.{totals_of};
 
 use crate::booked::Booked;
+use crate::place::RunLedger;
 use pool_core::Pool;
 use std::sync::ledger::{Blank, Ledger, Share};
 use std::sync::{Mutex, MutexGuard, Wait};
@@ -12,14 +13,15 @@ use std::sync::{Mutex, MutexGuard, Wait};
 /// Whoever gets the lock finds a pool whose state is the replay of its history, with books that stand at its totals. Its calls are
 /// those of the [`Booked`] that [`Shared::hold`] gives. It may wait for as long as other threads hold the lock.
 #[derive(Drop)]
-pub struct Shared<G: Ledger, D: Ledger> {
+pub struct Shared<G: RunLedger, D: Ledger> {
     lock: Mutex<Booked<G, D>>,
 }
 
-impl<G: Ledger, D: Ledger> Shared<G, D> {
+impl<G: RunLedger, D: Ledger> Shared<G, D> {
     /// Shares a pool that has grabbed nothing, with the whole shares of both ledgers, which stand at 0.
     pub fn new(pool: Pool, grabbed: Blank, reported: Blank) -> (Shared<G, D>, (Share<G>, Share<D>))
         requires pool { (totals_of pool).grabbed ≡ 0 }
+        requires settings { pool.settings ≡ G.settings }
         requires grabbed { (grabbed.name ≡ G.name) × (grabbed.parts ≡ G.parts) }
         requires reported { (reported.name ≡ D.name) × (reported.parts ≡ D.parts) }
         ensures grabbed { (result.1.0.parts ≡ G.parts) × (result.1.0.amount ≡ 0) }

@@ -7,4 +7,4 @@ pub invariant_of-self : goal.invariant_of-self
 invariant_of-self g c =
     let h = c.begin_report.ensures in
     let t = same_totals (event.Begin c.args.pass.now c.args.ticket) c.self.inside.pool c.begin_report.new.self c.begin_report.result c.events_count.ensures refl refl h.0.0 h.0.1 in
-    (c.self.invariant.0 ∙ sym t.0, c.self.invariant.1 ∙ sym t.1)
+    (c.self.invariant.0 ∙ sym t.0, c.self.invariant.1 ∙ sym t.1, t.2 ∙ c.self.invariant.2)

@@ -8,4 +8,4 @@ pub invariant_of-self : goal.invariant_of-self
 invariant_of-self g c =
     let h = c.expire.ensures in
     let t = same_totals (event.Lost (record { slot = c.args.slot; generation = c.args.generation }) Late) c.self.inside.pool c.expire.new.self c.expire.result c.events_count.ensures refl refl h.0.0 h.0.1 in
-    (c.self.invariant.0 ∙ sym t.0, c.self.invariant.1 ∙ sym t.1)
+    (c.self.invariant.0 ∙ sym t.0, c.self.invariant.1 ∙ sym t.1, t.2 ∙ c.self.invariant.2)

@@ -1,0 +1,8 @@
+use Rattle.std.specs.Prelude.{◌≡◌, ◌-◌, vec_len}
+use Rattle.pool_supervisor.proofs.attempts.Supervisor.attempt_all.Given as goal
+
+abbrev pub invariant-loop-lines : goal.invariant-loop-lines
+invariant-loop-lines g l = l.lines.rounds ≡ l.initial.lines.rounds
+
+abbrev pub decreases-loop-lines : goal.decreases-loop-lines
+decreases-loop-lines g l = l.lines.rounds - vec_len l.lines.told
