@@ -13,11 +13,12 @@ use Rattle.job_runner.specs.declared.end.SessionEnd.{SessionEnd}
 use Rattle.worker_state.specs.declared.cause.Cause.{Cause}
 use Rattle.job_runner.specs.declared.answering.Tally.{Tally}
 use Rattle.job_runner.specs.Book.{Ledger, after_loss}
-use Rattle.job_runner.specs.Course.{Duty, session_of, asks, Ends, OneAtATime}
+use Rattle.job_runner.specs.Course.{Duty, Session, session_of, asks, Ends, OneAtATime}
 use Rattle.job_runner.specs.Ends.{loss_of}
 use Rattle.job_runner.specs.Run.{Link, Lost, Served, Reason, tally_of}
 use Rattle.byte_io.specs.Sides.{and_then}
 use Rattle.job_runner.specs.Loop.{Halts}
+use Rattle.job_runner.specs.Path.{Ended}
 
 ends_lost : (duty : Duty) (bytes : List ℕ) (taken : List AssignedJob) (t : Tally) (b : Ledger) (reason : EndCause) (c : Cause) → Ends duty bytes taken t b reason → Ends duty bytes taken t (after_loss b c) reason
 ends_lost duty bytes taken t b reason c e = record {
@@ -38,6 +39,25 @@ ends_lost duty bytes taken t b reason c e = record {
     grabs = e.chain.grabs;
     reports = e.chain.reports;
   };
+}
+
+path_lost : (session : Session) (written : Option (List ℕ)) (b : Ledger) (reason : EndCause) (c : Cause) → Ended session written b reason → Ended session written (after_loss b c) reason
+path_lost session written b reason c e = record {
+  events = e.events;
+  sent = e.sent;
+  at = e.at;
+  path = e.path;
+  met = e.met;
+  packets = e.packets;
+  last = e.last;
+  part = e.part;
+  lost = e.lost;
+  parts = e.parts;
+  cut = e.cut;
+  written_is = e.written_is;
+  later = e.later;
+  messages_are = e.messages_are;
+  orders_are = e.orders_are;
 }
 
 -- ---- what was written, read again
@@ -89,12 +109,12 @@ one_where_asked law duty bytes taken t b reason e before after p same asked =
     subst (λ (x : List Packet). length (registered_by [] x) ≡ 1) (sym (law front each)) (one_asked [] before after p (subst (OneAtATime []) same e.cut.one) asked)
 
 -- what a session promises, as one fact over what was written
-abbrev pub Promised : Duty → List ℕ → Option (List ℕ) → Option (List ℕ) → Link → Link → Ledger → SessionEnd → Type 0
-Promised duty read before out old new book e = (bytes : List ℕ) × (out ≡ and_then before bytes) × Served (session_of duty before read) bytes old new book e
+abbrev pub Promised : Duty → List ℕ → Option (List ℕ) → Link → Link → Ledger → SessionEnd → Type 0
+Promised duty read before old new book e = (bytes : List ℕ) × (new.output.got ≡ and_then before bytes) × Served (session_of duty before read) bytes old new book e
 
 -- with no loss
-pub promised_kept : SaysItsPackets → (duty : Duty) (read : List ℕ) (before out : Option (List ℕ)) (old new : Link) (b : Ledger) (e : SessionEnd) → Halts (session_of duty before read) out (tally_of e) b e.cause × Reason (session_of duty before read) old new (tally_of e) b e.cause → b.losses ≡ 0 → loss_of e.cause ≡ None → Promised duty read before out old new b e
-promised_kept law duty read before out old new b e ran none is = (
+pub promised_kept : SaysItsPackets → (duty : Duty) (read : List ℕ) (before : Option (List ℕ)) (old new : Link) (b : Ledger) (e : SessionEnd) → Halts (session_of duty before read) new.output.got (tally_of e) b e.cause × Reason (session_of duty before read) old new (tally_of e) b e.cause → b.losses ≡ 0 → loss_of e.cause ≡ None → Promised duty read before old new b e
+promised_kept law duty read before old new b e ran none is = (
   ran.0.bytes,
   ran.0.at,
   record {
@@ -103,14 +123,15 @@ promised_kept law duty read before out old new b e ran none is = (
     work = work_done law duty ran.0.bytes (assignments read) (tally_of e) b e.cause ran.0.ends;
     registers = one_registered law duty ran.0.bytes (assignments read) (tally_of e) b e.cause ran.0.ends;
     asking = one_where_asked law duty ran.0.bytes (assignments read) (tally_of e) b e.cause ran.0.ends;
+    path = ran.0.ended;
     reason = ran.1;
     lost = subst (λ (o : Option Cause). Lost o b) (sym is) none;
   },
 )
 
 -- with one
-pub promised_lost : SaysItsPackets → (duty : Duty) (read : List ℕ) (before out : Option (List ℕ)) (old new : Link) (b after : Ledger) (e : SessionEnd) (c : Cause) → Halts (session_of duty before read) out (tally_of e) b e.cause × Reason (session_of duty before read) old new (tally_of e) b e.cause → b.losses ≡ 0 → loss_of e.cause ≡ Some c → after ≡ after_loss b c → Promised duty read before out old new after e
-promised_lost law duty read before out old new b after e c ran none is same = subst (λ (x : Ledger). Promised duty read before out old new x e) (sym same) (
+pub promised_lost : SaysItsPackets → (duty : Duty) (read : List ℕ) (before : Option (List ℕ)) (old new : Link) (b after : Ledger) (e : SessionEnd) (c : Cause) → Halts (session_of duty before read) new.output.got (tally_of e) b e.cause × Reason (session_of duty before read) old new (tally_of e) b e.cause → b.losses ≡ 0 → loss_of e.cause ≡ Some c → after ≡ after_loss b c → Promised duty read before old new after e
+promised_lost law duty read before old new b after e c ran none is same = subst (λ (x : Ledger). Promised duty read before old new x e) (sym same) (
   ran.0.bytes,
   ran.0.at,
   record {
@@ -119,6 +140,7 @@ promised_lost law duty read before out old new b after e c ran none is same = su
     work = work_done law duty ran.0.bytes (assignments read) (tally_of e) b e.cause ran.0.ends;
     registers = one_registered law duty ran.0.bytes (assignments read) (tally_of e) (after_loss b c) e.cause (ends_lost duty ran.0.bytes (assignments read) (tally_of e) b e.cause c ran.0.ends);
     asking = one_where_asked law duty ran.0.bytes (assignments read) (tally_of e) (after_loss b c) e.cause (ends_lost duty ran.0.bytes (assignments read) (tally_of e) b e.cause c ran.0.ends);
+    path = path_lost (session_of duty before read) new.output.got b e.cause c ran.0.ended;
     reason = ran.1;
     lost = subst (λ (o : Option Cause). Lost o (after_loss b c)) (sym is) (ap (λ (n : ℕ). n + 1) none, refl);
   },

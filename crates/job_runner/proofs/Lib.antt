@@ -7,6 +7,8 @@ pub mod Orders
 pub mod Listening
 pub mod Opening
 pub mod Reasons
+pub mod Asking
+pub mod Paths
 pub mod Turning
 pub mod Ending
 pub mod Replies

@@ -1,6 +1,7 @@
 -- Packets that change the function keep one function at a time.
-use Rattle.std.proofs.Common.{◌≡◌, ◌≢◌, ℕ, ◌≤◌, Bool, true, false, List, [], ◌∷◌, ◌++◌, length, take, drop, Option, Some, None, Ok, Err, refl, sym, ap, subst, ◌∙◌, arith}
+use Rattle.std.proofs.Common.{◌≡◌, ◌≢◌, ℕ, ◌<◌, ◌≤◌, Bool, true, false, List, [], ◌∷◌, ◌++◌, length, take, drop, Option, Some, None, Ok, Err, refl, sym, ap, subst, ◌∙◌, arith}
 use Rattle.std.specs.List.{filter}
+use Rattle.std.specs.Prelude.{IfSome}
 use Rattle.std.specs.Option.{option_to_list}
 use Rattle.std.specs.Cmp.Lexicographic.{same_text}
 use Rattle.std.proofs.lemmas.Bool.{eq-eqb}
@@ -16,7 +17,8 @@ use Rattle.job_runner.specs.declared.answering.Tally.{Tally}
 use Rattle.job_runner.specs.Told.{Told}
 use Rattle.job_runner.specs.Book.{Ledger, after_order}
 use Rattle.byte_io.specs.Sides.{and_then}
-use Rattle.job_runner.specs.Course.{Duty, OneAtATime, Wrote, Even, Chain, Ends, Sends, obeying, name_of, known}
+use Rattle.job_runner.specs.Course.{Duty, OneAtATime, Wrote, Even, Chain, Ends, Sends, obeying, name_of, known, IsServing}
+use Rattle.job_runner.specs.Following.{phase_with}
 use Rattle.job_runner.proofs.Told.{goes_behind}
 use Rattle.job_runner.proofs.Steps.{ends_whole, Leads, wrote_on, cut_on, left_over}
 use Rattle.job_runner.proofs.Exits.{Left}
@@ -31,6 +33,11 @@ known_few functions f = by (name_of functions f)
     by : (o : Option (List ℕ)) → length (option_to_list o) ≤ 1
     by None = omega arith
     by (Some name) = omega arith
+
+-- what a session waits for goes with its function
+pub serves_with : (count : ℕ) (registered : Option ℕ) → IfSome registered (λ f. f < count) → IsServing count (phase_with registered) registered
+serves_with count None h = tt
+serves_with count (Some f) h = h
 
 -- what obeying keeps
 pub record Keeps (from to : Option (List ℕ)) : Type 0 where

@@ -20,7 +20,9 @@ use Rattle.job_runner.specs.Listening.{SaysFirst, IsReadEnd}
 use Rattle.job_runner.specs.Run.{AreAnswered, Acts, Link, Reason, ReadReason}
 use Rattle.job_runner.specs.Loop.{StepReason, Stands, Halts}
 use Rattle.byte_io.specs.Sides.{and_then}
+use Rattle.job_runner.specs.Path.{IsWaitEnd, Went, Ended, place_of}
 use Rattle.job_runner.proofs.Orders.{ends_at_rest}
+use Rattle.job_runner.proofs.Paths.{ended_waiting}
 use Rattle.job_runner.proofs.Reasons.{read_reason, outer_reason}
 
 -- ---- lists
@@ -81,12 +83,13 @@ pub says_more : (read : List ℕ) (given later : List Message) → (reading read
 says_more read given later h = ap assignments_in h ∙ assignments_append given later
 
 -- at rest the session may end
-pub halts_at_rest : (duty : Duty) (before : Option (List ℕ)) (bytes read : List ℕ) (written : Option (List ℕ)) (given : List Message) (s : State) (b : Ledger) (reason : EndCause) → written ≡ and_then before bytes → AreAnswered duty bytes (assignments_in given) s b → SaysFirst read given → reason ≢ WriteFault → Halts (session_of duty before read) written s.tally b reason
-halts_at_rest duty before bytes read written given s b reason at holds says no-fault = record {
+pub halts_at_rest : (duty : Duty) (before : Option (List ℕ)) (bytes read : List ℕ) (written : Option (List ℕ)) (given : List Message) (s : State) (b : Ledger) (reason : EndCause) → written ≡ and_then before bytes → AreAnswered duty bytes (assignments_in given) s b → Went duty before written given b (place_of s) → IsWaitEnd reason → SaysFirst read given → reason ≢ WriteFault → Halts (session_of duty before read) written s.tally b reason
+halts_at_rest duty before bytes read written given s b reason at holds went is says no-fault = record {
   bytes = bytes;
   at = at;
   ends = ends_later duty bytes (assignments_in given) (assignments_in says.0) (assignments read) s.tally b reason
       (ends_at_rest duty bytes (known duty.functions s.registered) (assignments_in given) s.tally b reason holds.wrote holds.even no-fault) (says_more read given says.0 says.1);
+  ended = ended_waiting (session_of duty before read) written given b s reason went is says;
 }
 
 -- ---- messages
@@ -96,8 +99,8 @@ heard_next read given m old new h e = h ∙ ap (behind given) e ∙ sym (ap (λ 
 
 -- a message was served
 pub stands_next : (duty : Duty) (before : Option (List ℕ)) (read : List ℕ) (old new : Option (List ℕ)) (m : Message) (r r' : Reading) (s s' : State) (b b' : Ledger) (st : Stands (session_of duty before read) old r s b) → r ≡ behind (m ∷ []) r'
-    → (more : List ℕ) × (new ≡ and_then before more) × AreAnswered duty more (assignments_in st.given ++ assignments_in (m ∷ [])) s' b' → Stands (session_of duty before read) new r' s' b'
-stands_next duty before read old new m r r' s s' b b' st e h = record {
+    → (more : List ℕ) × (new ≡ and_then before more) × AreAnswered duty more (assignments_in st.given ++ assignments_in (m ∷ [])) s' b' → Went duty before new (st.given ++ m ∷ []) b' (place_of s') → Stands (session_of duty before read) new r' s' b'
+stands_next duty before read old new m r r' s s' b b' st e h went = record {
   bytes = h.0;
   given = st.given ++ m ∷ [];
   at = h.1;
@@ -105,9 +108,10 @@ stands_next duty before read old new m r r' s s' b b' st e h = record {
     heard = heard_next read st.given m r r' st.rests.heard e;
     holds = subst (λ (d : List AssignedJob). AreAnswered duty h.0 d s' b') (sym (assignments_append st.given (m ∷ []))) h.2;
   };
+  went = went;
 }
 
-says_behind : (read : List ℕ) (given : List Message) (m : Message) (r r' : Reading) → reading read ≡ behind given r → r ≡ behind (m ∷ []) r' → (reading read).messages ≡ (given ++ m ∷ []) ++ r'.messages
+pub says_behind : (read : List ℕ) (given : List Message) (m : Message) (r r' : Reading) → reading read ≡ behind given r → r ≡ behind (m ∷ []) r' → (reading read).messages ≡ (given ++ m ∷ []) ++ r'.messages
 says_behind read given m r r' h e = ap (λ (x : Reading). x.messages) (heard_next read given m r r' h e)
 
 all_behind : (read : List ℕ) (given : List Message) (m : Message) (r r' : Reading) → reading read ≡ behind given r → r ≡ behind (m ∷ []) r' → assignments read ≡ (assignments_in given ++ assignments_in (m ∷ [])) ++ assignments_in r'.messages
@@ -115,11 +119,12 @@ all_behind read given m r r' h e = says_more read (given ++ m ∷ []) r'.message
 
 -- a session ended at a message
 pub halts_next : (duty : Duty) (before : Option (List ℕ)) (read : List ℕ) (old new : Option (List ℕ)) (m : Message) (r r' : Reading) (s : State) (t' : Tally) (b b' : Ledger) (e : EndCause) (st : Stands (session_of duty before read) old r s b) → r ≡ behind (m ∷ []) r'
-    → (more : List ℕ) × (new ≡ and_then before more) × Ends duty more (assignments_in st.given ++ assignments_in (m ∷ [])) t' b' e → Halts (session_of duty before read) new t' b' e
-halts_next duty before read old new m r r' s t' b b' e st same h = record {
+    → (more : List ℕ) × (new ≡ and_then before more) × Ends duty more (assignments_in st.given ++ assignments_in (m ∷ [])) t' b' e → Ended (session_of duty before read) new b' e → Halts (session_of duty before read) new t' b' e
+halts_next duty before read old new m r r' s t' b b' e st same h ended = record {
   bytes = h.0;
   at = h.1;
   ends = ends_later duty h.0 (assignments_in st.given ++ assignments_in (m ∷ [])) (assignments_in r'.messages) (assignments read) t' b' e h.2 (all_behind read st.given m r r' st.rests.heard same);
+  ended = ended;
 }
 
 pub reason_next : (duty : Duty) (before : Option (List ℕ)) (read : List ℕ) (old : Option (List ℕ)) (m : Message) (r r' : Reading) (s : State) (t' : Tally) (b b' : Ledger) (e : EndCause) (st : Stands (session_of duty before read) old r s b) → r ≡ behind (m ∷ []) r'
@@ -178,41 +183,43 @@ pub stands_says : (duty : Duty) (before : Option (List ℕ)) (read : List ℕ) (
 stands_says duty before read old r s b st = (r.messages, ap (λ (x : Reading). x.messages) st.rests.heard)
 
 -- and may halt
-pub stands_halts : (duty : Duty) (before : Option (List ℕ)) (read : List ℕ) (old : Option (List ℕ)) (r : Reading) (s : State) (b : Ledger) (reason : EndCause) → Stands (session_of duty before read) old r s b → reason ≢ WriteFault → Halts (session_of duty before read) old s.tally b reason
-stands_halts duty before read old r s b reason st no-fault = halts_at_rest duty before st.bytes read old st.given s b reason st.at st.rests.holds (stands_says duty before read old r s b st) no-fault
+pub stands_halts : (duty : Duty) (before : Option (List ℕ)) (read : List ℕ) (old : Option (List ℕ)) (r : Reading) (s : State) (b : Ledger) (reason : EndCause) → Stands (session_of duty before read) old r s b → IsWaitEnd reason → reason ≢ WriteFault → Halts (session_of duty before read) old s.tally b reason
+stands_halts duty before read old r s b reason st is no-fault = halts_at_rest duty before st.bytes read old st.given s b reason st.at st.rests.holds st.went is (stands_says duty before read old r s b st) no-fault
 
 -- ---- turns
 
 -- an end of a step at the order
 pub glanced : (duty : Duty) (before : Option (List ℕ)) (read : List ℕ) (out : Option (List ℕ)) (given : List Message) (r : Reading) (s : State) (b : Ledger) (old new : Link) (res : Result (Unit {0}) EndCause) → reading read ≡ behind given r
     → (more : List ℕ) × (out ≡ and_then before more) × Acts duty more (assignments_in given) s b res
+    → GoesOnOrEnds (Went duty before out given b (place_of s)) (Ended (session_of duty before read) out b) res
     → IfErr res (PortReason duty.generation b) → (res ≡ Err WriteFault → new.output.failures ≡ old.output.failures + 1)
     → GoesOnOrEnds (Stands (session_of duty before read) out r s b) (λ (e : EndCause). Halts (session_of duty before read) out s.tally b e × Reason (session_of duty before read) old new s.tally b e) res
-glanced duty before read out given r s b old new (Ok u) heard h reason fault = record { bytes = h.0; given = given; at = h.1; rests = record { heard = heard; holds = h.2 } }
-glanced duty before read out given r s b old new (Err e) heard h reason fault = (
+glanced duty before read out given r s b old new (Ok u) heard h gone reason fault = record { bytes = h.0; given = given; at = h.1; rests = record { heard = heard; holds = h.2 }; went = gone }
+glanced duty before read out given r s b old new (Err e) heard h gone reason fault = (
   record {
     bytes = h.0;
     at = h.1;
     ends = ends_later duty h.0 (assignments_in given) (assignments_in r.messages) (assignments read) s.tally b e h.2 (says_more read given r.messages (ap (λ (x : Reading). x.messages) heard));
+    ended = gone;
   },
   outer_reason (session_of duty before read) old new s.tally b e (read_reason (session_of duty before read) s.tally b e reason)
       (λ (x : e ≡ WriteFault). fault (ap (λ (y : EndCause). let z : Result (Unit {0}) EndCause = Err y in z) x)),
 )
 
 -- an end at a read
-pub read_ended : (duty : Duty) (before : Option (List ℕ)) (bytes read : List ℕ) (out : Option (List ℕ)) (given : List Message) (s : State) (b : Ledger) (old new : Link) (e : EndCause) → out ≡ and_then before bytes → AreAnswered duty bytes (assignments_in given) s b → SaysFirst read given → IsReadEnd e
+pub read_ended : (duty : Duty) (before : Option (List ℕ)) (bytes read : List ℕ) (out : Option (List ℕ)) (given : List Message) (s : State) (b : Ledger) (old new : Link) (e : EndCause) → out ≡ and_then before bytes → AreAnswered duty bytes (assignments_in given) s b → Went duty before out given b (place_of s) → SaysFirst read given → IsReadEnd e
     → (e ≡ cause.Closed → new.input.has_ended ≡ true) → (e ≡ cause.ReadFault → new.input.failures ≡ old.input.failures + 1) → Halts (session_of duty before read) out s.tally b e × Reason (session_of duty before read) old new s.tally b e
-read_ended duty before bytes read out given s b old new cause.Closed at holds says is closed failed = (halts_at_rest duty before bytes read out given s b cause.Closed at holds says (λ e. cc), closed refl)
-read_ended duty before bytes read out given s b old new cause.ReadFault at holds says is closed failed = (halts_at_rest duty before bytes read out given s b cause.ReadFault at holds says (λ e. cc), failed refl)
-read_ended duty before bytes read out given s b old new Memory at holds says is closed failed = (halts_at_rest duty before bytes read out given s b Memory at holds says (λ e. cc), tt)
-read_ended duty before bytes read out given s b old new WriteFault at holds says is closed failed = absurd is
-read_ended duty before bytes read out given s b old new cause.Retired at holds says is closed failed = absurd is
-read_ended duty before bytes read out given s b old new cause.Gone at holds says is closed failed = absurd is
-read_ended duty before bytes read out given s b old new cause.BadPacket at holds says is closed failed = absurd is
-read_ended duty before bytes read out given s b old new cause.ServerError at holds says is closed failed = absurd is
-read_ended duty before bytes read out given s b old new cause.TurnsUsed at holds says is closed failed = absurd is
-read_ended duty before bytes read out given s b old new cause.HistoryFull at holds says is closed failed = absurd is
-read_ended duty before bytes read out given s b old new cause.Stopped at holds says is closed failed = absurd is
+read_ended duty before bytes read out given s b old new cause.Closed at holds went says is closed failed = (halts_at_rest duty before bytes read out given s b cause.Closed at holds went tt says (λ e. cc), closed refl)
+read_ended duty before bytes read out given s b old new cause.ReadFault at holds went says is closed failed = (halts_at_rest duty before bytes read out given s b cause.ReadFault at holds went tt says (λ e. cc), failed refl)
+read_ended duty before bytes read out given s b old new Memory at holds went says is closed failed = (halts_at_rest duty before bytes read out given s b Memory at holds went tt says (λ e. cc), tt)
+read_ended duty before bytes read out given s b old new WriteFault at holds went says is closed failed = absurd is
+read_ended duty before bytes read out given s b old new cause.Retired at holds went says is closed failed = absurd is
+read_ended duty before bytes read out given s b old new cause.Gone at holds went says is closed failed = absurd is
+read_ended duty before bytes read out given s b old new cause.BadPacket at holds went says is closed failed = absurd is
+read_ended duty before bytes read out given s b old new cause.ServerError at holds went says is closed failed = absurd is
+read_ended duty before bytes read out given s b old new cause.TurnsUsed at holds went says is closed failed = absurd is
+read_ended duty before bytes read out given s b old new cause.HistoryFull at holds went says is closed failed = absurd is
+read_ended duty before bytes read out given s b old new cause.Stopped at holds went says is closed failed = absurd is
 
 -- ---- the start
 
@@ -220,11 +227,14 @@ pub reads_nothing : reading [] ≡ nothing_read
 unfolding reading reading_within
 reads_nothing = refl
 
+pub says_nothing : (reading []).messages ≡ []
+says_nothing = ap (λ (r : Reading). r.messages) reads_nothing
+
 assigns_nothing : assignments [] ≡ []
 assigns_nothing = ap (λ (r : Reading). assignments_in r.messages) reads_nothing
 
-pub begun_halts : (duty : Duty) (before out : Option (List ℕ)) (t : Tally) (b : Ledger) (e : EndCause) → (more : List ℕ) × (out ≡ and_then before more) × Ends duty more [] t b e → Halts (session_of duty before []) out t b e
-begun_halts duty before out t b e h = record { bytes = h.0; at = h.1; ends = subst (λ (d : List AssignedJob). Ends duty h.0 d t b e) (sym assigns_nothing) h.2 }
+pub begun_halts : (duty : Duty) (before out : Option (List ℕ)) (t : Tally) (b : Ledger) (e : EndCause) → (more : List ℕ) × (out ≡ and_then before more) × Ends duty more [] t b e → Ended (session_of duty before []) out b e → Halts (session_of duty before []) out t b e
+begun_halts duty before out t b e h ended = record { bytes = h.0; at = h.1; ended = ended; ends = subst (λ (d : List AssignedJob). Ends duty h.0 d t b e) (sym assigns_nothing) h.2 }
 
-pub begun_stands : (duty : Duty) (before out : Option (List ℕ)) (r : Reading) (s : State) (b : Ledger) → r ≡ nothing_read → (more : List ℕ) × (out ≡ and_then before more) × AreAnswered duty more [] s b → Stands (session_of duty before []) out r s b
-begun_stands duty before out r s b e h = record { bytes = h.0; given = []; at = h.1; rests = record { heard = reads_nothing ∙ sym e; holds = h.2 } }
+pub begun_stands : (duty : Duty) (before out : Option (List ℕ)) (r : Reading) (s : State) (b : Ledger) → r ≡ nothing_read → (more : List ℕ) × (out ≡ and_then before more) × AreAnswered duty more [] s b → Went duty before out [] b (place_of s) → Stands (session_of duty before []) out r s b
+begun_stands duty before out r s b e h went = record { bytes = h.0; given = []; at = h.1; went = went; rests = record { heard = reads_nothing ∙ sym e; holds = h.2 } }

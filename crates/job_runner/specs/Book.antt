@@ -1,5 +1,5 @@
 -- What a port tells of its calls.
-use Rattle.std.specs.Prelude.{ℕ, ◌+◌, Option, Some, None, Result, Ok, Err}
+use Rattle.std.specs.Prelude.{ℕ, ◌+◌, List, [], ◌∷◌, ◌++◌, Option, Some, None, Result, Ok, Err}
 use Rattle.worker_state.specs.OrderParts.{OrderParts}
 use Rattle.worker_state.specs.declared.cause.Cause.{Cause}
 use Rattle.job_runner.specs.declared.port.Gone as gone
@@ -18,11 +18,13 @@ pub record Ledger : Type 0 where
   -- how many calls of `lose` were made, and the cause of the last
   pub losses : ℕ
   pub last_loss : Option Cause
+  -- the orders that it answered, in their order
+  pub orders : List OrderParts
   -- the last answer of a call other than `lose`
   pub last_answer : Option PortAnswer
 
 abbrev pub after_order : Ledger → OrderParts → Ledger
-after_order b order = record b { last_answer = Some (answer.Ordered order) }
+after_order b order = record b { orders = b.orders ++ order ∷ []; last_answer = Some (answer.Ordered order) }
 
 abbrev pub after_grab : Ledger → Result ℕ GrabRefusal → Ledger
 after_grab b (Ok ticket) = record b { grabs = b.grabs + 1; last_answer = Some (answer.Grabbed ticket) }
@@ -43,4 +45,4 @@ abbrev pub after_loss : Ledger → Cause → Ledger
 after_loss b cause = record b { losses = b.losses + 1; last_loss = Some cause }
 
 abbrev pub no_calls : Ledger
-no_calls = record { grabs = 0; begins = 0; reports = 0; losses = 0; last_loss = None; last_answer = None }
+no_calls = record { grabs = 0; begins = 0; reports = 0; losses = 0; last_loss = None; orders = []; last_answer = None }

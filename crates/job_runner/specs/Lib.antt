@@ -3,6 +3,9 @@ pub mod Ends
 pub mod Table
 pub mod Book
 pub mod Course
+pub mod Following
+pub mod Acting
+pub mod Path
 pub mod Run
 pub mod Listening
 pub mod Loop

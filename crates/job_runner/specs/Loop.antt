@@ -16,6 +16,7 @@ use Rattle.job_runner.specs.Told.{Told}
 use Rattle.job_runner.specs.Book.{Ledger}
 use Rattle.job_runner.specs.Course.{Duty, Session, session_of, Ends, PortReason}
 use Rattle.job_runner.specs.Run.{Rests}
+use Rattle.job_runner.specs.Path.{Went, Ended, place_of}
 
 abbrev pub first_state : State
 first_state = record { registered = None; phase = Idle; tally = record { grabbed = 0; answered = 0; reported = 0 } }
@@ -55,9 +56,11 @@ pub record Stands (session : Session) (written : Option (List ℕ)) (reader : Re
   pub given : List Message
   pub at : written ≡ and_then session.before bytes
   pub rests : Rests session bytes given reader s book
+  pub went : Went session.duty session.before written given book (place_of s)
 
 -- the session is at its end
 pub record Halts (session : Session) (written : Option (List ℕ)) (tally : Tally) (book : Ledger) (reason : EndCause) : Type 0 where
   pub bytes : List ℕ
   pub at : written ≡ and_then session.before bytes
   pub ends : Ends session.duty bytes (assignments session.read) tally book reason
+  pub ended : Ended session written book reason

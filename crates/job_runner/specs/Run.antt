@@ -15,6 +15,7 @@ use Rattle.job_runner.specs.declared.answering.Tally.{Tally}
 use Rattle.job_runner.specs.Ends.{loss_of}
 use Rattle.job_runner.specs.Told.{replies}
 use Rattle.job_runner.specs.Book.{Ledger}
+use Rattle.job_runner.specs.Path.{Ended}
 use Rattle.job_runner.specs.Course.{Duty, Session, asks, Wrote, Even, Ends, GoesOnOrEnds, known, IsServing, PortReason}
 
 -- Between two messages, the reader aside: each assignment so far is answered, and the counts agree.
@@ -76,7 +77,7 @@ tally_of e = record { grabbed = e.grabbed; answered = e.answered; reported = e.r
 
 -- What a session promises at its end, of all that it read and wrote. But for a failed write, what it wrote is whole packets, and those that
 -- answer jobs are the replies to the first `answered` jobs that were assigned to it. After each whole packet at most one function is
--- registered, and exactly one after a packet that asks for a job or to be woken.
+-- registered, and exactly one after a packet that asks for a job or to be woken. It took one path to its end.
 pub record Served (session : Session) (bytes : List ℕ) (old new : Link) (book : Ledger) (e : SessionEnd) : Type 0 where
   pub ends : Ends session.duty bytes (assignments session.read) (tally_of e) book e.cause
   pub whole : e.cause ≢ cause.WriteFault → (sent bytes).packets ≡ ends.cut.sent
@@ -84,5 +85,6 @@ pub record Served (session : Session) (bytes : List ℕ) (old new : Link) (book 
   pub registers : (k : ℕ) → length (registered (text_of (take k (ends.cut.sent ++ ends.cut.next)))) ≤ 1
   pub asking : (before after : List Packet) (p : Packet)
       → ends.cut.sent ++ ends.cut.next ≡ before ++ p ∷ after → asks p ≡ true → length (registered (text_of (before ++ p ∷ []))) ≡ 1
+  pub path : Ended session new.output.got book e.cause
   pub reason : Reason session old new (tally_of e) book e.cause
   pub lost : Lost (loss_of e.cause) book

@@ -6,9 +6,10 @@ ghost use Rattle.gear_packets.specs.Reading.{job_of};
 ghost use Rattle.gear_packets.specs.Response.{AssignedJob};
 ghost use Rattle.byte_io.specs.Sides.{and_then};
 ghost use Rattle.job_runner.specs.Book.{Ledger};
-ghost use Rattle.job_runner.specs.Told.{told_of};
+ghost use Rattle.job_runner.specs.Told.{reply, told_of};
 ghost use Rattle.job_runner.specs.Course.{Duty, Wrote, Even, Ends, GoesOnOrEnds, PortReason, CanCount, CanBook};
 ghost use Rattle.job_runner.specs.Run.{LinkKept, seen_link};
+ghost use Rattle.job_runner.specs.Acting.{Replies};
 
 use crate::end::EndCause;
 use crate::job::Outcome;
@@ -63,6 +64,9 @@ pub fn answer<L: Sink, P: PoolPort, J: Jobs>(
         (more : List ℕ) × ((L.output link.new).got ≡ and_then before more)
         × GoesOnOrEnds (Wrote duty more registered (done ++ job_of job ∷ []) × Even tally.new (P.book port.new) (length done + 1))
         (Ends duty more (done ++ job_of job ∷ []) tally.new (P.book port.new)) result }
+    ensures replies { Replies (L.output link.old).got (L.output link.new).got
+        (reply (J.told worker.now.place.jobs.now) (job_of job)) result }
+    ensures orders { (P.book port.new).orders ≡ (P.book port.old).orders }
     ensures reason { IfErr result (PortReason worker.now.pass.now.generation (P.book port.new)) }
     ensures link { LinkKept (seen_link L.input L.output link.old) (seen_link L.input L.output link.new) result }
     ensures losses { (P.book port.new).losses ≡ (P.book port.old).losses }

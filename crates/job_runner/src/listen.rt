@@ -1,10 +1,10 @@
 //! One read of a session.
 
-ghost use Rattle.std.specs.Prelude.{◌≡◌, ◌+◌, ◌-◌, ◌<◌, ◌≤◌, ◌^◌, ◌++◌, ℕ, List, length, IfOk, IfErr, OnOk, Option, true};
+ghost use Rattle.std.specs.Prelude.{◌≡◌, ◌+◌, ◌-◌, ◌<◌, ◌≤◌, ◌^◌, ◌++◌, ℕ, List, length, IfErr, Option};
 ghost use Rattle.gear_packets.specs.Response.{Message};
 ghost use Rattle.gear_packets.specs.Text.{reading, behind};
-ghost use Rattle.byte_io.specs.Sides.{and_then};
-ghost use Rattle.job_runner.specs.Listening.{Hears, IsReadEnd};
+ghost use Rattle.byte_io.specs.Sides.{and_then, counted};
+ghost use Rattle.job_runner.specs.Listening.{Hears, IsReadEnd, lulls_of, read_failures, finds_end};
 
 use crate::end::EndCause;
 use byte_io::{Source, Took};
@@ -32,10 +32,10 @@ pub fn hear<L: Source>(
         (more : List ℕ) × ((L.input link.new).given ≡ and_then before more)
         × (length more ≤ length read + length buffer.old) × Hears more given reader.new result }
     ensures output { L.output link.new ≡ L.output link.old }
-    ensures failures { OnOk result ((L.input link.new).failures ≡ (L.input link.old).failures) }
-    ensures closed { result ≡ Err EndCause.Closed → (L.input link.new).has_ended ≡ true }
+    ensures lulls { (L.input link.new).lulls ≡ counted (L.input link.old).lulls (lulls_of result) }
+    ensures failures { (L.input link.new).failures ≡ (L.input link.old).failures + read_failures result }
+    ensures ended { (L.input link.new).has_ended ≡ finds_end result }
     ensures causes { IfErr result IsReadEnd }
-    ensures read_fault { result ≡ Err EndCause.ReadFault → (L.input link.new).failures ≡ (L.input link.old).failures + 1 }
 {
     cut_anywhere();
     match link.take(buffer) {

@@ -9,6 +9,7 @@ ghost use Rattle.job_runner.specs.Book.{Ledger};
 ghost use Rattle.job_runner.specs.Course.{Duty, PortReason, CanCount, CanBook};
 ghost use Rattle.job_runner.specs.Run.{AreAnswered, Acts, LinkKept, seen_link};
 ghost use Rattle.job_runner.specs.Loop.{StepReason, IsSendFault};
+ghost use Rattle.job_runner.specs.Acting.{moment, asked_by, Does, Glances, Sleeps};
 
 use crate::end::EndCause;
 use crate::order::{Phase, stops, wanted_of};
@@ -29,6 +30,8 @@ fn sleep<L: Sink>(alloc: Global, link: &mut L, state: &mut State) -> Result<(), 
         (L.output link.old).got ≡ and_then before bytes → AreAnswered duty bytes done state.old book →
         (more : List ℕ) × ((L.output link.new).got ≡ and_then before more) × Acts duty more done state.new book result }
     ensures link { LinkKept (seen_link L.input L.output link.old) (seen_link L.input L.output link.new) result }
+    ensures sleeps { (book : Ledger) → Sleeps (moment state.old (L.output link.old).got book)
+        (moment state.new (L.output link.new).got book) result }
     ensures reason { IfErr result IsSendFault }
 {
     match send(alloc, link, &Request::PreSleep) {
@@ -56,6 +59,8 @@ pub fn act<L: Sink, P: PoolPort, J: Jobs>(
         → (L.output link.old).got ≡ and_then before bytes → AreAnswered duty bytes done state.old (P.book port.old) →
         (more : List ℕ) × ((L.output link.new).got ≡ and_then before more)
         × Acts duty more (done ++ assignments_in (message_of message ∷ [])) state.new (P.book port.new) result }
+    ensures does { Does (J.told worker.now.place.jobs.now) worker.now (asked_by (message_of message) state.old.phase)
+        (moment state.old (L.output link.old).got (P.book port.old)) (moment state.new (L.output link.new).got (P.book port.new)) result }
     ensures link { LinkKept (seen_link L.input L.output link.old) (seen_link L.input L.output link.new) result }
     ensures reason { IfErr result (StepReason worker.now.pass.now.generation (message_of message) state.old.tally state.new.tally
         (P.book port.new)) }
@@ -104,6 +109,8 @@ pub fn glance<L: Sink, P: PoolPort, J>(
         duty.functions ≡ worker.now.place.settings.now.functions
         → (L.output link.old).got ≡ and_then before bytes → AreAnswered duty bytes done state.old (P.book port.old) →
         (more : List ℕ) × ((L.output link.new).got ≡ and_then before more) × Acts duty more done state.new (P.book port.new) result }
+    ensures glances { Glances worker.now (moment state.old (L.output link.old).got (P.book port.old))
+        (moment state.new (L.output link.new).got (P.book port.new)) result }
     ensures link { LinkKept (seen_link L.input L.output link.old) (seen_link L.input L.output link.new) result }
     ensures reason { IfErr result (PortReason worker.now.pass.now.generation (P.book port.new)) }
     ensures losses { (P.book port.new).losses ≡ (P.book port.old).losses }

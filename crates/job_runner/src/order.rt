@@ -10,7 +10,8 @@ ghost use Rattle.gear_packets.specs.Text.{text_of};
 ghost use Rattle.byte_io.specs.Sides.{and_then};
 ghost use Rattle.worker_state.specs.Registration.{seen_name};
 ghost use Rattle.job_runner.specs.Course.{Duty, Wrote, Even, Ends, GoesOnOrEnds, IsAccepted, IsFunctionName, Sends, asking, known};
-ghost use Rattle.job_runner.specs.Course.{name_of, obeying, IsStop, PortReason, IsServing};
+ghost use Rattle.job_runner.specs.Course.{name_of, obeying, IsStop, PortReason};
+ghost use Rattle.job_runner.specs.Following.{meant_by, phase_with, scene, Follows};
 ghost use Rattle.job_runner.specs.Run.{LinkKept, seen_link};
 ghost use Rattle.job_runner.specs.declared.answering.Tally.{Tally};
 
@@ -37,6 +38,16 @@ pub enum Phase {
     Idle,
 }
 
+/// What a session waits for once it has followed an order, by the function that it then has registered.
+pub fn phase_with(registered: Option<u32>) -> Phase
+    ensures { result ≡ phase_with registered }
+{
+    match registered {
+        Some(_) => Phase::Waiting,
+        None => Phase::Idle,
+    }
+}
+
 /// Whether an order ends the session of a pass.
 pub fn stops(order: &Order, pass: &Pass) -> bool
     ensures { IsTrue result ↔ IsStop pass.now.generation order.now }
@@ -46,7 +57,8 @@ pub fn stops(order: &Order, pass: &Pass) -> bool
 
 /// The function that an order names for a pass, if it names one that is there.
 pub fn wanted_of(order: &Order, pass: &Pass, settings: &Settings) -> Option<u32>
-    ensures { IfSome result (λ f. f < length settings.now.functions) }
+    ensures meant { result ≡ meant_by pass.now.generation (length settings.now.functions) order.now }
+    ensures there { IfSome result (λ f. f < length settings.now.functions) }
 {
     match order.what {
         What::Work(function)
@@ -124,13 +136,13 @@ fn write_change<L: Sink>(
     Ok(())
 }
 
-/// Reads the order, and writes what it asks for.
+/// Reads the order, and writes what it asks for: the packets that lead to its function, with the request for a job of it.
 pub fn obey<L: Sink, P: PoolPort, J>(
     worker: &Worker<'_, J>,
     link: &mut L,
     port: &mut P,
     registered: &mut Option<u32>,
-) -> Result<Phase, EndCause>
+) -> Result<(), EndCause>
     requires { (L.output link.old).failures < 2 ^ 64 - 1 }
     ensures obeys { (duty : Duty) (before : Option (List ℕ)) (bytes : List ℕ) (done : List AssignedJob) (tally : Tally) →
         duty.functions ≡ worker.now.place.settings.now.functions → (L.output link.old).got ≡ and_then before bytes
@@ -138,7 +150,9 @@ pub fn obey<L: Sink, P: PoolPort, J>(
         (more : List ℕ) × ((L.output link.new).got ≡ and_then before more)
         × GoesOnOrEnds (Wrote duty more (known duty.functions registered.new) done × Even tally (P.book port.new) (length done))
         (Ends duty more done tally (P.book port.new)) result }
-    ensures serving { IfOk result (λ phase. IsServing (length worker.now.place.settings.now.functions) phase registered.new) }
+    ensures follows { Follows worker.now (scene registered.old (L.output link.old).got (P.book port.old))
+        (scene registered.new (L.output link.new).got (P.book port.new)) result }
+    ensures there { OnOk result (IfSome registered.new (λ f. f < length worker.now.place.settings.now.functions)) }
     ensures reason { IfErr result (PortReason worker.now.pass.now.generation (P.book port.new)) }
     ensures link { LinkKept (seen_link L.input L.output link.old) (seen_link L.input L.output link.new) result }
     ensures losses { (P.book port.new).losses ≡ (P.book port.old).losses }
@@ -159,8 +173,5 @@ pub fn obey<L: Sink, P: PoolPort, J>(
         Err(cause) => return Err(cause),
     }
     *registered = wanted;
-    match wanted {
-        Some(_) => Ok(Phase::Waiting),
-        None => Ok(Phase::Idle),
-    }
+    Ok(())
 }

@@ -8,6 +8,7 @@ ghost use Rattle.job_runner.specs.Told.{Told};
 ghost use Rattle.job_runner.specs.Book.{no_calls};
 ghost use Rattle.job_runner.specs.Course.{GoesOnOrEnds, IsAccepted, PortReason, session_of};
 ghost use Rattle.job_runner.specs.Run.{Acts, ReadReason, Reason, Served, seen_link, LinkKept};
+ghost use Rattle.job_runner.specs.Acting.{moment, Begins};
 ghost use Rattle.job_runner.specs.Loop.{first_state, duty_of, session_in, Stands, Halts};
 
 use crate::answering::Tally;
@@ -55,6 +56,9 @@ fn begin<L: Sink, P: PoolPort, J>(
     ensures acts { (told : List ℕ → List ℕ → Option Told) →
         (more : List ℕ) × ((L.output link.new).got ≡ and_then (L.output link.old).got more)
         × Acts (duty_of told worker.now.place.settings.now worker.now.pass.now) more [] state.new (P.book port.new) result }
+    ensures begins { Begins worker.now
+        (worker_text worker.now.place.settings.now worker.now.pass.now.slot worker.now.pass.now.generation)
+        (moment state.old (L.output link.old).got (P.book port.old)) (moment state.new (L.output link.new).got (P.book port.new)) result }
     ensures reason { IfErr result (PortReason worker.now.pass.now.generation (P.book port.new)) }
     ensures link { LinkKept (seen_link L.input L.output link.old) (seen_link L.input L.output link.new) result }
     ensures losses { (P.book port.new).losses ≡ (P.book port.old).losses }

@@ -8,10 +8,11 @@ ghost use Rattle.byte_io.specs.Sides.{and_then};
 ghost use Rattle.job_runner.specs.Book.{Ledger};
 ghost use Rattle.job_runner.specs.Course.{Duty, PortReason, CanCount, CanBook};
 ghost use Rattle.job_runner.specs.Run.{AreAnswered, Acts, LinkKept, seen_link};
+ghost use Rattle.job_runner.specs.Acting.{moment, FollowsOrder, Serves};
 
 use crate::answering::{Tally, answer};
 use crate::end::EndCause;
-use crate::order::{Phase, obey};
+use crate::order::{Phase, obey, phase_with};
 use crate::port::PoolPort;
 use crate::table::Jobs;
 use crate::worker::Worker;
@@ -41,13 +42,15 @@ pub fn follow<L: Sink, P: PoolPort, J>(
         duty.functions ≡ worker.now.place.settings.now.functions
         → (L.output link.old).got ≡ and_then before bytes → AreAnswered duty bytes done state.old (P.book port.old) →
         (more : List ℕ) × ((L.output link.new).got ≡ and_then before more) × Acts duty more done state.new (P.book port.new) result }
+    ensures follows { FollowsOrder worker.now (moment state.old (L.output link.old).got (P.book port.old))
+        (moment state.new (L.output link.new).got (P.book port.new)) result }
     ensures link { LinkKept (seen_link L.input L.output link.old) (seen_link L.input L.output link.new) result }
     ensures reason { IfErr result (PortReason worker.now.pass.now.generation (P.book port.new)) }
     ensures losses { (P.book port.new).losses ≡ (P.book port.old).losses }
 {
     match obey(worker, link, port, &mut state.registered) {
-        Ok(phase) => {
-            state.phase = phase;
+        Ok(()) => {
+            state.phase = phase_with(state.registered);
             Ok(())
         }
         Err(cause) => Err(cause),
@@ -70,6 +73,8 @@ pub fn serve_job<L: Sink, P: PoolPort, J: Jobs>(
         → (L.output link.old).got ≡ and_then before bytes → AreAnswered duty bytes done state.old (P.book port.old) →
         (more : List ℕ) × ((L.output link.new).got ≡ and_then before more)
         × Acts duty more (done ++ job_of job ∷ []) state.new (P.book port.new) result }
+    ensures serves { Serves (J.told worker.now.place.jobs.now) worker.now (job_of job)
+        (moment state.old (L.output link.old).got (P.book port.old)) (moment state.new (L.output link.new).got (P.book port.new)) result }
     ensures link { LinkKept (seen_link L.input L.output link.old) (seen_link L.input L.output link.new) result }
     ensures reason { IfErr result (PortReason worker.now.pass.now.generation (P.book port.new)) }
     ensures losses { (P.book port.new).losses ≡ (P.book port.old).losses }

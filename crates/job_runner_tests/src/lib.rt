@@ -2,8 +2,10 @@
 #![tactic(auto)]
 
 mod jobs;
+mod orders;
 
 pub use jobs::TestJob;
+pub use orders::{Orders, note};
 
 #[cfg(test)]
 mod packets;

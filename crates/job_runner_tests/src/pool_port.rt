@@ -2,11 +2,13 @@
 ghost use Rattle.std.specs.Prelude.{◌≡◌};
 ghost use Rattle.job_runner.specs.Book.{after_order, no_calls};
 
+use crate::{Orders, note};
 use gear_packets::Handle;
 use gear_status::Load;
 use job_runner::{Gone, GrabRefusal, PoolPort, PortAnswer};
 use pool_core::{ExpireError, GrabError, Pass, Pool, StayOrRetire};
 use std::alloc::Global;
+use std::snapshot::Snapshot;
 use worker_state::{Cause, EndKind, Order, Ticket, What};
 
 /// What happens beside a session.
@@ -38,6 +40,7 @@ pub struct PoolTestPort {
     alloc: Global,
     beside: Beside,
     orders: u32,
+    told: Snapshot<Orders>,
     grabs: u64,
     begins: u64,
     reports: u64,
@@ -66,6 +69,7 @@ impl PoolTestPort {
             alloc,
             beside,
             orders: 0,
+            told: Snapshot::of(&Orders::New),
             grabs: 0,
             begins: 0,
             reports: 0,
@@ -110,6 +114,7 @@ impl PoolTestPort {
 
 impl PoolPort for PoolTestPort {
     ghost use Rattle.job_runner.specs.Book.{Ledger};
+    ghost use Rattle.job_runner_tests.specs.Orders.{orders_of};
 
     ghost book = { λ p. record {
       grabs = p.grabs;
@@ -117,11 +122,13 @@ impl PoolPort for PoolTestPort {
       reports = p.reports;
       losses = p.losses;
       last_loss = p.last_loss;
+      orders = orders_of p.told.value;
       last_answer = p.last_answer;
     } };
 
     fn order(&mut self, pass: &Pass) -> Order {
         let order = self.order_now(pass);
+        note(&mut self.told, order);
         self.last_answer = Some(PortAnswer::Ordered(order));
         order
     }

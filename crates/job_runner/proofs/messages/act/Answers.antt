@@ -1,4 +1,4 @@
-use Rattle.std.proofs.Common.{◌≡◌, ℕ, ◌<◌, ◌++◌, [], ◌∷◌, List, length, refl, sym, ap, subst, ◌∙◌, arith}
+use Rattle.std.proofs.Common.{◌≡◌, ℕ, ◌<◌, ◌++◌, [], ◌∷◌, List, length, Err, refl, sym, ap, subst, ◌∙◌, arith}
 use Rattle.std.proofs.lemmas.List.{append-nil}
 use Rattle.gear_packets.specs.Response.{AssignedJob}
 use Rattle.gear_packets.specs.Reading.{message_of}
@@ -10,6 +10,8 @@ use Rattle.job_runner.specs.Course.{known}
 use Rattle.job_runner.specs.Run.{Acts}
 use Rattle.job_runner.proofs.Orders.{ends_at_rest}
 use Rattle.job_runner.proofs.Turning.{ends_later}
+use Rattle.job_runner.specs.Acting.{Asked, Does, moment}
+use Rattle.job_runner.proofs.Asking.{asked_to_sleep, asked_to_end}
 use Rattle.job_runner.proofs.messages.act.Goals as goal
 
 pub returns-in-Asleep-clause-acts : goal.returns-in-Asleep-clause-acts
@@ -44,7 +46,18 @@ returns-in-Assign g c = record {
     ends_later duty bytes done (assignments_in (message_of c.args.message ∷ [])) (done ++ assignments_in (message_of c.args.message ∷ [])) c.args.state.now.tally (g.P.PoolPort.book c.args.port.now) BadPacket
         (ends_at_rest duty bytes (known duty.functions c.args.state.now.registered) done c.args.state.now.tally (g.P.PoolPort.book c.args.port.now) BadPacket holds.wrote holds.even (λ e. cc)) refl,
   );
+  does = subst (λ (a : Asked). Does (g.J.Jobs.told c.args.worker.now.place.jobs.now) c.args.worker.now a
+      (moment c.args.state.now (g.L.Device.output c.args.link.now).got (g.P.PoolPort.book c.args.port.now))
+      (moment c.args.state.now (g.L.Device.output c.args.link.now).got (g.P.PoolPort.book c.args.port.now)) (Err BadPacket))
+      (sym (asked_to_end _ _ _ (ap message_of c.in-Assign.is) c.in_default-phase-2.not-Waiting)) (refl, refl);
   link = record { input = refl; no_failure = tt; write_fault = λ x. absurd cc };
   reason = (refl, subst (λ (m : Response). 0 < length (assignments_in (message_of m ∷ []))) (sym c.in-Assign.is) (omega arith));
   losses = refl;
 }
+
+pub returns-in-Waiting-clause-does : goal.returns-in-Waiting-clause-does
+returns-in-Waiting-clause-does g c =
+    subst (λ (a : Asked). Does (g.J.Jobs.told c.args.worker.now.place.jobs.now) c.args.worker.now a
+    (moment c.args.state.now (g.L.Device.output c.args.link.now).got (g.P.PoolPort.book c.args.port.now))
+    (moment c.sleep.new.state (g.L.Device.output c.sleep.new.link).got (g.P.PoolPort.book c.args.port.now)) c.sleep.result)
+    (sym (asked_to_sleep _ _ (ap message_of c.in-NoJob.is) c.in-Waiting.is)) (c.sleep.ensures.sleeps (g.P.PoolPort.book c.args.port.now))

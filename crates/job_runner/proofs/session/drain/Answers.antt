@@ -3,7 +3,9 @@ use Rattle.gear_packets.specs.Reading.{message_of, fault_of}
 use Rattle.gear_packets.specs.Text.{assignments_in, Reading}
 use Rattle.job_runner.specs.declared.end.EndCause.TheVariants.{BadPacket}
 use Rattle.job_runner.specs.Loop.{duty_of}
-use Rattle.job_runner.proofs.Turning.{tally_room, port_room, stands_next, halts_next, reason_next, stands_halts, broken_says}
+use Rattle.job_runner.proofs.Turning.{says_behind, tally_room, port_room, stands_next, halts_next, reason_next, stands_halts, broken_says}
+use Rattle.job_runner.specs.Acting.{moment, asked_by}
+use Rattle.job_runner.proofs.Paths.{act_on, act_ended}
 use Rattle.job_runner.proofs.session.drain.Goals as goal
 
 pub act-requires-clause-tally : goal.act-requires-clause-tally
@@ -22,6 +24,9 @@ returns-in-Err-clause-leaves g c = λ before read start.
     let st = c.loop-message.invariant.stands before read start in
     halts_next duty before read _ _ (message_of c.in-Some.message) _ _ c.loop-message.state c.act.new.state.tally _ _ c.in-Err.cause st c.in-Some.ensures.given
     (c.in-Err.ensures.acts duty before st.bytes (assignments_in st.given) refl refl st.at st.rests.holds)
+    (act_ended (g.J.Jobs.told c.args.worker.now.place.jobs.now) c.args.worker.now before read (message_of c.in-Some.message) (asked_by (message_of c.in-Some.message) c.loop-message.state.phase)
+    (moment c.loop-message.state (g.L.Device.output c.loop-message.link).got (g.P.PoolPort.book c.loop-message.port)) (moment c.act.new.state (g.L.Device.output c.act.new.link).got (g.P.PoolPort.book c.act.new.port))
+    st.given _ c.in-Err.cause refl c.in-Err.ensures.does st.went (says_behind read st.given (message_of c.in-Some.message) _ _ st.rests.heard c.in-Some.ensures.given))
 
 pub returns-in-Err-clause-reason : goal.returns-in-Err-clause-reason
 returns-in-Err-clause-reason g c = λ before read start.
@@ -36,7 +41,10 @@ loop-message-preserved g c =
       stands = λ before read start.
           let st = c.loop-message.invariant.stands before read start in
           stands_next duty before read _ _ (message_of c.in-Some.message) _ _ c.loop-message.state c.act.new.state _ _ st c.in-Some.ensures.given
-          (c.in-Ok.ensures.acts duty before st.bytes (assignments_in st.given) refl refl st.at st.rests.holds);
+          (c.in-Ok.ensures.acts duty before st.bytes (assignments_in st.given) refl refl st.at st.rests.holds)
+          (act_on (g.J.Jobs.told c.args.worker.now.place.jobs.now) c.args.worker.now before (message_of c.in-Some.message) (asked_by (message_of c.in-Some.message) c.loop-message.state.phase)
+          (moment c.loop-message.state (g.L.Device.output c.loop-message.link).got (g.P.PoolPort.book c.loop-message.port)) (moment c.act.new.state (g.L.Device.output c.act.new.link).got (g.P.PoolPort.book c.act.new.port))
+          st.given refl c.in-Ok.ensures.does st.went);
       input = c.act.ensures.link.input ∙ c.loop-message.invariant.input;
       failures = c.in-Ok.ensures.link.no_failure ∙ c.loop-message.invariant.failures;
       losses = c.act.ensures.losses ∙ c.loop-message.invariant.losses;
@@ -46,7 +54,7 @@ pub returns-in-Some-fault-clause-leaves : goal.returns-in-Some-fault-clause-leav
 returns-in-Some-fault-clause-leaves g c = λ before read start.
     let duty = duty_of (g.J.Jobs.told c.args.worker.now.place.jobs.now) c.args.worker.now.place.settings.now c.args.worker.now.pass.now in
     let st = c.loop-message.invariant.stands before read start in
-    stands_halts duty before read _ _ c.loop-message.state _ BadPacket st (λ e. cc)
+    stands_halts duty before read _ _ c.loop-message.state _ BadPacket st tt (λ e. cc)
 
 pub returns-in-Some-fault-clause-reason : goal.returns-in-Some-fault-clause-reason
 returns-in-Some-fault-clause-reason g c = λ before read start.

@@ -1,4 +1,4 @@
-use Rattle.std.proofs.Common.{ℕ, ◌+◌, [], Result, Err, refl, ap, ◌∙◌, arith}
+use Rattle.std.proofs.Common.{ℕ, ◌+◌, [], Result, Ok, Err, refl, ap, ◌∙◌, arith}
 use Rattle.byte_io.specs.Sides.{Input}
 use Rattle.job_runner.specs.declared.end.EndCause.{EndCause}
 use Rattle.job_runner.specs.declared.end.EndCause.TheVariants.{TurnsUsed}
@@ -8,7 +8,9 @@ use Rattle.job_runner.specs.Course.{session_of}
 use Rattle.job_runner.specs.Loop.{duty_of}
 use Rattle.byte_io.proofs.Devices.{told_nothing}
 use Rattle.job_runner.proofs.Reasons.{outer_reason, read_reason, reason_from}
-use Rattle.job_runner.proofs.Turning.{begun_halts, begun_stands, stands_halts}
+use Rattle.job_runner.proofs.Turning.{says_nothing, begun_halts, begun_stands, stands_halts}
+use Rattle.job_runner.proofs.Paths.{begun_gone}
+use Rattle.job_runner.specs.Acting.{moment}
 use Rattle.job_runner.proofs.session.serve.Goals as goal
 
 pub returns-in-Err-clause-ran : goal.returns-in-Err-clause-ran
@@ -21,7 +23,8 @@ returns-in-Err-clause-ran g c =
       [],
       ap (λ (i : Input). i.given) c.begin.ensures.link.input ∙ told_nothing old.input.given,
       (
-        begun_halts duty _ _ _ _ c.in-Err.cause left,
+        begun_halts duty _ _ _ _ c.in-Err.cause left
+            (begun_gone told c.args.worker.now (moment c.args.state.now old.output.got (g.P.PoolPort.book c.args.port.now)) (moment c.begin.new.state new.output.got (g.P.PoolPort.book c.begin.new.port)) (Err c.in-Err.cause) c.requires.first c.requires.fresh c.in-Err.ensures.begins says_nothing),
         outer_reason (session_of duty old.output.got []) old new c.begin.new.state.tally (g.P.PoolPort.book c.begin.new.port) c.in-Err.cause (read_reason (session_of duty old.output.got []) c.begin.new.state.tally (g.P.PoolPort.book c.begin.new.port) c.in-Err.cause c.in-Err.ensures.reason)
             (λ x. c.in-Err.ensures.link.write_fault (ap (λ (y : EndCause). let z : Result (Unit {0}) EndCause = Err y in z) x)),
       ),
@@ -36,7 +39,13 @@ loop-made-init g c =
     record {
       within = omega arith;
       buffer = refl;
-      stands = ([], ap (λ (i : Input). i.given) c.begin.ensures.link.input ∙ told_nothing start, omega arith, begun_stands duty before _ c.new-reader.result c.begin.new.state _ c.new-reader.ensures (c.in-Ok.ensures.acts told));
+      stands = (
+        [],
+        ap (λ (i : Input). i.given) c.begin.ensures.link.input ∙ told_nothing start,
+        omega arith,
+        begun_stands duty before _ c.new-reader.result c.begin.new.state _ c.new-reader.ensures (c.in-Ok.ensures.acts told)
+            (begun_gone told c.args.worker.now (moment c.args.state.now before (g.P.PoolPort.book c.args.port.now)) (moment c.begin.new.state (g.L.Device.output c.begin.new.link).got (g.P.PoolPort.book c.begin.new.port)) (Ok tt) c.requires.first c.requires.fresh c.in-Ok.ensures.begins says_nothing),
+      );
       read_failures = ap (λ (i : Input). i.failures) c.begin.ensures.link.input;
       write_failures = c.in-Ok.ensures.link.no_failure;
       losses = c.begin.ensures.losses ∙ ap (λ (b : Ledger). b.losses) c.requires.fresh;
@@ -75,7 +84,7 @@ returns-in-Ok-drain-clause-ran g c =
     let before = (g.L.Device.output c.args.link.now).got in
     let now = c.loop-made.invariant.stands in
     let left = c.in-Ok-drain.ensures.leaves before now.0 now.3 in
-    (now.0, ap (λ (i : Input). i.given) c.drain.ensures.link.input ∙ now.1, (stands_halts duty before now.0 _ _ c.drain.new.state _ TurnsUsed left (λ e. cc), tt))
+    (now.0, ap (λ (i : Input). i.given) c.drain.ensures.link.input ∙ now.1, (stands_halts duty before now.0 _ _ c.drain.new.state _ TurnsUsed left tt (λ e. cc), tt))
 
 pub returns-clause-ran : goal.returns-clause-ran
 returns-clause-ran g c =
@@ -86,3 +95,8 @@ returns-clause-ran g c =
     let now = c.loop-made.invariant.stands in
     let left = c.in-Err-drain.ensures.leaves before now.0 now.3 in
     (now.0, ap (λ (i : Input). i.given) c.drain.ensures.link.input ∙ now.1, (left, outer_reason (session_of duty before now.0) old new c.drain.new.state.tally (g.P.PoolPort.book c.drain.new.port) c.in-Err-drain.cause (c.in-Err-drain.ensures.reason before now.0 now.3) (λ x. c.in-Err-drain.ensures.link.write_fault (ap (λ (y : EndCause). let z : Result (Unit {0}) EndCause = Err y in z) x) ∙ ap (λ (n : ℕ). n + 1) c.loop-made.invariant.write_failures)))
+
+pub drain-requires-clause-stands : goal.drain-requires-clause-stands
+drain-requires-clause-stands g c =
+    let now = c.loop-made.invariant.stands in
+    ((g.L.Device.output c.args.link.now).got, now.0, omega (arith, now.2, c.loop-made.auto.made-fits), now.3)

@@ -13,7 +13,7 @@ returns-in-Some g c =
     let tally = c.serve-cause.new.state.tally in
     let end : SessionEnd = record { cause = c.serve-cause.result; grabbed = tally.grabbed; answered = tally.answered; reported = tally.reported } in
     let ran = c.serve-cause.ensures.ran in
-    let kept = promised_lost c.says_its_packets.ensures duty ran.0 old.output.got _ old new (g.P.PoolPort.book c.serve-cause.new.port) (g.P.PoolPort.book c.lose.new.self) end c.in-Some.loss
+    let kept = promised_lost c.says_its_packets.ensures duty ran.0 old.output.got old new (g.P.PoolPort.book c.serve-cause.new.port) (g.P.PoolPort.book c.lose.new.self) end c.in-Some.loss
     ran.2 c.serve-cause.ensures.losses (sym c.loss.ensures.exact ∙ c.in-Some.is) c.lose.ensures in
     record { served = (ran.0, kept.0, ran.1, kept.1, kept.2) }
 
@@ -25,6 +25,6 @@ returns-in-None g c =
     let tally = c.serve-cause.new.state.tally in
     let end : SessionEnd = record { cause = c.serve-cause.result; grabbed = tally.grabbed; answered = tally.answered; reported = tally.reported } in
     let ran = c.serve-cause.ensures.ran in
-    let kept = promised_kept c.says_its_packets.ensures duty ran.0 old.output.got _ old new (g.P.PoolPort.book c.serve-cause.new.port) end
+    let kept = promised_kept c.says_its_packets.ensures duty ran.0 old.output.got old new (g.P.PoolPort.book c.serve-cause.new.port) end
     ran.2 c.serve-cause.ensures.losses (sym c.loss.ensures.exact ∙ c.in-None.is) in
     record { served = (ran.0, kept.0, ran.1, kept.1, kept.2) }

@@ -1,12 +1,15 @@
 use Rattle.std.proofs.Common.{ℕ, ◌+◌, Result, Err, refl, ap, ◌∙◌, arith}
-use Rattle.gear_packets.specs.Text.{assignments_in}
+use Rattle.gear_packets.specs.Text.{assignments_in, Reading}
 use Rattle.byte_io.specs.Sides.{Input, Output}
 use Rattle.job_runner.specs.declared.end.EndCause.{EndCause}
 use Rattle.job_runner.specs.Run.{Link}
 use Rattle.job_runner.specs.Course.{session_of}
+use Rattle.job_runner.specs.Listening.{read_failures, finds_end}
 use Rattle.job_runner.specs.Loop.{duty_of}
 use Rattle.job_runner.proofs.Reasons.{outer_reason}
 use Rattle.job_runner.proofs.Turning.{glanced, read_ended}
+use Rattle.job_runner.specs.Acting.{moment}
+use Rattle.job_runner.proofs.Paths.{went_at, glance_gone}
 use Rattle.job_runner.proofs.session.turn.Goals as goal
 
 pub returns-in-Err-clause-turns : goal.returns-in-Err-clause-turns
@@ -19,9 +22,10 @@ returns-in-Err-clause-turns g c = λ before start read at stands.
 
 pub returns-in-Ok-Piece-clause-turns : goal.returns-in-Ok-Piece-clause-turns
 returns-in-Ok-Piece-clause-turns g c = λ before start read at stands.
+    let duty = duty_of (g.J.Jobs.told c.args.worker.now.place.jobs.now) c.args.worker.now.place.settings.now c.args.worker.now.pass.now in
     let st = c.in-Ok.ensures.leaves before read stands in
     let heard = c.in-Ok-Piece.ensures.hears start read st.given (ap (λ (i : Input). i.given) c.drain.ensures.link.input ∙ at) st.rests.heard in
-    (heard.0, heard.1, omega (arith, heard.2, c.requires.room), record { bytes = st.bytes; given = st.given; at = ap (λ (o : Output). o.got) c.in-Ok-Piece.ensures.output ∙ st.at; rests = record { heard = heard.3; holds = st.rests.holds } })
+    (heard.0, heard.1, omega (arith, heard.2, c.requires.room), record { bytes = st.bytes; given = st.given; at = ap (λ (o : Output). o.got) c.in-Ok-Piece.ensures.output ∙ st.at; rests = record { heard = heard.3; holds = st.rests.holds }; went = went_at duty before _ _ st.given _ _ (ap (λ (o : Output). o.got) c.in-Ok-Piece.ensures.output) st.went })
 
 pub returns-in-Ok-Lull-clause-turns : goal.returns-in-Ok-Lull-clause-turns
 returns-in-Ok-Lull-clause-turns g c = λ before start read at stands.
@@ -35,7 +39,11 @@ returns-in-Ok-Lull-clause-turns g c = λ before start read at stands.
       ap (λ (i : Input). i.given) c.glance.ensures.link.input ∙ heard.1,
       omega (arith, heard.2, c.requires.room),
       glanced duty before heard.0 _ st.given _ c.glance.new.state _ old new c.glance.result heard.3
-          (c.glance.ensures.acts duty before st.bytes (assignments_in st.given) refl (ap (λ (o : Output). o.got) c.in-Ok-Lull.ensures.output ∙ st.at) st.rests.holds) c.glance.ensures.reason (λ x. c.glance.ensures.link.write_fault x ∙ ap (λ (n : ℕ). n + 1) (same ∙ c.in-Ok.ensures.link.no_failure)),
+          (c.glance.ensures.acts duty before st.bytes (assignments_in st.given) refl (ap (λ (o : Output). o.got) c.in-Ok-Lull.ensures.output ∙ st.at) st.rests.holds)
+          (glance_gone (g.J.Jobs.told c.args.worker.now.place.jobs.now) c.args.worker.now before heard.0
+          (moment c.drain.new.state (g.L.Device.output c.hear.new.link).got (g.P.PoolPort.book c.drain.new.port)) (moment c.glance.new.state (g.L.Device.output c.glance.new.link).got (g.P.PoolPort.book c.glance.new.port))
+          st.given _ c.glance.result c.glance.ensures.glances (went_at duty before _ _ st.given _ _ (ap (λ (o : Output). o.got) c.in-Ok-Lull.ensures.output) st.went) (ap (λ (x : Reading). x.messages) heard.3))
+          c.glance.ensures.reason (λ x. c.glance.ensures.link.write_fault x ∙ ap (λ (n : ℕ). n + 1) (same ∙ c.in-Ok.ensures.link.no_failure)),
     )
 
 pub returns-in-Err-hear-clause-turns : goal.returns-in-Err-hear-clause-turns
@@ -49,7 +57,7 @@ returns-in-Err-hear-clause-turns g c = λ before start read at stands.
       heard.0,
       heard.1,
       omega (arith, heard.2, c.requires.room),
-      read_ended duty before st.bytes heard.0 _ st.given c.drain.new.state _ old new c.in-Err-hear.cause (ap (λ (o : Output). o.got) c.in-Err-hear.ensures.output ∙ st.at) st.rests.holds heard.3 c.in-Err-hear.ensures.causes
-          (λ x. c.in-Err-hear.ensures.closed (ap (λ (y : EndCause). let z : Result _ EndCause = Err y in z) x))
-          (λ x. c.in-Err-hear.ensures.read_fault (ap (λ (y : EndCause). let z : Result _ EndCause = Err y in z) x) ∙ ap (λ (n : ℕ). n + 1) same),
+      read_ended duty before st.bytes heard.0 _ st.given c.drain.new.state _ old new c.in-Err-hear.cause (ap (λ (o : Output). o.got) c.in-Err-hear.ensures.output ∙ st.at) st.rests.holds (went_at duty before _ _ st.given _ _ (ap (λ (o : Output). o.got) c.in-Err-hear.ensures.output) st.went) heard.3 c.in-Err-hear.ensures.causes
+          (λ x. c.in-Err-hear.ensures.ended ∙ ap (λ (y : EndCause). finds_end (Err y)) x)
+          (λ x. c.in-Err-hear.ensures.failures ∙ ap (λ (y : EndCause). (g.L.Device.input c.drain.new.link).failures + read_failures (Err y)) x ∙ ap (λ (n : ℕ). n + 1) same),
     )
