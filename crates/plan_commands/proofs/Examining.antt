@@ -49,13 +49,13 @@ judged_at p met whole (Ok found) judges = (whole, judges)
 judged_at p met whole (Err (fault.Report e)) judges = (whole, judges)
 judged_at p met whole (Err fault.Memory) judges = whole.2
 judged_at p met whole (Err (fault.BadCommand n)) judges = absurd judges
-judged_at p met whole (Err fault.UnknownWorker) judges = absurd judges
+judged_at p met whole (Err (fault.UnknownWorker place)) judges = absurd judges
 judged_at p met whole (Err (fault.Settings e)) judges = absurd judges
 judged_at p met whole (Err (fault.Status e)) judges = absurd judges
 judged_at p met whole (Err fault.TooLong) judges = absurd judges
 judged_at p met whole (Err fault.ReadFault) judges = absurd judges
 judged_at p met whole (Err fault.WriteFault) judges = absurd judges
-judged_at p met whole (Err fault.NoFile) judges = absurd judges
+judged_at p met whole (Err (fault.File file e)) judges = absurd judges
 
 -- a problem and a report
 pub judged : (posed : Result Problem Fault) (p : Problem) (met : Met) (r : Result Verdict Fault) → IsDue posed (Ok p) → IsWhole met

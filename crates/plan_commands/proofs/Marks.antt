@@ -3,11 +3,12 @@ use Rattle.std.proofs.Common.{◌≡◌, ℕ, ◌+◌, ◌<◌, eqb, Bool, true,
 use Rattle.std.specs.List.{cons_option, list_any, range_with_len}
 use Rattle.pool_settings.specs.Settings.{Settings}
 use Rattle.pool_settings.specs.Slots.{slot_named}
-use Rattle.plan_commands.specs.Problem.{are_workers, lost_slots}
+use Rattle.plan_commands.specs.Problem.{are_workers, lost_slots, unknown_place}
 use Rattle.std.proofs.lemmas.Bool.{cases_eq, eq-eqb, ne_eqb}
-use Rattle.std.proofs.lemmas.List.{ext_get_or, get_or-replicate, get_or-set_same, get_or-set_other, length-replicate, take_more}
-use Rattle.std.proofs.lemmas.List.Elements.{filter_map-append}
+use Rattle.std.proofs.lemmas.List.{ext_get_or, get_or-replicate, get_or-set_same, get_or-set_other, get_or-take, length-replicate, length-take-le, take_more}
+use Rattle.std.proofs.lemmas.List.Elements.{All-get_or, filter_map-append}
 use Rattle.std.proofs.lemmas.List.Folds.{list_all-append, list_all_at, list_any-append}
+use Rattle.std.proofs.lemmas.List.Sums.{AllPass-from_list_all, prefix_len_is}
 use Rattle.std.proofs.lemmas.List.FromFn.{get_or-map-range_with_len, length-map-range_with_len}
 
 abbrev pub is_live_but : List ℕ → ℕ → Bool
@@ -69,6 +70,19 @@ module _ (p : Settings) (names : List (List ℕ)) (i : ℕ) (within : i < length
       ap (lost_slots p) (take_more names i [] within)
       ∙ filter_map-append (slot_named p) (take i names) (get_or names i [] ∷ [])
       ∙ ap (λ o. lost_slots p (take i names) ++ cons_option o []) named
+
+  -- the names before it are workers, and it is none
+  pub unknown_here : slot_named p (get_or names i []) ≡ None → are_workers p (take i names) ≡ true → unknown_place p names ≡ i
+  unknown_here named so_far = prefix_len_is is_worker names i [] (omega (arith, within)) before (λ _. ap is_some named)
+    where
+      is_worker : List ℕ → Bool
+      is_worker name = is_some (slot_named p name)
+
+      before : (k : ℕ) → k < i → is_worker (get_or names k []) ≡ true
+      before k below =
+          ap is_worker (sym (get_or-take i names k [] below))
+          ∙ All-get_or (λ name. is_worker name ≡ true) (take i names) k [] (omega (arith, below, within, length-take-le i names (omega (arith, within))))
+          (AllPass-from_list_all is_worker (take i names) so_far)
 
   pub unknown : slot_named p (get_or names i []) ≡ None → are_workers p names ≡ false
   unknown named = list_all_at (λ name. is_some (slot_named p name)) names i [] within (ap is_some named)

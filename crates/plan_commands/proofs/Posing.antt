@@ -9,7 +9,7 @@ use Rattle.pool_settings.specs.declared.error.SettingsError.{SettingsError}
 use Rattle.pool_settings.specs.declared.error.SettingsError.TheVariants as settings
 use Rattle.plan_commands.specs.Fault.{settings_fault}
 use Rattle.plan_commands.specs.Posing.{Poses}
-use Rattle.plan_commands.specs.Problem.{are_workers}
+use Rattle.plan_commands.specs.Problem.{are_workers, unknown_place}
 use Rattle.plan_commands.specs.declared.fault.Fault.{Fault}
 use Rattle.plan_commands.specs.declared.fault.Fault.TheVariants as fault
 
@@ -35,15 +35,16 @@ settings_refused text lost side settings.TooMany due = (rw (due (λ p. cc)) refl
 
 -- a lost worker is unknown
 pub lost_refused : (text : List ℕ) (lost : List (List ℕ)) (side : Input) (p : Settings) (f : Fault) → reading text ≡ Ok p
-    → (f ≢ fault.Memory → (f ≡ fault.UnknownWorker) × (are_workers p lost ≡ false))
+    → (f ≢ fault.Memory → (f ≡ fault.UnknownWorker (unknown_place p lost)) × (are_workers p lost ≡ false))
     → Poses text lost (nothing_from side) (Err f)
 lost_refused text lost side p fault.Memory good due = inl (refl, refl, refl)
-lost_refused text lost side p fault.UnknownWorker good due = (rw (good, (due (λ q. cc)).1) refl, (refl, refl, refl))
+lost_refused text lost side p (fault.UnknownWorker place) good due =
+    let is_due = due (λ q. cc) in (rw (good, is_due.1, is_due.0) refl, (refl, refl, refl))
 lost_refused text lost side p fault.ReadFault good due = (let other = (due (λ q. cc)).0 in cc)
 lost_refused text lost side p (fault.BadCommand n) good due = (let other = (due (λ q. cc)).0 in cc)
 lost_refused text lost side p fault.TooLong good due = (let other = (due (λ q. cc)).0 in cc)
 lost_refused text lost side p fault.WriteFault good due = (let other = (due (λ q. cc)).0 in cc)
-lost_refused text lost side p fault.NoFile good due = (let other = (due (λ q. cc)).0 in cc)
+lost_refused text lost side p (fault.File file e) good due = (let other = (due (λ q. cc)).0 in cc)
 lost_refused text lost side p (fault.Settings e) good due = (let other = (due (λ q. cc)).0 in cc)
 lost_refused text lost side p (fault.Status e) good due = (let other = (due (λ q. cc)).0 in cc)
 lost_refused text lost side p (fault.Report e) good due = (let other = (due (λ q. cc)).0 in cc)

@@ -17,13 +17,18 @@ use Rattle.pool_settings.specs.declared.error.SettingsError.TheVariants as setti
 use Rattle.refusal.specs.Label.{label_words}
 use Rattle.plan_commands.specs.declared.ending.Exit.{Exit}
 use Rattle.plan_commands.specs.declared.fault.Fault.{Fault}
+use Rattle.plan_commands.specs.declared.fault.NamedFile.{NamedFile}
 use Rattle.plan_commands.specs.declared.fault.Fault.TheVariants as fault
 
 -- 3 where input is refused, 4 where memory or a device failed
+abbrev pub input_status : InputError → ℕ
+input_status input.TooLong = 3
+input_status _ = 4
+
 abbrev pub status_of : Fault → ℕ
+status_of (fault.File file e) = input_status e
 status_of fault.ReadFault = 4
 status_of fault.WriteFault = 4
-status_of fault.NoFile = 4
 status_of fault.Memory = 4
 status_of _ = 3
 
@@ -32,17 +37,24 @@ abbrev pub on_line : Option ℕ → List ℕ
 on_line (Some line) = codes " line " ++ decimal line
 on_line None = []
 
+-- why a file or standard input was not read whole
+abbrev pub input_words : InputError → List ℕ
+input_words input.NoFile = codes "device 3 NoFile"
+input_words input.ReadFault = codes "device 1 ReadFault"
+input_words input.TooLong = codes "input 1 TooLong"
+input_words input.Memory = codes "memory"
+
 -- The fault as one line for a person and a script: a word for what is at fault, a number, a name, and the line.
 abbrev pub fault_line : Fault → List ℕ
 fault_line (fault.Settings e) = codes "settings " ++ label_words (settings_label e)
-fault_line fault.UnknownWorker = codes "lost 1 UnknownWorker"
+fault_line (fault.UnknownWorker place) = codes "lost 1 UnknownWorker"
 fault_line (fault.Status e) = codes "status " ++ label_words (status_label e) ++ on_line (status_line e)
 fault_line (fault.Report e) = codes "report " ++ label_words (read_label e) ++ on_line (report_line e)
 fault_line (fault.BadCommand line) = codes "events 1 BadLine line " ++ decimal line
-fault_line fault.TooLong = codes "input 1 TooLong"
-fault_line fault.ReadFault = codes "device 1 ReadFault"
+fault_line (fault.File file e) = input_words e
+fault_line fault.TooLong = input_words input.TooLong
+fault_line fault.ReadFault = input_words input.ReadFault
 fault_line fault.WriteFault = codes "device 2 WriteFault"
-fault_line fault.NoFile = codes "device 3 NoFile"
 fault_line fault.Memory = codes "memory"
 
 -- Want of memory is one fault, whoever meets it.
@@ -63,8 +75,12 @@ abbrev pub write_fault : WriteError → Fault
 write_fault (write.WriteFault count) = fault.WriteFault
 write_fault write.Memory = fault.Memory
 
+abbrev pub file_fault : NamedFile → InputError → Fault
+file_fault file input.Memory = fault.Memory
+file_fault file other = fault.File file other
+
 abbrev pub input_fault : InputError → Fault
-input_fault input.NoFile = fault.NoFile
+input_fault input.NoFile = fault.ReadFault
 input_fault input.ReadFault = fault.ReadFault
 input_fault input.TooLong = fault.TooLong
 input_fault input.Memory = fault.Memory

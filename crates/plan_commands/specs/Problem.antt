@@ -1,6 +1,6 @@
 -- The planning problem that settings, lost workers and a load pose, or their first fault.
 use Rattle.std.specs.Prelude.{ℕ, ◌==◌, List, map, take, length, nat_le, Bool, not, is_some, Result, Ok, Err, if◌then◌else◌}
-use Rattle.std.specs.List.{filter_map, list_all, list_any, range_with_len}
+use Rattle.std.specs.List.{filter_map, list_all, list_any, prefix_len, range_with_len}
 use Rattle.devices.specs.Whole.{limit}
 use Rattle.gear_status.specs.Status.{Line, status}
 use Rattle.gear_status.specs.declared.error.StatusError.{StatusError}
@@ -17,6 +17,10 @@ use Rattle.plan_commands.specs.declared.problem.Problem.{Problem}
 -- each lost worker is one of the settings
 abbrev pub are_workers : Settings → List (List ℕ) → Bool
 are_workers settings lost = list_all (λ name. is_some (slot_named settings name)) lost
+
+-- the place of the first lost worker that is none of the settings
+abbrev pub unknown_place : Settings → List (List ℕ) → ℕ
+unknown_place settings lost = prefix_len (λ name. is_some (slot_named settings name)) lost
 
 abbrev pub lost_slots : Settings → List (List ℕ) → List ℕ
 lost_slots settings lost = filter_map (slot_named settings) lost
@@ -40,7 +44,8 @@ then_on (Err f) next = Err f
 
 abbrev pub problem_with : List (List ℕ) → Result (List Line) Fault → Settings → Result Problem Fault
 problem_with lost load settings =
-    if are_workers settings lost then then_on load (λ lines. Ok (problem_of settings lost lines)) else Err fault.UnknownWorker
+    if are_workers settings lost then then_on load (λ lines. Ok (problem_of settings lost lines))
+    else Err (fault.UnknownWorker (unknown_place settings lost))
 
 -- The problem that settings, lost workers and a load pose, or the first fault: the settings are looked at first, then the lost workers
 -- and then the load.

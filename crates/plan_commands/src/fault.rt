@@ -12,34 +12,53 @@ use refusal::Labelled;
 use std::alloc::AllocError;
 use std::fmt;
 
+/// A file that a command names, by what it holds.
+#[derive(Clone, Copy, Debug, PartialEq, Eq)]
+pub enum NamedFile {
+    /// The settings.
+    Settings,
+    /// A status text.
+    Status,
+}
+
 /// Why a command ends without an answer. Each is displayed as its fault line, which is meant for a
-/// person and for a script alike: a word for what is at fault, a number, a name, and the line, where
-/// there is one.
+/// person and for a script alike: a word for what is at fault, a number, a name, and the line, if
+/// there is one. Which file or which lost worker it is about is in the fault and not in its line.
 #[derive(Clone, Copy, Debug, PartialEq, Eq)]
 pub enum Fault {
     /// The settings file breaks a rule.
     Settings(SettingsError),
-    /// A lost worker is none of the settings.
-    UnknownWorker,
+    /// A lost worker is none of the settings: the one at this place, from 0, of those that were named.
+    UnknownWorker(usize),
     /// The status text breaks a rule.
     Status(StatusError),
     /// The report breaks a rule.
     Report(ReadError),
     /// A line of `replay` is no command. It is the line of this number, counted from 1.
     BadCommand(u64),
-    /// A file or standard input is longer than 16,777,216 bytes.
+    /// A file was not read whole. Out of memory is [`Fault::Memory`].
+    File(NamedFile, InputError),
+    /// Standard input is longer than 16,777,216 bytes.
     TooLong,
-    /// A device that is read failed, or had nothing to give for the 65th time.
+    /// Standard input failed, or had nothing to give for the 65th time.
     ReadFault,
     /// A device that is written to failed.
     WriteFault,
-    /// A file is not there or may not be read.
-    NoFile,
     /// An allocation was refused.
     Memory,
 }
 
 impl Fault {
+    /// Why a file was not read whole.
+    pub fn of_file(file: NamedFile, error: InputError) -> Fault
+        ensures { result ≡ spec.file_fault file error }
+    {
+        match error {
+            InputError::Memory => Fault::Memory,
+            other => Fault::File(file, other),
+        }
+    }
+
     /// The exit status of a command that ends with this fault: 3 where input is refused, and 4 where
     /// memory or a device failed.
     pub fn status(self) -> u8
@@ -47,12 +66,13 @@ impl Fault {
     {
         match self {
             Fault::Settings(_)
-            | Fault::UnknownWorker
+            | Fault::UnknownWorker(_)
             | Fault::Status(_)
             | Fault::Report(_)
             | Fault::BadCommand(_)
+            | Fault::File(_, InputError::TooLong)
             | Fault::TooLong => 3,
-            Fault::ReadFault | Fault::WriteFault | Fault::NoFile | Fault::Memory => 4,
+            Fault::File(_, _) | Fault::ReadFault | Fault::WriteFault | Fault::Memory => 4,
         }
     }
 }
@@ -66,7 +86,7 @@ impl fmt::Display for Fault {
                 let label = error.label();
                 write!(f, "settings {} {}", label.number(), label.name())
             }
-            Fault::UnknownWorker => f.write_str("lost 1 UnknownWorker"),
+            Fault::UnknownWorker(_) => f.write_str("lost 1 UnknownWorker"),
             Fault::Status(error) => {
                 let label = error.label();
                 write!(f, "status {} {}", label.number(), label.name())?;
@@ -78,16 +98,28 @@ impl fmt::Display for Fault {
                 on_line(f, error.line())
             }
             Fault::BadCommand(line) => write!(f, "events 1 BadLine line {line}"),
-            Fault::TooLong => f.write_str("input 1 TooLong"),
-            Fault::ReadFault => f.write_str("device 1 ReadFault"),
+            Fault::File(_, error) => f.write_str(input_words(*error)),
+            Fault::TooLong => f.write_str(input_words(InputError::TooLong)),
+            Fault::ReadFault => f.write_str(input_words(InputError::ReadFault)),
             Fault::WriteFault => f.write_str("device 2 WriteFault"),
-            Fault::NoFile => f.write_str("device 3 NoFile"),
             Fault::Memory => f.write_str("memory"),
         }
     }
 }
 
-/// The line that is at fault, where it is one line.
+/// Why a file or standard input was not read whole.
+fn input_words(error: InputError) -> &'static str
+    ensures { result.now ≡ spec.input_words error }
+{
+    match error {
+        InputError::NoFile => "device 3 NoFile",
+        InputError::ReadFault => "device 1 ReadFault",
+        InputError::TooLong => "input 1 TooLong",
+        InputError::Memory => "memory",
+    }
+}
+
+/// The line that is at fault, if it is one line.
 fn on_line<W: fmt::Write>(f: &mut fmt::Formatter<W>, line: Option<u64>) -> fmt::Result
     ensures { WritesOnOk W.write_str_gives f.old result (spec.on_line line) f.new }
 {
@@ -154,6 +186,7 @@ impl From<WriteError> for Fault {
     }
 }
 
+/// Why standard input is not read whole. An input that is not there is one that cannot be read.
 impl From<InputError> for Fault {
     ghost use Rattle.std.specs.Prelude.{◌≡◌};
     ghost use Rattle.plan_commands.specs.Fault.{input_fault};
@@ -162,8 +195,7 @@ impl From<InputError> for Fault {
 
     fn from(error: InputError) -> Fault {
         match error {
-            InputError::NoFile => Fault::NoFile,
-            InputError::ReadFault => Fault::ReadFault,
+            InputError::NoFile | InputError::ReadFault => Fault::ReadFault,
             InputError::TooLong => Fault::TooLong,
             InputError::Memory => Fault::Memory,
         }

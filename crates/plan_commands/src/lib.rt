@@ -10,6 +10,6 @@ mod problem;
 
 pub use check::{Verdict, check_text};
 pub use ending::{Exit, deliver};
-pub use fault::Fault;
+pub use fault::{Fault, NamedFile};
 pub use plan::plan_text;
 pub use problem::Problem;

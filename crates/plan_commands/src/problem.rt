@@ -26,13 +26,14 @@ fn live_marks(alloc: Global, settings: &Settings, lost: &[&str]) -> Result<Vec<b
     ensures ok { IfOk result (λ marks. marks.items ≡ spec.live_marks settings.now (map (λ w. w.now) lost.now)) }
     ensures known { IfOk result (λ _. spec.are_workers settings.now (map (λ w. w.now) lost.now) ≡ true) }
     ensures unknown { IfErr result (λ f. f ≢ Fault.Memory →
-        (f ≡ Fault.UnknownWorker) × (spec.are_workers settings.now (map (λ w. w.now) lost.now) ≡ false)) }
+        (f ≡ Fault.UnknownWorker (spec.unknown_place settings.now (map (λ w. w.now) lost.now)))
+        × (spec.are_workers settings.now (map (λ w. w.now) lost.now) ≡ false)) }
 {
     let mut marks = vec![in alloc; true; settings.slots() as usize]?;
-    for name in lost {
+    for (place, name) in lost.iter().enumerate() {
         match settings.slot_named(name.as_bytes()) {
             Some(slot) => marks[slot.number() as usize] = false,
-            None => return Err(Fault::UnknownWorker),
+            None => return Err(Fault::UnknownWorker(place)),
         }
     }
     Ok(marks)

@@ -2,20 +2,20 @@
 use Rattle.std.proofs.Common.{◌≡◌, ℕ, List, inl, inr, refl}
 use Rattle.command_line.specs.Words.{Named, plan}
 use Rattle.devices.specs.Folder.{IsReadFile, Known}
-use Rattle.devices.specs.declared.error.InputError.{InputError}
 use Rattle.byte_io.specs.Sides.{Input, Meets, Met, Output}
 use Rattle.plan_commands.proofs.Posing.{meets_nothing, nothing_from}
-use Rattle.plan_commands.specs.Fault.{input_fault, refused}
+use Rattle.plan_commands.specs.Fault.{refused}
 use Rattle.plan_commands.specs.Plan.{Plans}
 use Rattle.plan_commands.specs.declared.ending.Exit.{Exit}
+use Rattle.plan_commands.specs.declared.fault.Fault.{Fault}
 use Rattle.poolman.specs.Carrying.{CarriesOut, IsUnreadIn}
 
 -- nothing was taken and nothing written
-pub unread : (file : List ℕ → Known) (command : Named) (side : Input) (out : Output) (e : InputError) (exit : Exit)
-    → exit ≡ refused (input_fault e) → IsUnreadIn file command e
+pub unread : (file : List ℕ → Known) (command : Named) (side : Input) (out : Output) (fault : Fault) (exit : Exit)
+    → exit ≡ refused fault → IsUnreadIn file command fault
     → (met : Met) × Meets side met side × CarriesOut file command met out out exit
-unread file command side out e exit ends not_read =
-    (nothing_from side, meets_nothing side, inr (e, not_read, (refl, refl, refl), (refl, ends)))
+unread file command side out fault exit ends not_read =
+    (nothing_from side, meets_nothing side, inr (fault, not_read, (refl, refl, refl), (refl, ends)))
 
 -- the settings were read, and the plan was made
 pub planned : (file : List ℕ → Known) (s : List ℕ) (lost : List (List ℕ)) (text : List ℕ) (met : Met) (old new : Output) (exit : Exit)

@@ -1,5 +1,5 @@
 -- What a command does, by the files that it names.
-use Rattle.std.specs.Prelude.{◌⊎◌, ℕ, List}
+use Rattle.std.specs.Prelude.{◌≡◌, ◌⊎◌, ℕ, List}
 use Rattle.command_line.specs.Words.{Named, plan, check, replay, show_settings, run}
 use Rattle.devices.specs.Folder.{IsReadFile, IsUnreadFile, Known}
 use Rattle.devices.specs.Whole.{IsUntouched}
@@ -7,22 +7,34 @@ use Rattle.devices.specs.declared.error.InputError.{InputError}
 use Rattle.byte_io.specs.Sides.{Met, Output}
 use Rattle.plan_commands.specs.Check.{Checks}
 use Rattle.plan_commands.specs.Ending.{Stops}
-use Rattle.plan_commands.specs.Fault.{input_fault}
+use Rattle.plan_commands.specs.Fault.{file_fault}
 use Rattle.plan_commands.specs.Plan.{Plans}
 use Rattle.plan_commands.specs.Problem.{load_of, problem}
 use Rattle.plan_commands.specs.declared.ending.Exit.{Exit}
+use Rattle.plan_commands.specs.declared.fault.Fault.{Fault}
+use Rattle.plan_commands.specs.declared.fault.NamedFile.{NamedFile}
+use Rattle.plan_commands.specs.declared.fault.NamedFile.TheVariants.{Settings, Status}
 use Rattle.replay_command.specs.Replay.{Replays}
 use Rattle.run_command.specs.Run.{Supervises}
 use Rattle.settings_command.specs.Told.{TellsSettings}
 
+-- The file of which this is known is not read whole, and the fault says which file it is and why.
+abbrev pub IsUnreadBy : NamedFile → Known → Fault → Type 0
+IsUnreadBy name known fault = (e : InputError) × IsUnreadFile known e × (fault ≡ file_fault name e)
+
+-- The settings file is not read whole, or it is and the status file is not.
+abbrev pub IsUnreadBoth : (List ℕ → Known) → List ℕ → List ℕ → Fault → Type 0
+IsUnreadBoth file s t fault =
+    IsUnreadBy Settings (file s) fault
+    ⊎ ((settings_text : List ℕ) × IsReadFile (file s) settings_text × IsUnreadBy Status (file t) fault)
+
 -- This keeps a file of the command from being read whole, and is the first that does: files are read in the order of the words.
-abbrev pub IsUnreadIn : (List ℕ → Known) → Named → InputError → Type 0
-IsUnreadIn file (plan s lost) e = IsUnreadFile (file s) e
-IsUnreadIn file (check s t lost) e =
-    IsUnreadFile (file s) e ⊎ ((settings_text : List ℕ) × IsReadFile (file s) settings_text × IsUnreadFile (file t) e)
-IsUnreadIn file (replay s) e = IsUnreadFile (file s) e
-IsUnreadIn file (show_settings s) e = IsUnreadFile (file s) e
-IsUnreadIn file (run s rounds) e = IsUnreadFile (file s) e
+abbrev pub IsUnreadIn : (List ℕ → Known) → Named → Fault → Type 0
+IsUnreadIn file (plan s lost) fault = IsUnreadBy Settings (file s) fault
+IsUnreadIn file (check s t lost) fault = IsUnreadBoth file s t fault
+IsUnreadIn file (replay s) fault = IsUnreadBy Settings (file s) fault
+IsUnreadIn file (show_settings s) fault = IsUnreadBy Settings (file s) fault
+IsUnreadIn file (run s rounds) fault = IsUnreadBy Settings (file s) fault
 
 -- The files of the command were read, and it does with their bytes what its call says. `settings` and a run take nothing from the
 -- input.
@@ -43,4 +55,4 @@ ActsOnFiles file (run s rounds) met old new exit =
 abbrev pub CarriesOut : (List ℕ → Known) → Named → Met → Output → Output → Exit → Type 0
 CarriesOut file command met old new exit =
     ActsOnFiles file command met old new exit
-    ⊎ ((e : InputError) × IsUnreadIn file command e × IsUntouched met × Stops (input_fault e) old new exit)
+    ⊎ ((fault : Fault) × IsUnreadIn file command fault × IsUntouched met × Stops fault old new exit)

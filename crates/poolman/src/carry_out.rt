@@ -1,15 +1,16 @@
 //! A command, carried out on files and devices.
 
-ghost use Rattle.std.specs.Prelude.{◌-◌, ◌^◌, ◌<◌, ◌⊎◌, IfErr, IfOk, List, ℕ};
+ghost use Rattle.std.specs.Prelude.{◌-◌, ◌^◌, ◌<◌, IfErr, IfOk};
 ghost use Rattle.command_line.specs.Named.{named};
-ghost use Rattle.devices.specs.Folder.{IsReadFile, IsUnreadFile};
+ghost use Rattle.devices.specs.Folder.{IsReadFile};
 ghost use Rattle.byte_io.specs.Sides.{Meets, Met};
-ghost use Rattle.poolman.specs.Carrying.{CarriesOut};
+ghost use Rattle.poolman.specs.Carrying.{CarriesOut, IsUnreadBoth, IsUnreadBy};
 
+use crate::lent::Lent;
 use byte_io::{Sink, Source};
 use command_line::Command;
-use devices::{Folder, InputError, read_file};
-use plan_commands::{Exit, Fault, check_text, plan_text};
+use devices::{Folder, read_file};
+use plan_commands::{Exit, Fault, NamedFile, check_text, plan_text};
 use replay_command::run_commands;
 use run_command::{Host, run_rounds};
 use settings_command::settings_text;
@@ -19,9 +20,7 @@ use std::alloc::Global;
 /// `run_rounds` says of them. A file that cannot be read is told before any fault of a text, and nothing is taken from the source or
 /// written then. `settings` and a run take nothing from the source.
 pub fn carry_out<F: Folder, H: Host, R: Source, S: Sink>(
-    files: &F,
-    host: &H,
-    alloc: Global,
+    lent: Lent<'_, F, H>,
     command: &Command<'_>,
     source: &mut R,
     sink: &mut S,
@@ -29,49 +28,61 @@ pub fn carry_out<F: Folder, H: Host, R: Source, S: Sink>(
     requires source { (R.input source.old).failures < 2 ^ 64 - 1 }
     requires sink { (S.output sink.old).failures < 2 ^ 64 - 1 }
     ensures carries_out { (met : Met) × Meets (R.input source.old) met (R.input source.new)
-        × CarriesOut (F.file files.now) (named command.now) met (S.output sink.old) (S.output sink.new) result }
+        × CarriesOut (F.file lent.entry.files.now) (named command.now) met (S.output sink.old) (S.output sink.new) result }
 {
+    let alloc = lent.alloc;
     match command {
-        Command::Plan { settings, lost } => match read_file(files, alloc, settings) {
+        Command::Plan { settings, lost } => match read_settings(lent, settings) {
             Ok(text) => plan_text(alloc, &text, lost, source, sink),
-            Err(error) => Exit::refused(Fault::from(error)),
+            Err(fault) => Exit::refused(fault),
         },
         Command::Check {
             settings,
             status,
             lost,
-        } => match read_both(files, alloc, settings, status) {
+        } => match read_both(lent, settings, status) {
             Ok((text, status)) => check_text(alloc, &text, &status, lost, source, sink),
-            Err(error) => Exit::refused(Fault::from(error)),
+            Err(fault) => Exit::refused(fault),
         },
-        Command::Replay { settings } => match read_file(files, alloc, settings) {
+        Command::Replay { settings } => match read_settings(lent, settings) {
             Ok(text) => run_commands(alloc, &text, source, sink),
-            Err(error) => Exit::refused(Fault::from(error)),
+            Err(fault) => Exit::refused(fault),
         },
-        Command::Settings { settings } => match read_file(files, alloc, settings) {
+        Command::Settings { settings } => match read_settings(lent, settings) {
             Ok(text) => settings_text(alloc, &text, sink),
-            Err(error) => Exit::refused(Fault::from(error)),
+            Err(fault) => Exit::refused(fault),
         },
-        Command::Run { settings, rounds } => match read_file(files, alloc, settings) {
-            Ok(text) => run_rounds(host, alloc, &text, *rounds, sink),
-            Err(error) => Exit::refused(Fault::from(error)),
+        Command::Run { settings, rounds } => match read_settings(lent, settings) {
+            Ok(text) => run_rounds(lent.host, alloc, &text, *rounds, sink),
+            Err(fault) => Exit::refused(fault),
         },
     }
 }
 
-/// The bytes of two files, which are read one after the other.
-fn read_both<F: Folder>(
-    files: &F,
-    alloc: Global,
-    first: &str,
-    second: &str,
-) -> Result<(Vec<u8>, Vec<u8>), InputError>
-    ensures first { IfOk result (λ texts. IsReadFile (F.file files.now first.now) texts.0.items) }
-    ensures second { IfOk result (λ texts. IsReadFile (F.file files.now second.now) texts.1.items) }
-    ensures err { IfErr result (λ e. IsUnreadFile (F.file files.now first.now) e
-        ⊎ ((text : List ℕ) × IsReadFile (F.file files.now first.now) text × IsUnreadFile (F.file files.now second.now) e)) }
+/// The bytes of the settings file of this name.
+fn read_settings<F: Folder, H>(lent: Lent<'_, F, H>, name: &str) -> Result<Vec<u8>, Fault>
+    ensures whole { IfOk result (λ text. IsReadFile (F.file lent.entry.files.now name.now) text.items) }
+    ensures err { IfErr result (IsUnreadBy NamedFile.Settings (F.file lent.entry.files.now name.now)) }
 {
-    let first = read_file(files, alloc, first)?;
-    let second = read_file(files, alloc, second)?;
-    Ok((first, second))
+    match read_file(lent.files, lent.alloc, name) {
+        Ok(text) => Ok(text),
+        Err(error) => Err(Fault::of_file(NamedFile::Settings, error)),
+    }
+}
+
+/// The bytes of the settings file and of the status file of these names, which are read one after the other.
+fn read_both<F: Folder, H>(
+    lent: Lent<'_, F, H>,
+    settings: &str,
+    status: &str,
+) -> Result<(Vec<u8>, Vec<u8>), Fault>
+    ensures settings { IfOk result (λ texts. IsReadFile (F.file lent.entry.files.now settings.now) texts.0.items) }
+    ensures status { IfOk result (λ texts. IsReadFile (F.file lent.entry.files.now status.now) texts.1.items) }
+    ensures err { IfErr result (IsUnreadBoth (F.file lent.entry.files.now) settings.now status.now) }
+{
+    let settings_text = read_settings(lent, settings)?;
+    match read_file(lent.files, lent.alloc, status) {
+        Ok(status_text) => Ok((settings_text, status_text)),
+        Err(error) => Err(Fault::of_file(NamedFile::Status, error)),
+    }
 }

@@ -2,9 +2,11 @@
 #![tactic(auto)]
 
 mod carry_out;
+mod lent;
 mod program;
 
 use devices::{InputSource, OutputSink};
+use lent::Lent;
 use program::program;
 use run_command::System;
 use std::process::ExitCode;
@@ -20,11 +22,14 @@ fn words(rt: &HostRuntime) -> io::Result<Vec<String>> {
 }
 
 fn main(rt: HostRuntime) -> ExitCode {
+    let lent = Lent {
+        files: &rt,
+        host: &System::new(&rt),
+        alloc: rt.alloc(),
+    };
     ExitCode::from(program(
-        &rt,
-        &System::new(&rt),
+        lent,
         words(&rt),
-        rt.alloc(),
         &mut InputSource::new(rt.reader()),
         &mut OutputSink::new(io::writer(&rt)),
         &mut OutputSink::new(rt.stderr()),

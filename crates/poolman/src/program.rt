@@ -5,6 +5,7 @@ ghost use Rattle.byte_io.specs.Sides.{Meets, Met};
 ghost use Rattle.poolman.specs.Program as spec;
 
 use crate::carry_out::carry_out;
+use crate::lent::Lent;
 use byte_io::{Sink, Source, give_all};
 use clap::Error;
 use command_line::{CommandError, command_of};
@@ -27,10 +28,8 @@ const USAGE: u8 = 2;
 /// The first word is the program's name. Words that are no text in UTF-8 are no command's. A run is on the host; this
 /// contract says nothing of what the host does with progress reports.
 pub fn program<F: Folder, H: Host, R: Source, W: Sink, E: Sink>(
-    files: &F,
-    host: &H,
+    lent: Lent<'_, F, H>,
     words: io::Result<Vec<String>>,
-    alloc: Global,
     input: &mut R,
     output: &mut W,
     errors: &mut E,
@@ -39,22 +38,20 @@ pub fn program<F: Folder, H: Host, R: Source, W: Sink, E: Sink>(
     requires output { (W.output output.old).failures < 2 ^ 64 - 1 }
     requires errors { (E.output errors.old).failures < 2 ^ 64 - 1 }
     ensures program { (met : Met) × Meets (R.input input.old) met (R.input input.new)
-        × spec.Program (F.file files.now) (spec.words_in words) met
+        × spec.Program (F.file lent.entry.files.now) (spec.words_in words) met
         (record { output = W.output output.old; errors = E.output errors.old })
         (record { output = W.output output.new; errors = E.output errors.new }) result }
 {
     match words {
-        Ok(words) => obey(files, host, &words, alloc, input, output, errors),
-        Err(error) => no_words(alloc, error.kind(), errors),
+        Ok(words) => obey(lent, &words, input, output, errors),
+        Err(error) => no_words(lent.alloc, error.kind(), errors),
     }
 }
 
 /// Carries out the command of the words, or prints why they are none. Gives the exit status.
 fn obey<F: Folder, H: Host, R: Source, W: Sink, E: Sink>(
-    files: &F,
-    host: &H,
+    lent: Lent<'_, F, H>,
     words: &[String],
-    alloc: Global,
     input: &mut R,
     output: &mut W,
     errors: &mut E,
@@ -63,17 +60,17 @@ fn obey<F: Folder, H: Host, R: Source, W: Sink, E: Sink>(
     requires output { (W.output output.old).failures < 2 ^ 64 - 1 }
     requires errors { (E.output errors.old).failures < 2 ^ 64 - 1 }
     ensures obeys { (met : Met) × Meets (R.input input.old) met (R.input input.new)
-        × spec.Obeys (F.file files.now) (map (λ w. string_bytes w) words.now) met
+        × spec.Obeys (F.file lent.entry.files.now) (map (λ w. string_bytes w) words.now) met
         (record { output = W.output output.old; errors = E.output errors.old })
         (record { output = W.output output.new; errors = E.output errors.new }) result }
 {
-    match command_of(alloc, words) {
+    match command_of(lent.alloc, words) {
         Ok(command) => {
-            let exit = carry_out(files, host, alloc, &command, input, output);
-            end(alloc, exit, errors)
+            let exit = carry_out(lent, &command, input, output);
+            end(lent.alloc, exit, errors)
         }
-        Err(CommandError::Usage(error)) => advise(alloc, &error, errors),
-        Err(CommandError::Memory) => end(alloc, Exit::refused(Fault::Memory), errors),
+        Err(CommandError::Usage(error)) => advise(lent.alloc, &error, errors),
+        Err(CommandError::Memory) => end(lent.alloc, Exit::refused(Fault::Memory), errors),
     }
 }
 

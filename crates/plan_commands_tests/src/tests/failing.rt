@@ -78,7 +78,7 @@ fn check_fails_after(alloc: Global, sent: u32) -> bool {
 fn plan_looks_at_its_source_last(rt: HostRuntime) {
     let alloc = rt.alloc();
     let version = Fault::Settings(SettingsError::Version);
-    let unknown = Fault::UnknownWorker;
+    let unknown = Fault::UnknownWorker(0);
     assert!(rt; plan_on(alloc, b"", &["c/0"], broken(alloc)) == Exit::refused(version));
     assert!(rt; plan_on(alloc, SETTINGS, &["c/0"], broken(alloc)) == Exit::refused(unknown));
     let failed = Fault::ReadFault;
@@ -89,7 +89,7 @@ fn plan_looks_at_its_source_last(rt: HostRuntime) {
 fn check_looks_at_its_source_last(rt: HostRuntime) {
     let alloc = rt.alloc();
     let version = Fault::Settings(SettingsError::Version);
-    let unknown = Fault::UnknownWorker;
+    let unknown = Fault::UnknownWorker(0);
     assert!(rt; check_on(alloc, b"", b"", &["c/0"], broken(alloc)) == Exit::refused(version));
     assert!(rt; check_on(alloc, SETTINGS, b"", &["c/0"], broken(alloc)) == Exit::refused(unknown));
     let cut = Fault::Status(StatusError::Truncated);

@@ -1,7 +1,8 @@
 //! What the program prints of a fault, and what it makes of its words.
 
+use devices::InputError;
 use gear_status::StatusError;
-use plan_commands::Fault;
+use plan_commands::{Fault, NamedFile};
 use pool_report::ReadError;
 use pool_settings::SettingsError;
 use std::alloc::Global;
@@ -33,7 +34,7 @@ fn lines_of_settings_and_workers(rt: HostRuntime) {
             3
         )
     );
-    assert!(rt; prints(alloc, Fault::UnknownWorker, "lost 1 UnknownWorker", 3));
+    assert!(rt; prints(alloc, Fault::UnknownWorker(0), "lost 1 UnknownWorker", 3));
     assert!(rt; prints(alloc, Fault::TooLong, "input 1 TooLong", 3));
 }
 
@@ -92,6 +93,13 @@ fn lines_of_devices_and_memory(rt: HostRuntime) {
     let alloc = rt.alloc();
     assert!(rt; prints(alloc, Fault::ReadFault, "device 1 ReadFault", 4));
     assert!(rt; prints(alloc, Fault::WriteFault, "device 2 WriteFault", 4));
-    assert!(rt; prints(alloc, Fault::NoFile, "device 3 NoFile", 4));
+    for file in [NamedFile::Settings, NamedFile::Status] {
+        let missing = Fault::File(file, InputError::NoFile);
+        assert!(rt; prints(alloc, missing, "device 3 NoFile", 4));
+        let unread = Fault::File(file, InputError::ReadFault);
+        assert!(rt; prints(alloc, unread, "device 1 ReadFault", 4));
+        let too_long = Fault::File(file, InputError::TooLong);
+        assert!(rt; prints(alloc, too_long, "input 1 TooLong", 3));
+    }
     assert!(rt; prints(alloc, Fault::Memory, "memory", 4));
 }

@@ -421,8 +421,16 @@ fn faults_of_plans(rt: HostRuntime) {
     let alloc = rt.alloc();
     let version = Fault::Settings(SettingsError::Version);
     assert!(rt; plan_meets(alloc, b"", &["c/0"], b"", version));
-    assert!(rt; plan_meets(alloc, TWO, &["c/0"], b"", Fault::UnknownWorker));
-    assert!(rt; plan_meets(alloc, TWO, &["a/00"], TWO_STATUS, Fault::UnknownWorker));
+    assert!(rt; plan_meets(alloc, TWO, &["c/0"], b"", Fault::UnknownWorker(0)));
+    assert!(rt;
+        plan_meets(
+            alloc,
+            TWO,
+            &["b/0", "a/00"],
+            TWO_STATUS,
+            Fault::UnknownWorker(1)
+        )
+    );
 }
 
 #[test]

@@ -3,10 +3,11 @@
 use super::away::Away;
 use super::one_worker::{LIMIT, MEANING, REPORT, SETTINGS, STATUS};
 use crate::carry_out::carry_out;
+use crate::lent::Lent;
 use byte_io::{SliceSource, VecSink};
 use command_line::Command;
-use devices::Folder;
-use plan_commands::{Exit, Fault};
+use devices::{Folder, InputError};
+use plan_commands::{Exit, Fault, NamedFile};
 use pool_settings::SettingsError;
 use run_command::Host;
 use std::alloc::{AllocError, Global};
@@ -56,8 +57,12 @@ fn carries_out<H: Host>(
     };
     let mut source = SliceSource::new(input);
     let mut sink = VecSink::new(alloc);
-    carry_out(&files, host, alloc, command, &mut source, &mut sink) == exit
-        && sink.bytes() == output
+    let lent = Lent {
+        files: &files,
+        host,
+        alloc,
+    };
+    carry_out(lent, command, &mut source, &mut sink) == exit && sink.bytes() == output
 }
 
 fn plan<'a>(alloc: Global, settings: &'a str) -> Command<'a> {
@@ -113,15 +118,16 @@ fn commands_read_their_files(rt: HostRuntime) {
 fn files_that_are_not_there_are_told_first(rt: HostRuntime) {
     let alloc = rt.alloc();
     let host = Away { rt: &rt };
-    let missing = Exit::refused(Fault::NoFile);
+    let missing = Exit::refused(Fault::File(NamedFile::Settings, InputError::NoFile));
     assert!(rt; carries_out(&host, alloc, &plan(alloc, "none"), b"", missing, b""));
+    let no_status = Exit::refused(Fault::File(NamedFile::Status, InputError::NoFile));
     assert!(rt;
         carries_out(
             &host,
             alloc,
             &check(alloc, "status.txt", "none"),
             b"",
-            missing,
+            no_status,
             b""
         )
     );
@@ -145,7 +151,12 @@ fn check_ends<H: Host>(
     let mut source = SliceSource::new(REPORT);
     let mut sink = VecSink::new(alloc);
     let command = check(alloc, settings, status);
-    carry_out(&files, host, alloc, &command, &mut source, &mut sink)
+    let lent = Lent {
+        files: &files,
+        host,
+        alloc,
+    };
+    carry_out(lent, &command, &mut source, &mut sink)
 }
 
 #[test]
@@ -155,8 +166,9 @@ fn files_are_read_in_the_order_of_the_words(rt: HostRuntime) -> Result<(), Alloc
     let mut long = Vec::from_slice(alloc, STATUS)?;
     long.resize(LIMIT + 1, b'x')?;
     let long = long.as_slice();
-    let too_long = Exit::refused(Fault::TooLong);
-    let missing = Exit::refused(Fault::NoFile);
+    let too_long = Exit::refused(Fault::File(NamedFile::Settings, InputError::TooLong));
+    let long_status = Exit::refused(Fault::File(NamedFile::Status, InputError::TooLong));
+    let missing = Exit::refused(Fault::File(NamedFile::Settings, InputError::NoFile));
     assert!(rt; check_ends(&host, alloc, (long, STATUS), "settings.toml", "none") == too_long);
     assert!(rt; check_ends(&host, alloc, (SETTINGS, long), "none", "status.txt") == missing);
     assert!(rt;
@@ -166,8 +178,10 @@ fn files_are_read_in_the_order_of_the_words(rt: HostRuntime) -> Result<(), Alloc
             (SETTINGS, long),
             "settings.toml",
             "status.txt"
-        ) == too_long
+        ) == long_status
     );
-    assert!(rt; check_ends(&host, alloc, (b"", long), "settings.toml", "status.txt") == too_long);
+    assert!(rt;
+        check_ends(&host, alloc, (b"", long), "settings.toml", "status.txt") == long_status
+    );
     Ok(())
 }

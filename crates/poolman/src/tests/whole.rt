@@ -5,6 +5,7 @@ ghost use Rattle.std.specs.Prelude.{◌≡◌};
 use super::away::Away;
 use super::files::TwoFiles;
 use super::one_worker::{REPORT, SETTINGS, STATUS};
+use crate::lent::Lent;
 use crate::program::program;
 use byte_io::doubles::Script;
 use byte_io::{SliceSource, VecSink};
@@ -51,10 +52,12 @@ fn run_into<H: Host>(
     let mut errors = VecSink::new(alloc);
     let words = Ok(list);
     let status = program(
-        &files,
-        host,
+        Lent {
+            files: &files,
+            host,
+            alloc,
+        },
         words,
-        alloc,
         &mut source,
         &mut output,
         &mut errors,
@@ -183,10 +186,12 @@ fn without_words<H: Host>(host: &H, alloc: Global, kind: ErrorKind) -> Result<Le
     let words = Err(io::Error::from(kind));
     let mut source = SliceSource::new(STATUS);
     let status = program(
-        &files,
-        host,
+        Lent {
+            files: &files,
+            host,
+            alloc,
+        },
         words,
-        alloc,
         &mut source,
         &mut output,
         &mut errors,

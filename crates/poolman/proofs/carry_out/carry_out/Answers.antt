@@ -1,8 +1,7 @@
-use Rattle.std.proofs.Common.{inl, map, refl, subst, sym, ap, ◌∙◌}
+use Rattle.std.proofs.Common.{inl, map, refl, subst, sym}
 use Rattle.plan_commands.proofs.Posing.{meets_nothing, nothing_from}
 use Rattle.command_line.specs.Named.{named}
 use Rattle.devices.specs.Folder.{IsReadFile}
-use Rattle.plan_commands.specs.Fault.{refused}
 use Rattle.plan_commands.specs.Plan.{Plans}
 use Rattle.poolman.specs.Carrying.{CarriesOut}
 use Rattle.poolman.proofs.Carried.{planned, unread}
@@ -10,53 +9,53 @@ use Rattle.poolman.proofs.carry_out.carry_out.Goals as goal
 
 pub returns-in-Err : goal.returns-in-Err
 returns-in-Err g c = record {
-  carries_out = unread (g.F.Folder.file c.args.files.now) (named c.args.command.now) (g.R.Device.input c.args.source.now)
-      (g.S.Device.output c.args.sink.now) c.in-Err.error c.refused.result (c.refused.ensures ∙ ap refused c.from.ensures)
+  carries_out = unread (g.F.Folder.file c.args.lent.files.now) (named c.args.command.now) (g.R.Device.input c.args.source.now)
+      (g.S.Device.output c.args.sink.now) c.in-Err.fault c.refused.result c.refused.ensures
       (rw c.in-Plan.is c.in-Err.ensures.err);
 }
 
 pub returns-in-Err-read_both : goal.returns-in-Err-read_both
 returns-in-Err-read_both g c = record {
-  carries_out = unread (g.F.Folder.file c.args.files.now) (named c.args.command.now) (g.R.Device.input c.args.source.now)
-      (g.S.Device.output c.args.sink.now) c.in-Err-read_both.error c.refused-in-Err-read_both.result
-      (c.refused-in-Err-read_both.ensures ∙ ap refused c.from-in-Err-read_both.ensures) (rw c.in-Check.is c.in-Err-read_both.ensures.err);
+  carries_out = unread (g.F.Folder.file c.args.lent.files.now) (named c.args.command.now) (g.R.Device.input c.args.source.now)
+      (g.S.Device.output c.args.sink.now) c.in-Err-read_both.fault c.refused-in-Err-read_both.result
+      c.refused-in-Err-read_both.ensures (rw c.in-Check.is c.in-Err-read_both.ensures.err);
 }
 
-pub returns-in-Err-read_file : goal.returns-in-Err-read_file
-returns-in-Err-read_file g c = record {
-  carries_out = unread (g.F.Folder.file c.args.files.now) (named c.args.command.now) (g.R.Device.input c.args.source.now)
-      (g.S.Device.output c.args.sink.now) c.in-Err-read_file.error c.refused-in-Err-read_file.result
-      (c.refused-in-Err-read_file.ensures ∙ ap refused c.from-in-Err-read_file.ensures) (rw c.in-Replay.is c.in-Err-read_file.ensures.err);
+pub returns-in-Err-read_settings : goal.returns-in-Err-read_settings
+returns-in-Err-read_settings g c = record {
+  carries_out = unread (g.F.Folder.file c.args.lent.files.now) (named c.args.command.now) (g.R.Device.input c.args.source.now)
+      (g.S.Device.output c.args.sink.now) c.in-Err-read_settings.fault c.refused-in-Err-read_settings.result
+      c.refused-in-Err-read_settings.ensures (rw c.in-Replay.is c.in-Err-read_settings.ensures.err);
 }
 
 pub returns-in-Ok-read_both : goal.returns-in-Ok-read_both
 returns-in-Ok-read_both g c =
     let told = c.check_text.ensures.checks in
     let read = c.in-Ok-read_both in
-    let file = g.F.Folder.file c.args.files.now in record {
+    let file = g.F.Folder.file c.args.lent.files.now in record {
       carries_out = (
         told.0,
         told.1,
         rw (c.in-Check.is, ← c.deref-in-Ok-read_both-3.ensures.value) (inl (
           c.deref-in-Ok-read_both.result.now,
           c.deref-in-Ok-read_both-2.result.now,
-          subst (IsReadFile (file c.in-Check.settings.now)) (sym c.deref-in-Ok-read_both.ensures.value) read.ensures.first,
-          subst (IsReadFile (file c.in-Check.status.now)) (sym c.deref-in-Ok-read_both-2.ensures.value) read.ensures.second,
+          subst (IsReadFile (file c.in-Check.settings.now)) (sym c.deref-in-Ok-read_both.ensures.value) read.ensures.settings,
+          subst (IsReadFile (file c.in-Check.status.now)) (sym c.deref-in-Ok-read_both-2.ensures.value) read.ensures.status,
           told.2,
         )),
       );
     }
 
-pub returns-in-Ok-read_file : goal.returns-in-Ok-read_file
-returns-in-Ok-read_file g c =
+pub returns-in-Ok-read_settings : goal.returns-in-Ok-read_settings
+returns-in-Ok-read_settings g c =
     let told = c.run_commands.ensures.replays in record {
       carries_out = (
         told.0,
         told.1,
         rw c.in-Replay.is (inl (
-          c.deref-in-Ok-read_file.result.now,
-          subst (IsReadFile (g.F.Folder.file c.args.files.now c.in-Replay.settings.now)) (sym c.deref-in-Ok-read_file.ensures.value)
-              c.in-Ok-read_file.ensures.whole,
+          c.deref-in-Ok-read_settings.result.now,
+          subst (IsReadFile (g.F.Folder.file c.args.lent.files.now c.in-Replay.settings.now)) (sym c.deref-in-Ok-read_settings.ensures.value)
+              c.in-Ok-read_settings.ensures.whole,
           told.2,
         )),
       );
@@ -65,7 +64,7 @@ returns-in-Ok-read_file g c =
 pub returns-in-Ok : goal.returns-in-Ok
 returns-in-Ok g c =
     let told = c.plan_text.ensures.plans in
-    let file = g.F.Folder.file c.args.files.now in
+    let file = g.F.Folder.file c.args.lent.files.now in
     let old = g.S.Device.output c.args.sink.now in
     let new = g.S.Device.output c.plan_text.new.sink in
     let read = subst (IsReadFile (file c.in-Plan.settings.now)) (sym c.deref.ensures.value) c.in-Ok.ensures.whole in
@@ -78,48 +77,48 @@ returns-in-Ok g c =
       );
     }
 
-pub returns-in-Err-read_file-2 : goal.returns-in-Err-read_file-2
-returns-in-Err-read_file-2 g c = record {
-  carries_out = unread (g.F.Folder.file c.args.files.now) (named c.args.command.now) (g.R.Device.input c.args.source.now)
-      (g.S.Device.output c.args.sink.now) c.in-Err-read_file-2.error c.refused-in-Err-read_file-2.result
-      (c.refused-in-Err-read_file-2.ensures ∙ ap refused c.from-in-Err-read_file-2.ensures) (rw c.in-Settings.is c.in-Err-read_file-2.ensures.err);
+pub returns-in-Err-read_settings-2 : goal.returns-in-Err-read_settings-2
+returns-in-Err-read_settings-2 g c = record {
+  carries_out = unread (g.F.Folder.file c.args.lent.files.now) (named c.args.command.now) (g.R.Device.input c.args.source.now)
+      (g.S.Device.output c.args.sink.now) c.in-Err-read_settings-2.fault c.refused-in-Err-read_settings-2.result
+      c.refused-in-Err-read_settings-2.ensures (rw c.in-Settings.is c.in-Err-read_settings-2.ensures.err);
 }
 
 -- nothing was taken
-pub returns-in-Ok-read_file-2 : goal.returns-in-Ok-read_file-2
-returns-in-Ok-read_file-2 g c =
+pub returns-in-Ok-read_settings-2 : goal.returns-in-Ok-read_settings-2
+returns-in-Ok-read_settings-2 g c =
     let side = g.R.Device.input c.args.source.now in record {
       carries_out = (
         nothing_from side,
         meets_nothing side,
         rw c.in-Settings.is (inl (
-          c.deref-in-Ok-read_file-2.result.now,
-          subst (IsReadFile (g.F.Folder.file c.args.files.now c.in-Settings.settings.now)) (sym c.deref-in-Ok-read_file-2.ensures.value)
-              c.in-Ok-read_file-2.ensures.whole,
+          c.deref-in-Ok-read_settings-2.result.now,
+          subst (IsReadFile (g.F.Folder.file c.args.lent.files.now c.in-Settings.settings.now)) (sym c.deref-in-Ok-read_settings-2.ensures.value)
+              c.in-Ok-read_settings-2.ensures.whole,
           (refl, refl, refl),
           c.settings_text.ensures.tells,
         )),
       );
     }
 
-pub returns-in-Err-read_file-3 : goal.returns-in-Err-read_file-3
-returns-in-Err-read_file-3 g c = record {
-  carries_out = unread (g.F.Folder.file c.args.files.now) (named c.args.command.now) (g.R.Device.input c.args.source.now)
-      (g.S.Device.output c.args.sink.now) c.in-Err-read_file-3.error c.refused-in-Err-read_file-3.result
-      (c.refused-in-Err-read_file-3.ensures ∙ ap refused c.from-in-Err-read_file-3.ensures) (rw c.in-Run.is c.in-Err-read_file-3.ensures.err);
+pub returns-in-Err-read_settings-3 : goal.returns-in-Err-read_settings-3
+returns-in-Err-read_settings-3 g c = record {
+  carries_out = unread (g.F.Folder.file c.args.lent.files.now) (named c.args.command.now) (g.R.Device.input c.args.source.now)
+      (g.S.Device.output c.args.sink.now) c.in-Err-read_settings-3.fault c.refused-in-Err-read_settings-3.result
+      c.refused-in-Err-read_settings-3.ensures (rw c.in-Run.is c.in-Err-read_settings-3.ensures.err);
 }
 
 -- nothing was taken
-pub returns-in-Ok-read_file-3 : goal.returns-in-Ok-read_file-3
-returns-in-Ok-read_file-3 g c =
+pub returns-in-Ok-read_settings-3 : goal.returns-in-Ok-read_settings-3
+returns-in-Ok-read_settings-3 g c =
     let side = g.R.Device.input c.args.source.now in record {
       carries_out = (
         nothing_from side,
         meets_nothing side,
         rw c.in-Run.is (inl (
-          c.deref-in-Ok-read_file-3.result.now,
-          subst (IsReadFile (g.F.Folder.file c.args.files.now c.in-Run.settings.now)) (sym c.deref-in-Ok-read_file-3.ensures.value)
-              c.in-Ok-read_file-3.ensures.whole,
+          c.deref-in-Ok-read_settings-3.result.now,
+          subst (IsReadFile (g.F.Folder.file c.args.lent.files.now c.in-Run.settings.now)) (sym c.deref-in-Ok-read_settings-3.ensures.value)
+              c.in-Ok-read_settings-3.ensures.whole,
           (refl, refl, refl),
           c.run_rounds.ensures.supervises,
         )),

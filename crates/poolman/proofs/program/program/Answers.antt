@@ -6,7 +6,7 @@ use Rattle.poolman.proofs.program.program.Goals as goal
 pub returns-in-Ok : goal.returns-in-Ok
 returns-in-Ok g c =
     let told = c.obey.ensures.obeys in
-    let file = g.F.Folder.file c.args.files.now in
+    let file = g.F.Folder.file c.args.lent.files.now in
     let old : Streams = record { output = g.W.Device.output c.args.output.now; errors = g.E.Device.output c.args.errors.now } in
     let new : Streams = record { output = g.W.Device.output c.obey.new.output; errors = g.E.Device.output c.obey.new.errors } in record {
       program = (
@@ -20,7 +20,7 @@ returns-in-Ok g c =
 pub returns-in-Err : goal.returns-in-Err
 returns-in-Err g c =
     let side = g.R.Device.input c.args.input.now in
-    let file = g.F.Folder.file c.args.files.now in
+    let file = g.F.Folder.file c.args.lent.files.now in
     let old : Streams = record { output = g.W.Device.output c.args.output.now; errors = g.E.Device.output c.args.errors.now } in
     let new : Streams = record { output = g.W.Device.output c.args.output.now; errors = g.E.Device.output c.no_words.new.errors } in record {
       program = (
