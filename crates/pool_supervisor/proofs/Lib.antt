@@ -1,2 +1,4 @@
 pub mod Counts
+pub mod Late
 pub mod Published
+pub mod Rounds

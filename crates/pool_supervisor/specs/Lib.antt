@@ -3,4 +3,7 @@ pub mod Counted
 pub mod Lines
 pub mod PortCalls
 pub mod Published
+pub mod Reached
+pub mod Rounds
 pub mod Sessions
+pub mod Steps

@@ -1,6 +1,7 @@
 //! The supervisor of a run, and the steps of an attempt, one after the other.
 ghost use Rattle.std.specs.Prelude.{◌≡◌, ◌+◌, ◌<◌, ◌≤◌, IfOk, IfSome, OnOk, vec_len, vec_capacity};
 ghost use Rattle.pool_settings.specs.Slots.{slots as slot_count};
+ghost use Rattle.pool_supervisor.specs.Rounds.{PostAndStop, Posts, PostSince, StopsAll};
 
 use crate::attempt::Attempt;
 use crate::crew::Crew;
@@ -20,7 +21,6 @@ use std::marker::PhantomData;
 use std::sync::Wait;
 use std::thread;
 use std::thread::{Scope, Threads};
-use worker_state::{Order, Slot, What};
 
 /// What is told of each attempt when it is made.
 pub trait Progress {
@@ -71,25 +71,18 @@ pub struct Supervisor<'e, N: RunId, L, Y, P, J, C, R> {
 }
 
 impl<'e, N: RunId, J, C: Watch, R: Wait> Site<'e, N, J, C, R> {
-    /// The chapter of the history, ended if more than half of what it may have is used, so that a long run does not run out of room.
-    /// None if it goes on. A refusal changes nothing.
+    /// The chapter of the history, ended if that is due. None if it goes on.
     fn end_chapter_if_due(&self) -> Option<Chapter> {
         let mut held = self.shared.hold(self.lent.rt);
-        let events = held.pool().totals().events;
-        if events > self.run.settings.history() / 2 {
-            held.end_chapter().ok()
-        } else {
-            None
-        }
+        // A refusal changes nothing.
+        self.run.end_if_due(&mut held)?.ok()
     }
 
     /// Whether no worker is in the slot.
     fn is_empty(&self, slot: SlotId) -> bool
         requires { slot < slot_count self.now.run.settings.now }
     {
-        let held = self.shared.hold(self.lent.rt);
-        held.facts();
-        !held.pool().slot(slot).is_live()
+        self.run.is_empty(&self.shared.hold(self.lent.rt), slot)
     }
 
     /// A new worker in the slot, if the pool takes one.
@@ -107,20 +100,8 @@ impl<'e, N: RunId, J, C: Watch, R: Wait> Site<'e, N, J, C, R> {
         let Some(now_ms) = self.lent.watch.now_ms() else {
             return;
         };
-        for number in 0..self.run.settings.slots() {
-            let slot = SlotId::new(number);
-            let mut held = self.shared.hold(self.lent.rt);
-            held.facts();
-            if let Slot::Live {
-                generation,
-                ticket: Some(_),
-                ..
-            } = held.pool().slot(slot)
-            {
-                // A refusal says that the job is not late, or is being reported.
-                let _ = held.expire(slot, generation, now_ms);
-            }
-        }
+        let mut held = self.shared.hold(self.lent.rt);
+        self.run.expire_late(&mut held, now_ms);
     }
 }
 
@@ -134,71 +115,103 @@ impl<
     C: Watch + Progress + Sync,
     R: Threads + Wait + Sync,
 > Supervisor<'e, N, L, Y, P, J, C, R> {
-    /// Starts a session in each empty slot for which there is room, a link and a worker. It stops if a thread could not be started.
-    fn start_all<'s>(&mut self, scope: &Scope<'s, &'e ()>)
+    /// Starts a session in the slot if it is empty, and there is room, a link and a worker. The error is that a thread could not be
+    /// started.
+    fn start_one<'s>(&mut self, scope: &Scope<'s, &'e ()>, slot: SlotId) -> Result<(), AllocError>
     where
         'e: 's,
         N: 's,
         L: 's,
+        requires slot { slot < slot_count N.settings }
+        ensures posts { self.new.seats.publisher ≡ self.old.seats.publisher }
     {
         let site = self.site;
-        for number in 0..site.run.settings.slots() {
-            let slot = SlotId::new(number);
-            if !site.is_empty(slot) {
-                continue;
-            }
-            let Ok(berth) = self.crew.berth(site.lent.alloc) else {
-                continue;
-            };
-            let Some(link) = self.dial.dial() else {
-                continue;
-            };
-            let Some(pass) = site.join_worker(slot) else {
-                continue;
-            };
-            let place = Place {
-                seat: site.run.board.seat_reader(&mut self.seats.source, slot),
-                of: PhantomData,
-            };
-            let worker = Enrolled { pass, place };
-            if site
-                .start(scope, &mut self.crew, berth, link, worker)
-                .is_err()
-            {
-                break;
-            }
+        if !site.is_empty(slot) {
+            return Ok(());
         }
+        let Ok(berth) = self.crew.berth(site.lent.alloc) else {
+            return Ok(());
+        };
+        let Some(link) = self.dial.dial() else {
+            return Ok(());
+        };
+        let Some(pass) = site.join_worker(slot) else {
+            return Ok(());
+        };
+        let place = Place {
+            seat: site.run.board.seat_reader(&mut self.seats.source, slot),
+            of: PhantomData,
+        };
+        let worker = Enrolled { pass, place };
+        site.start(scope, &mut self.crew, berth, link, worker)
+    }
+
+    /// Starts a session in each empty slot, in order, for which there is room, a link and a worker, whatever became of the others. The
+    /// error is that a thread could not be started.
+    fn start_all<'s>(&mut self, scope: &Scope<'s, &'e ()>) -> Result<(), AllocError>
+    where
+        'e: 's,
+        N: 's,
+        L: 's,
+        ensures posts { self.new.seats.publisher ≡ self.old.seats.publisher }
+    {
+        for number in 0..self.site.run.settings.slots() {
+            self.start_one(scope, SlotId::new(number))?;
+        }
+        Ok(())
     }
 
     /// Posts Stop to the worker of every slot.
-    fn stop_all(&mut self) {
+    fn stop_all(&mut self)
+        ensures stops { StopsAll N.settings self.old.seats.publisher.posts self.new.seats.publisher.posts }
+    {
         let site = self.site;
-        for number in 0..site.run.settings.slots() {
-            let slot = SlotId::new(number);
-            let held = site.shared.hold(site.lent.rt);
-            held.facts();
-            let Order {
-                generation,
-                round,
-                what: _,
-            } = held.pool().order(slot);
-            let stop = Order {
-                generation,
-                round,
-                what: What::Stop,
-            };
-            site.run
-                .board
-                .post_by(&mut self.seats.publisher, slot, stop);
-        }
+        let held = site.shared.hold(site.lent.rt);
+        held.facts();
+        site.run.stop_all(&held, &mut self.seats.publisher);
     }
 
     /// What the server says, and then a plan for it.
-    fn make_round(&mut self) -> Attempt {
+    fn make_round(&mut self) -> Attempt
+        ensures posts { Posts N.settings result self.old.seats.publisher.posts self.new.seats.publisher.posts }
+    {
         match self.take_load() {
             Ok(()) => self.plan_round(),
             Err(attempt) => attempt,
         }
+    }
+
+    /// The steps of an attempt but for its pause, with its line at the end of the lines. The error is that a thread could not be started.
+    fn attempt<'s>(
+        &mut self,
+        scope: &Scope<'s, &'e ()>,
+        lines: &mut Lines,
+    ) -> Result<(), AllocError>
+    where
+        'e: 's,
+        N: 's,
+        L: 's,
+        requires room { vec_len lines.old.told < lines.old.rounds }
+        ensures rounds { lines.new.rounds ≡ lines.old.rounds }
+        ensures one { OnOk result (vec_len lines.new.told ≡ vec_len lines.old.told + 1) }
+        ensures posts { OnOk result (PostSince N.settings lines.old.told.items lines.new.told.items
+            self.old.seats.publisher.posts self.new.seats.publisher.posts) }
+    {
+        let site = self.site;
+        let number = lines.told.len() as u32 + 1;
+        self.crew.join_ended(&site, &mut self.seats.source);
+        // The lock is free when the events of the chapter are dropped.
+        let ended = site.end_chapter_if_due();
+        if ended.is_some() {
+            lines.chapters = lines.chapters.saturating_add(1);
+        }
+        drop(ended);
+        self.start_all(scope)?;
+        site.expire_late();
+        let attempt = self.make_round();
+        site.lent.watch.attempted(number, &attempt);
+        lines.told.push_reserved(attempt);
+        Ok(())
     }
 
     /// All attempts. The error is that a thread could not be started.
@@ -212,28 +225,34 @@ impl<
         N: 's,
         L: 's,
         ensures lines { OnOk result (vec_len lines.new.told ≡ lines.old.rounds) }
+        ensures posts { OnOk result (PostSince N.settings lines.old.told.items lines.new.told.items
+            self.old.seats.publisher.posts self.new.seats.publisher.posts) }
     {
         let site = self.site;
         while lines.told.len() < lines.rounds as usize {
-            let number = lines.told.len() as u32 + 1;
-            self.crew.join_ended(&site, &mut self.seats.source);
-            // The lock is free when the events of the chapter are dropped.
-            let ended = site.end_chapter_if_due();
-            if ended.is_some() {
-                lines.chapters = lines.chapters.saturating_add(1);
-            }
-            drop(ended);
-            self.start_all(scope);
-            if self.crew.is_short() {
-                return Err(AllocError);
-            }
-            site.expire_late();
-            let attempt = self.make_round();
-            site.lent.watch.attempted(number, &attempt);
-            lines.told.push_reserved(attempt);
+            self.attempt(scope, lines)?;
             site.lent.watch.pause(site.run.settings.round_ms());
         }
         Ok(())
+    }
+
+    /// All attempts, and then Stop to every slot. The error is that a thread could not be started; Stop is posted then too.
+    fn attempt_and_stop<'s>(
+        &mut self,
+        scope: &Scope<'s, &'e ()>,
+        lines: &mut Lines,
+    ) -> Result<(), AllocError>
+    where
+        'e: 's,
+        N: 's,
+        L: 's,
+        ensures lines { OnOk result (vec_len lines.new.told ≡ lines.old.rounds) }
+        ensures posts { OnOk result (PostAndStop N.settings lines.old.told.items lines.new.told.items
+            self.old.seats.publisher.posts self.new.seats.publisher.posts) }
+    {
+        let attempted = self.attempt_all(scope, lines);
+        self.stop_all();
+        attempted
     }
 
     /// All attempts, and then the end of all sessions.
@@ -248,8 +267,7 @@ impl<
         L: 's,
         ensures lines { IfOk result (λ ended. vec_len ended.lines ≡ lines.rounds) }
     {
-        let attempted = self.attempt_all(scope, &mut lines);
-        self.stop_all();
+        let attempted = self.attempt_and_stop(scope, &mut lines);
         let Supervisor {
             site,
             dial: _,

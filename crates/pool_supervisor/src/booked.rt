@@ -3,8 +3,10 @@ ghost use Rattle.std.specs.Prelude.{◌≡◌, ◌+◌, ◌<◌, ◌≤◌, leng
 ghost use Rattle.pool_settings.specs.Slots.{slots as slot_count};
 ghost use Rattle.worker_state.specs.Orders.{no_order, IsOrder};
 ghost use Rattle.pool_core.specs.Book.{totals_of};
+ghost use Rattle.pool_core.specs.Kept.{IsSoundState};
 ghost use Rattle.pool_core.specs.Calls.{Joins, Loads, Views, Adopts, Grabs, Begins, Reports, Loses, Expires, EndsChapter};
 ghost use Rattle.pool_supervisor.specs.Counted.{CountsItsEvents};
+ghost use Rattle.pool_supervisor.specs.Reached.{IsReached};
 
 use crate::place::RunLedger;
 use gear_packets::Handle;
@@ -206,10 +208,13 @@ impl<G: RunLedger, D: Ledger> Booked<G, D> {
         pool.totals()
     }
 
-    /// Does nothing: what every pool of a run keeps. Its settings are those in the run's name, and so is the number of its slots.
+    /// Does nothing: what every pool of a run keeps. Its settings are those in the run's name, and so is the number of its slots. A
+    /// history of these settings leads to its state.
     pub fn facts(&self)
         ensures settings { self.now.settings ≡ G.settings }
         ensures slots { length self.now.state.slots ≡ slot_count G.settings }
+        ensures reached { IsReached G.settings self.now.state }
+        ensures sound { IsSoundState G.settings self.now.state }
     {
         let _events = self.pool.history();
         histories_join();

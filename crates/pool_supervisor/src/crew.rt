@@ -86,11 +86,6 @@ impl<N: RunId> Crew<N> {
         }
     }
 
-    /// Whether a session could not be started for want of a thread.
-    pub fn is_short(&self) -> bool {
-        self.not_started > 0
-    }
-
     /// Makes room for one more session. The error is that memory was refused, or that so many run that no part of a ledger is left.
     pub fn berth(&mut self, alloc: Global) -> Result<Berth, AllocError>
         ensures room { OnOk result (self.new.running < self.new.room) }

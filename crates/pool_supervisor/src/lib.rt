@@ -20,6 +20,7 @@ mod round;
 mod run;
 mod session;
 mod shared;
+mod steps;
 
 pub use attempt::{Attempt, PoolRefusal, attempt_line};
 pub use attempts::Progress;

@@ -1,0 +1,5 @@
+use Rattle.std.specs.Prelude.{◌≡◌}
+use Rattle.pool_supervisor.proofs.attempts.Supervisor.plan_round.Given as goal
+
+abbrev pub invariant-loop-turn : goal.invariant-loop-turn
+invariant-loop-turn g l = l.self.seats.publisher ≡ l.initial.self.seats.publisher

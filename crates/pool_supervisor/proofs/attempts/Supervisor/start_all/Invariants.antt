@@ -1,0 +1,5 @@
+use Rattle.std.specs.Prelude.{◌≡◌}
+use Rattle.pool_supervisor.proofs.attempts.Supervisor.start_all.Given as goal
+
+abbrev pub invariant-loop-number : goal.invariant-loop-number
+invariant-loop-number g l = l.self.seats.publisher ≡ l.initial.self.seats.publisher

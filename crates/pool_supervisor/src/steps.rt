@@ -1,0 +1,161 @@
+//! The steps of an attempt, each on what lies under the lock in one hold of it.
+ghost use Rattle.std.specs.Prelude.{◌≡◌, ◌↔◌, ◌<◌, ℕ, not, IsSome, IfSome, IfNone, IfOk, OnErr};
+ghost use Rattle.pool_settings.specs.Slots.{slots as slot_count};
+ghost use Rattle.worker_state.specs.Slots.{is_live};
+ghost use Rattle.worker_state.specs.declared.slot.Slot.TheVariants.{Empty};
+ghost use Rattle.pool_core.specs.Machine.{slot_in};
+ghost use Rattle.pool_core.specs.Calls.{Adopts, EndsChapter, Expires, Loads};
+ghost use Rattle.pool_supervisor.specs.Published.{ArePosted, round_order, stop_order};
+ghost use Rattle.pool_supervisor.specs.Reached.{IsReached, IsRoundOf};
+ghost use Rattle.pool_supervisor.specs.Steps.{IsChapterDue, IsLate, worker_of};
+
+use crate::booked::Booked;
+use crate::place::{Grabs, Reports, RunBoard, RunId};
+use crate::posting::{publish_by, stop_by};
+use gear_status::Load;
+use order_board::PublisherSeat;
+use plan_model::{Certified, SlotId};
+use pool_core::{AdoptError, Chapter, ChapterError, ExpireError, LoadError, Ran, histories_join};
+use std::marker::Model;
+use std::snapshot::Snapshot;
+use worker_state::Slot;
+
+/// A call that gave a pool a load. It is made by that call alone, so whoever has one knows of the call though the lock is free again.
+///
+/// Contracts see the load and what the pool answered.
+#[derive(Drop)]
+pub struct LoadCall {
+    load: Snapshot<Load>,
+    answer: Result<(), LoadError>,
+}
+
+impl Model for LoadCall {
+    ghost use Rattle.std.specs.Prelude.{List, Result};
+    ghost use Rattle.gear_status.specs.Status.{Line};
+    ghost use Rattle.pool_core.specs.declared.error.LoadError.{LoadError};
+
+    ghost Value = { List Line × Result (Unit {0}) LoadError };
+
+    ghost view = { λ c. (c.load.value, c.answer) };
+}
+
+impl LoadCall {
+    /// Gives the pool a load.
+    pub fn make<N: RunId>(held: &mut Booked<Grabs<N>, Reports<N>>, load: Load) -> LoadCall
+        ensures pool { Loads load held.old held.new result.1 }
+        ensures load { result.0 ≡ load }
+    {
+        let given = Snapshot::of(&load);
+        LoadCall {
+            load: given,
+            answer: held.load(load),
+        }
+    }
+
+    /// What the pool answered.
+    pub fn answer(self) -> Result<(), LoadError>
+        ensures { result ≡ self.1 }
+    {
+        self.answer
+    }
+}
+
+impl<'e, N: RunId> RunBoard<'e, N> {
+    /// Ends the chapter of the history if more than half of what the history may have is used, so that a long run does not run out of
+    /// room. None if it goes on. The events are handed out, to be dropped once the lock is free.
+    pub fn end_if_due(
+        &self,
+        held: &mut Booked<Grabs<N>, Reports<N>>,
+    ) -> Option<Result<Chapter, ChapterError>>
+        ensures due { IsSome result ↔ IsChapterDue held.old }
+        ensures ends { IfSome result (EndsChapter held.old held.new) }
+        ensures goes_on { IfNone result (held.new ≡ held.old) }
+    {
+        held.facts();
+        if held.pool().totals().events > self.settings.history() / 2 {
+            Some(held.end_chapter())
+        } else {
+            None
+        }
+    }
+
+    /// Whether no worker is in the slot.
+    pub fn is_empty(&self, held: &Booked<Grabs<N>, Reports<N>>, slot: SlotId) -> bool
+        requires slot { slot < slot_count self.now.settings.now }
+        ensures { result ≡ not (is_live (slot_in held.now.state.slots slot)) }
+    {
+        held.facts();
+        !held.pool().slot(slot).is_live()
+    }
+
+    /// Loses the worker of the slot if its job is late by this clock. The error says that the slot has none, or that it has no job, or one
+    /// that is not late or is being reported.
+    pub fn expire_if_late(
+        &self,
+        held: &mut Booked<Grabs<N>, Reports<N>>,
+        slot: SlotId,
+        now_ms: u64,
+    ) -> Result<(), ExpireError>
+        requires slot { slot < slot_count self.now.settings.now }
+        ensures { Expires (worker_of held.old.state slot) now_ms held.old held.new result }
+    {
+        held.facts();
+        match held.pool().slot(slot) {
+            Slot::Live { generation, .. } => held.expire(slot, generation, now_ms),
+            Slot::Empty(_) => Err(ExpireError::Gone),
+        }
+    }
+
+    /// Loses each worker whose job is late by this clock, and no other.
+    pub fn expire_late(&self, held: &mut Booked<Grabs<N>, Reports<N>>, now_ms: u64)
+        ensures late { (slot : ℕ) → IsLate held.old now_ms slot → slot_in held.new.state.slots slot
+            ≡ Empty (worker_of held.old.state slot).generation }
+        ensures others { (slot : ℕ) → (IsLate held.old now_ms slot → ⊥)
+            → slot_in held.new.state.slots slot ≡ slot_in held.old.state.slots slot }
+    {
+        held.facts();
+        for number in 0..self.settings.slots() {
+            held.facts();
+            // A refusal says that no job of the slot is late.
+            let _ = self.expire_if_late(held, SlotId::new(number), now_ms);
+        }
+    }
+
+    /// Adopts an answer, and posts the orders of the round if it has a plan, so that no later round's orders come before them.
+    pub fn adopt_and_publish(
+        &self,
+        held: &mut Booked<Grabs<N>, Reports<N>>,
+        publisher: &mut PublisherSeat,
+        certified: Certified,
+    ) -> Result<Ran, AdoptError>
+        requires own { publisher.old.board ≡ N.board }
+        ensures pool { Adopts certified held.old held.new result }
+        ensures round { IfOk result (λ ran. IsRoundOf N.settings ran held.new.state) }
+        ensures own { publisher.new.board ≡ publisher.old.board }
+        ensures posts { IfOk result (λ ran. ArePosted (round_order ran held.new.state) publisher.old.posts publisher.new.posts) }
+        ensures refused { OnErr result (publisher.new ≡ publisher.old) }
+    {
+        held.facts();
+        histories_join();
+        let ran = held.adopt(certified)?;
+        if ran.backlog.is_some() {
+            held.facts();
+            publish_by(held.pool(), self.board, publisher);
+        }
+        Ok(ran)
+    }
+
+    /// Posts Stop to the worker of every slot.
+    pub fn stop_all(
+        &self,
+        held: &Booked<Grabs<N>, Reports<N>>,
+        publisher: &mut PublisherSeat,
+    )
+        requires own { publisher.old.board ≡ N.board }
+        ensures own { publisher.new.board ≡ publisher.old.board }
+        ensures posts { ArePosted (stop_order held.now.state) publisher.old.posts publisher.new.posts }
+    {
+        held.facts();
+        stop_by(held.pool(), self.board, publisher);
+    }
+}
