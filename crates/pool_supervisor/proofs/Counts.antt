@@ -86,7 +86,7 @@ is_round_of settings old new answer ran join same reached step is =
     let replays = reached.1 in
     let possible : IsPossible settings (Round answer) old.state = subst (λ (s : Settings). IsPossible s (Round answer) old.state) same step.possible in
     let here : IsHistory settings (replay settings base before) (Round answer ∷ []) =
-      subst (λ (s : State). IsHistory settings s (Round answer ∷ [])) replays.replayed (possible, tt)
+    subst (λ (s : State). IsHistory settings s (Round answer ∷ [])) replays.replayed (possible, tt)
     in
     let joined = join settings base before (Round answer ∷ []) replays.history here in
     record {

@@ -1,7 +1,6 @@
 -- Workers with late jobs, expired one slot after the other.
-use Rattle.std.proofs.Common.{◌≡◌, ◌≢◌, ℕ, ◌+◌, ◌-◌, ◌<◌, ◌≤◌, zero, suc, Bool, true, false, cond, List, [], ◌∷◌, length, get_or, set, Option, None, Some, refl, sym, ap, subst, ◌∙◌, arith}
-use Rattle.std.specs.Prelude.{Result, Ok, Err, slice_get, slice_index, nat_lt, ◌==◌, if◌then◌else◌}
-use Rattle.std.specs.Result.{result_err}
+use Rattle.std.proofs.Common.{◌≡◌, ◌≢◌, ℕ, ◌+◌, ◌-◌, ◌<◌, ◌≤◌, zero, suc, Bool, true, false, List, [], ◌∷◌, length, set, Option, None, Some, refl, sym, ap, subst, ◌∙◌, arith}
+use Rattle.std.specs.Prelude.{Result, Ok, Err, slice_get, nat_lt, ◌==◌, if◌then◌else◌}
 use Rattle.std.proofs.lemmas.List.{get_or-set_other, get_or_past}
 use Rattle.std.proofs.lemmas.Grind.{get_or-set_at}
 use Rattle.std.proofs.lemmas.Bool.{ltb-true, ltb-false}
@@ -10,7 +9,7 @@ use mathlib.Core.Logic.{dite}
 use native.Mathlib.Decide.{ℕ_discrete}
 use Rattle.pool_settings.specs.Settings.{Settings}
 use Rattle.worker_state.specs.declared.slot.Slot.{Slot}
-use Rattle.worker_state.specs.declared.slot.Slot.TheVariants.{Empty, Live}
+use Rattle.worker_state.specs.declared.slot.Slot.TheVariants.{Empty}
 use Rattle.worker_state.specs.declared.slot.WorkerName.{WorkerName}
 use Rattle.worker_state.specs.declared.job.Standing.{Standing}
 use Rattle.worker_state.specs.declared.job.Standing.TheVariants as standing
@@ -21,7 +20,7 @@ use Rattle.pool_core.specs.declared.event.Event.TheVariants as event
 use Rattle.pool_core.specs.declared.error.ExpireError.{ExpireError}
 use Rattle.pool_core.specs.declared.error.ExpireError.TheVariants as expire
 use Rattle.pool_core.specs.Machine.{State, slot_in, standing_in, with_lost}
-use Rattle.pool_core.specs.Kept.{IsSoundState, OpensAt}
+use Rattle.pool_core.specs.Kept.{IsSoundState}
 use Rattle.pool_core.specs.Book.{Book, IsStep, late_refusal, expire_refusal}
 use Rattle.pool_core.specs.Calls.{Expires}
 use Rattle.pool_supervisor.specs.Steps.{IsLate, worker_of}
@@ -85,16 +84,16 @@ other_slot : (settings : Settings) (now j : ℕ) (cur new : Book) → IsSoundSta
     → (slot_in new.state.slots s ≡ slot_in cur.state.slots s) × (expire_refusal new (worker_of new.state s) now ≡ expire_refusal cur (worker_of cur.state s) now)
 other_slot settings now j cur new sound step s apart =
     let same : slot_in new.state.slots s ≡ slot_in cur.state.slots s =
-      ap (λ (x : State). slot_in x.slots s) step.state ∙ get_or-set_other cur.state.slots j s (Empty (last_generation (slot_in cur.state.slots j))) (Empty 0) apart
+    ap (λ (x : State). slot_in x.slots s) step.state ∙ get_or-set_other cur.state.slots j s (Empty (last_generation (slot_in cur.state.slots j))) (Empty 0) apart
     in
     let stands : (t : ℕ) → held_ticket (slot_in cur.state.slots s) ≡ Some t → standing_in new.state.standings t ≡ standing_in cur.state.standings t =
-      λ t opens. ap (λ (x : State). standing_in x.standings t) step.state
-        ∙ other_stands cur.state.standings (held_ticket (slot_in cur.state.slots j)) (worker_of cur.state j) Late t (sound.tickets s t opens).from_one
-          (λ k at. ((sound.tickets j k at).from_one, λ e. apart (sound.alone s j k (opens ∙ ap (λ (n : ℕ). let o : Option ℕ = Some n in o) e) at)))
+    λ t opens. ap (λ (x : State). standing_in x.standings t) step.state
+    ∙ other_stands cur.state.standings (held_ticket (slot_in cur.state.slots j)) (worker_of cur.state j) Late t (sound.tickets s t opens).from_one
+    (λ k at. ((sound.tickets j k at).from_one, λ e. apart (sound.alone s j k (opens ∙ ap (λ (n : ℕ). let o : Option ℕ = Some n in o) e) at)))
     in (
       same,
       ap (λ (x : Slot). refusal_at new now s x) same
-      ∙ same_refusal cur new now s (slot_in cur.state.slots s) stands (ap (λ (x : State). x.grab_times) step.state) step.settings,
+          ∙ same_refusal cur new now s (slot_in cur.state.slots s) stands (ap (λ (x : State). x.grab_times) step.state) step.settings,
     )
 
 -- one slot more
@@ -105,9 +104,9 @@ one_expired settings now j old cur new (Err e) within sound seen expires =
     let not_late : IsLate old now j → ⊥ = λ late. absurd (let f = expires.1 ∙ (seen.still j (omega arith) ∙ late) in cc) in
     record {
       late = λ s below is. dite (ℕ_discrete s j) (λ (at : s ≡ j). absurd (not_late (subst (λ (k : ℕ). IsLate old now k) at is)))
-        (λ (apart : s ≢ j). ap (λ (b : Book). slot_in b.state.slots s) same ∙ seen.late s (lt_of_le-ne (omega (arith, below)) apart) is);
+          (λ (apart : s ≢ j). ap (λ (b : Book). slot_in b.state.slots s) same ∙ seen.late s (lt_of_le-ne (omega (arith, below)) apart) is);
       others = λ s below not. dite (ℕ_discrete s j) (λ (at : s ≡ j). ap (λ (b : Book). slot_in b.state.slots s) same ∙ seen.rest s (omega (arith, at)))
-        (λ (apart : s ≢ j). ap (λ (b : Book). slot_in b.state.slots s) same ∙ seen.others s (lt_of_le-ne (omega (arith, below)) apart) not);
+          (λ (apart : s ≢ j). ap (λ (b : Book). slot_in b.state.slots s) same ∙ seen.others s (lt_of_le-ne (omega (arith, below)) apart) not);
       rest = λ s above. ap (λ (b : Book). slot_in b.state.slots s) same ∙ seen.rest s (omega (arith, above));
       still = λ s above. ap (λ (b : Book). expire_refusal b (worker_of b.state s) now) same ∙ seen.still s (omega (arith, above));
     }
@@ -115,17 +114,17 @@ one_expired settings now j old cur new (Ok x) within sound seen expires =
     let step = expires.0.0 in
     let late : IsLate old now j = sym (seen.still j (omega arith)) ∙ sym expires.1 in
     let emptied : slot_in new.state.slots j ≡ Empty (last_generation (slot_in old.state.slots j)) =
-      ap (λ (x : State). slot_in x.slots j) step.state
-      ∙ (get_or-set_at cur.state.slots j j (Empty (last_generation (slot_in cur.state.slots j))) (Empty 0) refl within
-      ∙ ap (λ (x : Slot). Empty (last_generation x)) (seen.rest j (omega arith)))
+    ap (λ (x : State). slot_in x.slots j) step.state
+    ∙ (get_or-set_at cur.state.slots j j (Empty (last_generation (slot_in cur.state.slots j))) (Empty 0) refl within
+    ∙ ap (λ (x : Slot). Empty (last_generation x)) (seen.rest j (omega arith)))
     in
     record {
       late = λ s below is. dite (ℕ_discrete s j)
-        (λ (at : s ≡ j). subst (λ (k : ℕ). slot_in new.state.slots k ≡ Empty (last_generation (slot_in old.state.slots k))) (sym at) emptied)
-        (λ (apart : s ≢ j). (other_slot settings now j cur new sound step s apart).0 ∙ seen.late s (lt_of_le-ne (omega (arith, below)) apart) is);
+          (λ (at : s ≡ j). subst (λ (k : ℕ). slot_in new.state.slots k ≡ Empty (last_generation (slot_in old.state.slots k))) (sym at) emptied)
+          (λ (apart : s ≢ j). (other_slot settings now j cur new sound step s apart).0 ∙ seen.late s (lt_of_le-ne (omega (arith, below)) apart) is);
       others = λ s below not. dite (ℕ_discrete s j)
-        (λ (at : s ≡ j). absurd (not (subst (λ (k : ℕ). IsLate old now k) (sym at) late)))
-        (λ (apart : s ≢ j). (other_slot settings now j cur new sound step s apart).0 ∙ seen.others s (lt_of_le-ne (omega (arith, below)) apart) not);
+          (λ (at : s ≡ j). absurd (not (subst (λ (k : ℕ). IsLate old now k) (sym at) late)))
+          (λ (apart : s ≢ j). (other_slot settings now j cur new sound step s apart).0 ∙ seen.others s (lt_of_le-ne (omega (arith, below)) apart) not);
       rest = λ s above. (other_slot settings now j cur new sound step s (λ e. omega (arith, above, e))).0 ∙ seen.rest s (omega (arith, above));
       still = λ s above. (other_slot settings now j cur new sound step s (λ e. omega (arith, above, e))).1 ∙ seen.still s (omega (arith, above));
     }
@@ -140,9 +139,9 @@ late_seen : (now count s : ℕ) (old new : Book) → SeenTo now count old new �
     × ((IsLate old now s → ⊥) → slot_in new.state.slots s ≡ slot_in old.state.slots s)
 late_seen now count s old new seen all true below = (seen.late s (ltb-true s count below), seen.others s (ltb-true s count below))
 late_seen now count s old new seen all false above = (
-      λ late. absurd (none_past old now s (omega (arith, all, ltb-false s count above)) late),
-      λ not. seen.rest s (ltb-false s count above),
-    )
+  λ late. absurd (none_past old now s (omega (arith, all, ltb-false s count above)) late),
+  λ not. seen.rest s (ltb-false s count above),
+)
 
 -- after the last slot
 pub all_seen_to : (now count : ℕ) (old new : Book) → SeenTo now count old new → length old.state.slots ≤ count → (s : ℕ)

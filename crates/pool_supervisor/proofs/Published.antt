@@ -15,7 +15,7 @@ use Rattle.worker_state.specs.declared.slot.Slot.{Slot}
 use Rattle.worker_state.specs.declared.slot.Slot.TheVariants.{Empty}
 use Rattle.order_board.specs.declared.view.Post.{Post}
 use Rattle.order_board.specs.Posts.{posts_of}
-use Rattle.pool_core.specs.Machine.{State, slot_in}
+use Rattle.pool_core.specs.Machine.{State}
 use Rattle.pool_core.specs.Laws.{order_at}
 use Rattle.pool_supervisor.specs.Published.{ArePosted, live_order, stop_order}
 

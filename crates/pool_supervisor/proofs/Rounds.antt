@@ -45,7 +45,7 @@ since_one settings lines line before now posts = (line ∷ [], refl, (now, posts
 pub since_both : (settings : Settings) (old mid new : List Attempt) (before between now : List Post) → PostSince settings old mid before between → PostSince settings mid new between now
     → PostSince settings old new before now
 since_both settings old mid new before between now first then = (
-      first.0 ++ then.0,
-      then.1 ∙ (ap (λ (l : List Attempt). l ++ then.0) first.1 ∙ append_assoc old first.0 then.0),
-      all_and_more settings first.0 then.0 before between now first.2 then.2,
-    )
+  first.0 ++ then.0,
+  then.1 ∙ (ap (λ (l : List Attempt). l ++ then.0) first.1 ∙ append_assoc old first.0 then.0),
+  all_and_more settings first.0 then.0 before between now first.2 then.2,
+)

@@ -52,3 +52,7 @@ StopsAll settings before now = (state : State) × IsReached settings state × Ar
 abbrev pub PostAndStop : Settings → List Attempt → List Attempt → List Post → List Post → Type 0
 PostAndStop settings old new before now =
     (between : List Post) × PostSince settings old new before between × StopsAll settings between now
+
+-- The lines that a run adds tell its rounds. Its posts are those of these rounds, one after the other, and Stop at the end.
+abbrev pub TellRun : Settings → List Attempt → List Attempt → List Post → Type 0
+TellRun settings old new before = (now : List Post) × PostAndStop settings old new before now

@@ -1,7 +1,7 @@
 //! The supervisor of a run, and the steps of an attempt, one after the other.
 ghost use Rattle.std.specs.Prelude.{◌≡◌, ◌+◌, ◌<◌, ◌≤◌, IfOk, IfSome, OnOk, vec_len, vec_capacity};
 ghost use Rattle.pool_settings.specs.Slots.{slots as slot_count};
-ghost use Rattle.pool_supervisor.specs.Rounds.{PostAndStop, Posts, PostSince, StopsAll};
+ghost use Rattle.pool_supervisor.specs.Rounds.{PostAndStop, Posts, PostSince, StopsAll, TellRun};
 
 use crate::attempt::Attempt;
 use crate::crew::Crew;
@@ -266,6 +266,7 @@ impl<
         N: 's,
         L: 's,
         ensures lines { IfOk result (λ ended. vec_len ended.lines ≡ lines.rounds) }
+        ensures told { IfOk result (λ ended. TellRun N.settings lines.told.items ended.lines.items self.entry.seats.publisher.posts) }
     {
         let attempted = self.attempt_and_stop(scope, &mut lines);
         let Supervisor {
@@ -284,12 +285,15 @@ impl<
     /// The run, with its sessions as threads of one scope. All that they are lent has one lifetime.
     pub fn run(self, lines: Lines) -> Result<RunEnd, AllocError>
         ensures lines { IfOk result (λ ended. vec_len ended.lines ≡ lines.rounds) }
+        ensures told { IfOk result (λ ended. TellRun N.settings lines.told.items ended.lines.items self.entry.seats.publisher.posts) }
     {
         thread::scope(
             thread::scope_env(),
             self.site.lent.rt,
             |scope| -> Result<RunEnd, AllocError>
-                ensures { IfOk result (λ ended. vec_len ended.lines ≡ lines.rounds) }
+                ensures lines { IfOk result (λ ended. vec_len ended.lines ≡ lines.rounds) }
+                ensures told { IfOk result
+                    (λ ended. TellRun N.settings lines.told.items ended.lines.items self.entry.seats.publisher.posts) }
             { self.supervise(scope, lines) },
         )
     }

@@ -181,6 +181,7 @@ impl<N: RunId> Crew<N> {
     ) -> Option<RunEnd>
         requires board { source.old.board ≡ N.board }
         ensures lines { IfSome result (λ ended. vec_len ended.lines ≡ vec_len lines.told) }
+        ensures told { IfSome result (λ ended. ended.lines.items ≡ lines.told.items) }
     {
         while self.running.len() > 0 {
             let last = self.running.len() - 1;

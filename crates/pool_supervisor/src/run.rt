@@ -1,7 +1,8 @@
 //! A run of the pool: what it makes, and what it came to.
-ghost use Rattle.std.specs.Prelude.{◌≡◌, ◌+◌, ◌≤◌, ◌^◌, IfOk, vec_len};
+ghost use Rattle.std.specs.Prelude.{◌≡◌, ◌+◌, ◌≤◌, ◌^◌, [], IfOk, vec_len};
 ghost use Rattle.pool_settings.specs.Slots.{slots as slot_count};
 ghost use Rattle.pool_core.specs.Book.{totals_of};
+ghost use Rattle.pool_supervisor.specs.Rounds.{TellRun};
 
 use crate::attempt::Attempt;
 use crate::attempts::{Lines, Progress, Seats, Supervisor};
@@ -59,6 +60,9 @@ struct Made {
     ghost can_post: { seats.publisher.board ≡ board.id },
     ghost can_seat: { seats.source.board ≡ board.id },
     ghost room: { slot_count pool.settings ≤ board.slots },
+    /// Nothing was posted or told yet.
+    ghost none_posted: { seats.publisher.posts ≡ [] },
+    ghost none_told: { lines.told.items ≡ [] },
 }
 
 /// What the supervisor of a run is lent by its caller, beside what its sessions are.
@@ -88,6 +92,7 @@ impl<'e, L: Source + Sink + Send + Drop, Y: Dial<L>, P: Planner> Tools<'e, L, Y,
         requires grabbed { (grabbed.name ≡ N.grabs) × (grabbed.parts ≡ 2 ^ 40) }
         requires reported { (reported.name ≡ N.reports) × (reported.parts ≡ 2 ^ 40) }
         ensures lines { IfOk result (λ ended. vec_len ended.lines ≡ made.lines.rounds) }
+        ensures told { IfOk result (λ ended. TellRun made.pool.settings [] ended.lines.items []) }
     {
         let Tools {
             settings,
@@ -126,7 +131,8 @@ impl<'e, L: Source + Sink + Send + Drop, Y: Dial<L>, P: Planner> Tools<'e, L, Y,
 
 /// The lines of a run of so many attempts: none yet. The error is that memory was refused.
 fn no_lines(alloc: Global, rounds: u32) -> Result<Lines, AllocError>
-    ensures { IfOk result (λ lines. lines.rounds ≡ rounds) }
+    ensures rounds { IfOk result (λ lines. lines.rounds ≡ rounds) }
+    ensures none { IfOk result (λ lines. lines.told.items ≡ []) }
 {
     Ok(Lines {
         told: Vec::with_capacity(alloc, rounds as usize)?,
@@ -173,6 +179,7 @@ pub fn run_pool<
     rounds: u32,
 ) -> Result<RunEnd, AllocError>
     ensures lines { IfOk result (λ e. vec_len e.lines ≡ rounds) }
+    ensures told { IfOk result (λ e. TellRun settings [] e.lines.items []) }
 {
     let made = make(alloc, &settings, rounds)?;
     let tools: Tools<'_, L, Y, P> = Tools {

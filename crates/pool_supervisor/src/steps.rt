@@ -146,11 +146,7 @@ impl<'e, N: RunId> RunBoard<'e, N> {
     }
 
     /// Posts Stop to the worker of every slot.
-    pub fn stop_all(
-        &self,
-        held: &Booked<Grabs<N>, Reports<N>>,
-        publisher: &mut PublisherSeat,
-    )
+    pub fn stop_all(&self, held: &Booked<Grabs<N>, Reports<N>>, publisher: &mut PublisherSeat)
         requires own { publisher.old.board ≡ N.board }
         ensures own { publisher.new.board ≡ publisher.old.board }
         ensures posts { ArePosted (stop_order held.now.state) publisher.old.posts publisher.new.posts }

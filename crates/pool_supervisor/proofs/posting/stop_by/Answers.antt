@@ -1,4 +1,4 @@
-use Rattle.std.proofs.Common.{rules, ◌≡◌, ◌≢◌, ℕ, List, [], ◌∷◌, length, true, ap, sym, subst, arith, ◌∙◌, ◌++◌}
+use Rattle.std.proofs.Common.{◌≡◌, ◌≢◌, ℕ, List, [], ◌∷◌, length, true, ap, sym, subst, arith, ◌∙◌, ◌++◌}
 use Rattle.std.specs.Prelude.{slice_get, nat_lt, Some}
 use Rattle.std.proofs.lemmas.Bool.{lt-ltb}
 use Rattle.worker_state.specs.OrderParts.{OrderParts}
@@ -23,8 +23,8 @@ loop-number-preserved c =
     let there : nat_lt j (length state.slots) ≡ true = lt-ltb j (length state.slots) (omega (arith, c.loop-number-test.true, c.slots-number-end.ensures)) in
     let here : stop_order state j ≡ record read { what = Stop } ∷ [] = stop_here state j read there at_order in
     let posted : posts_of j next ≡ posts_of j new ++ record read { what = Stop } ∷ [] =
-      subst (λ (k : ℕ). posts_of k next ≡ posts_of k new ++ record read { what = Stop } ∷ []) is
-        (e.here ∙ ap (λ (o : OrderParts). posts_of c.new-slot.result new ++ record o { what = Stop } ∷ []) c.generation.view_is)
+    subst (λ (k : ℕ). posts_of k next ≡ posts_of k new ++ record read { what = Stop } ∷ []) is
+    (e.here ∙ ap (λ (o : OrderParts). posts_of c.new-slot.result new ++ record o { what = Stop } ∷ []) c.generation.view_is)
     in
     let others = subst (λ (k : ℕ). (s : ℕ) → s ≢ k → posts_of s next ≡ posts_of s new) is e.elsewhere in (
       e.own ∙ i.0,

@@ -1,4 +1,4 @@
-use Rattle.std.proofs.Common.{◌≡◌, ◌≤◌, ◌<◌, ◌∙◌, length, ℕ, ap, subst, arith}
+use Rattle.std.proofs.Common.{◌≤◌, ◌<◌, length, ℕ, ap, subst, arith}
 use Rattle.pool_settings.specs.Settings.{Settings}
 use Rattle.pool_settings.specs.Slots.{slots as slot_count}
 use Rattle.pool_core.specs.Calls.{Expires}
@@ -17,11 +17,11 @@ loop-number-preserved g c =
     let result = c.expire_if_late.result in
     let same = ap (λ (s : Settings). slot_count s) c.args.self.now.settings_are in
     let within : c.loop-number.number < length cur.state.slots =
-      omega (arith, c.loop-number-test.true, c.slots-number-end.ensures.all, c.facts-in-loop-number.ensures.slots, same)
+    omega (arith, c.loop-number-test.true, c.slots-number-end.ensures.all, c.facts-in-loop-number.ensures.slots, same)
     in
     let expires = subst (λ (k : ℕ). Expires (worker_of cur.state k) now cur new result) c.new.ensures c.expire_if_late.ensures in
     one_expired g.N.RunId.settings now c.loop-number.number c.args.held.now cur new result within c.facts-in-loop-number.ensures.sound
-      c.loop-number.invariant expires
+    c.loop-number.invariant expires
 
 pub returns-clause-late : goal.returns-clause-late
 returns-clause-late g c s =

@@ -1,5 +1,10 @@
-use Rattle.std.proofs.Common.{◌≤◌, subst, sym, ◌∙◌}
+use Rattle.std.proofs.Common.{◌≤◌, List, [], subst, sym, ◌∙◌}
+use Rattle.std.specs.Prelude.{IfOk}
+use Rattle.pool_settings.specs.Settings.{Settings}
 use Rattle.pool_settings.specs.Slots.{slots as slot_count}
+use Rattle.order_board.specs.declared.view.Post.{Post}
+use Rattle.pool_supervisor.specs.declared.attempt.Attempt.{Attempt}
+use Rattle.pool_supervisor.specs.Rounds.{TellRun}
 use Rattle.pool_supervisor.proofs.run.Tools.run.Goals as goal
 
 -- the pool has the settings that are lent, so the board has a place for each of their slots
@@ -10,3 +15,13 @@ invariant_of-supervisor g c =
       settings_are = c.requires.settings.0;
       room = subst (λ s. slot_count s ≤ c.args.made.board.slots) (c.requires.settings.1 ∙ sym c.requires.settings.0) c.args.made.room;
     }
+
+-- nothing was told or posted before
+pub returns-clause-told : goal.returns-clause-told
+returns-clause-told g c =
+    let settings = g.N.RunId.settings in
+    let from_first =
+    subst (λ (l : List Attempt). IfOk c.run.result (λ e. TellRun settings l e.lines.items c.args.made.seats.publisher.posts)) c.args.made.none_told c.run.ensures.told
+    in
+    let from_empty = subst (λ (p : List Post). IfOk c.run.result (λ e. TellRun settings [] e.lines.items p)) c.args.made.none_posted from_first in
+    subst (λ (s : Settings). IfOk c.run.result (λ e. TellRun s [] e.lines.items [])) (sym c.requires.settings.1) from_empty

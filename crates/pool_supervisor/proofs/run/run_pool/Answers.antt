@@ -1,0 +1,9 @@
+use Rattle.std.proofs.Common.{[], subst}
+use Rattle.std.specs.Prelude.{IfOk}
+use Rattle.pool_settings.specs.Settings.{Settings}
+use Rattle.pool_supervisor.specs.Rounds.{TellRun}
+use Rattle.pool_supervisor.proofs.run.run_pool.Goals as goal
+
+pub returns-clause-told : goal.returns-clause-told
+returns-clause-told g c =
+    subst (λ (s : Settings). IfOk c.run.result (λ e. TellRun s [] e.lines.items [])) c.in_ok-made.ensures.settings c.run.ensures.told
