@@ -7,7 +7,7 @@ use Rattle.job_runner.specs.declared.end.EndCause.TheVariants.{WriteFault, Memor
 use Rattle.job_runner.specs.declared.answering.Tally.{Tally}
 use Rattle.job_runner.specs.Book.{Ledger}
 use Rattle.job_runner.specs.Course.{Session, PortReason}
-use Rattle.job_runner.specs.Run.{Link, Reason, ReadReason}
+use Rattle.job_runner.specs.Run.{Link, NoFault, Reason, ReadReason}
 use Rattle.job_runner.specs.Loop.{IsSendFault, StepReason}
 
 pub send_reason : (generation : ℕ) (b : Ledger) (e : EndCause) → IsSendFault e → PortReason generation b e
@@ -52,29 +52,29 @@ read_reason session t b cause.Closed h = absurd h
 read_reason session t b cause.Stopped h = h
 
 -- and the session's
-pub outer_reason : (session : Session) (old new : Link) (t : Tally) (b : Ledger) (e : EndCause) → ReadReason session t b e → (e ≡ WriteFault → new.output.failures ≡ old.output.failures + 1) → Reason session old new t b e
-outer_reason session old new t b WriteFault h w = w refl
-outer_reason session old new t b Memory h w = tt
-outer_reason session old new t b cause.Retired h w = h
-outer_reason session old new t b cause.Gone h w = h
-outer_reason session old new t b cause.BadPacket h w = h
-outer_reason session old new t b cause.ServerError h w = h
-outer_reason session old new t b cause.ReadFault h w = absurd h
-outer_reason session old new t b cause.TurnsUsed h w = tt
-outer_reason session old new t b cause.HistoryFull h w = h
-outer_reason session old new t b cause.Closed h w = absurd h
-outer_reason session old new t b cause.Stopped h w = h
+pub outer_reason : (session : Session) (old new : Link) (t : Tally) (b : Ledger) (e : EndCause) → ReadReason session t b e → (e ≡ WriteFault → new.output.failures ≡ old.output.failures + 1) → (e ≡ Memory → NoFault old new) → Reason session old new t b e
+outer_reason session old new t b WriteFault h w k = w refl
+outer_reason session old new t b Memory h w k = k refl
+outer_reason session old new t b cause.Retired h w k = h
+outer_reason session old new t b cause.Gone h w k = h
+outer_reason session old new t b cause.BadPacket h w k = h
+outer_reason session old new t b cause.ServerError h w k = h
+outer_reason session old new t b cause.ReadFault h w k = absurd h
+outer_reason session old new t b cause.TurnsUsed h w k = absurd h
+outer_reason session old new t b cause.HistoryFull h w k = h
+outer_reason session old new t b cause.Closed h w k = absurd h
+outer_reason session old new t b cause.Stopped h w k = h
 
 -- a reason stands from where the link began
 pub reason_from : (session : Session) (older old new : Link) (t : Tally) (b : Ledger) (e : EndCause) → Reason session old new t b e → old.input.failures ≡ older.input.failures → old.output.failures ≡ older.output.failures → Reason session older new t b e
 reason_from session older old new t b WriteFault h r w = h ∙ ap (λ (n : ℕ). n + 1) w
-reason_from session older old new t b Memory h r w = h
+reason_from session older old new t b Memory h r w = (h.0 ∙ r, h.1 ∙ w)
 reason_from session older old new t b cause.Retired h r w = h
 reason_from session older old new t b cause.Gone h r w = h
 reason_from session older old new t b cause.BadPacket h r w = h
 reason_from session older old new t b cause.ServerError h r w = h
 reason_from session older old new t b cause.ReadFault h r w = h ∙ ap (λ (n : ℕ). n + 1) r
-reason_from session older old new t b cause.TurnsUsed h r w = h
+reason_from session older old new t b cause.TurnsUsed h r w = (h.0 ∙ r, h.1 ∙ w)
 reason_from session older old new t b cause.HistoryFull h r w = h
 reason_from session older old new t b cause.Closed h r w = h
 reason_from session older old new t b cause.Stopped h r w = h

@@ -17,7 +17,7 @@ use Rattle.job_runner.specs.declared.answering.Tally.{Tally}
 use Rattle.job_runner.specs.Book.{Ledger}
 use Rattle.job_runner.specs.Course.{Duty, session_of, Ends, GoesOnOrEnds, PortReason, known, IsServing}
 use Rattle.job_runner.specs.Listening.{SaysFirst, IsReadEnd}
-use Rattle.job_runner.specs.Run.{AreAnswered, Acts, Link, Reason, ReadReason}
+use Rattle.job_runner.specs.Run.{AreAnswered, Acts, Link, NoFault, Reason, ReadReason}
 use Rattle.job_runner.specs.Loop.{StepReason, Stands, Halts}
 use Rattle.byte_io.specs.Sides.{and_then}
 use Rattle.job_runner.specs.Path.{IsWaitEnd, Went, Ended, place_of}
@@ -192,10 +192,10 @@ stands_halts duty before read old r s b reason st is no-fault = halts_at_rest du
 pub glanced : (duty : Duty) (before : Option (List ℕ)) (read : List ℕ) (out : Option (List ℕ)) (given : List Message) (r : Reading) (s : State) (b : Ledger) (old new : Link) (res : Result (Unit {0}) EndCause) → reading read ≡ behind given r
     → (more : List ℕ) × (out ≡ and_then before more) × Acts duty more (assignments_in given) s b res
     → GoesOnOrEnds (Went duty before out given b (place_of s)) (Ended (session_of duty before read) out b) res
-    → IfErr res (PortReason duty.generation b) → (res ≡ Err WriteFault → new.output.failures ≡ old.output.failures + 1)
+    → IfErr res (PortReason duty.generation b) → (res ≡ Err WriteFault → new.output.failures ≡ old.output.failures + 1) → (res ≡ Err Memory → NoFault old new)
     → GoesOnOrEnds (Stands (session_of duty before read) out r s b) (λ (e : EndCause). Halts (session_of duty before read) out s.tally b e × Reason (session_of duty before read) old new s.tally b e) res
-glanced duty before read out given r s b old new (Ok u) heard h gone reason fault = record { bytes = h.0; given = given; at = h.1; rests = record { heard = heard; holds = h.2 }; went = gone }
-glanced duty before read out given r s b old new (Err e) heard h gone reason fault = (
+glanced duty before read out given r s b old new (Ok u) heard h gone reason fault none = record { bytes = h.0; given = given; at = h.1; rests = record { heard = heard; holds = h.2 }; went = gone }
+glanced duty before read out given r s b old new (Err e) heard h gone reason fault none = (
   record {
     bytes = h.0;
     at = h.1;
@@ -203,23 +203,24 @@ glanced duty before read out given r s b old new (Err e) heard h gone reason fau
     ended = gone;
   },
   outer_reason (session_of duty before read) old new s.tally b e (read_reason (session_of duty before read) s.tally b e reason)
-      (λ (x : e ≡ WriteFault). fault (ap (λ (y : EndCause). let z : Result (Unit {0}) EndCause = Err y in z) x)),
+      (λ (x : e ≡ WriteFault). fault (ap (λ (y : EndCause). let z : Result (Unit {0}) EndCause = Err y in z) x))
+      (λ (x : e ≡ Memory). none (ap (λ (y : EndCause). let z : Result (Unit {0}) EndCause = Err y in z) x)),
 )
 
 -- an end at a read
 pub read_ended : (duty : Duty) (before : Option (List ℕ)) (bytes read : List ℕ) (out : Option (List ℕ)) (given : List Message) (s : State) (b : Ledger) (old new : Link) (e : EndCause) → out ≡ and_then before bytes → AreAnswered duty bytes (assignments_in given) s b → Went duty before out given b (place_of s) → SaysFirst read given → IsReadEnd e
-    → (e ≡ cause.Closed → new.input.has_ended ≡ true) → (e ≡ cause.ReadFault → new.input.failures ≡ old.input.failures + 1) → Halts (session_of duty before read) out s.tally b e × Reason (session_of duty before read) old new s.tally b e
-read_ended duty before bytes read out given s b old new cause.Closed at holds went says is closed failed = (halts_at_rest duty before bytes read out given s b cause.Closed at holds went tt says (λ e. cc), closed refl)
-read_ended duty before bytes read out given s b old new cause.ReadFault at holds went says is closed failed = (halts_at_rest duty before bytes read out given s b cause.ReadFault at holds went tt says (λ e. cc), failed refl)
-read_ended duty before bytes read out given s b old new Memory at holds went says is closed failed = (halts_at_rest duty before bytes read out given s b Memory at holds went tt says (λ e. cc), tt)
-read_ended duty before bytes read out given s b old new WriteFault at holds went says is closed failed = absurd is
-read_ended duty before bytes read out given s b old new cause.Retired at holds went says is closed failed = absurd is
-read_ended duty before bytes read out given s b old new cause.Gone at holds went says is closed failed = absurd is
-read_ended duty before bytes read out given s b old new cause.BadPacket at holds went says is closed failed = absurd is
-read_ended duty before bytes read out given s b old new cause.ServerError at holds went says is closed failed = absurd is
-read_ended duty before bytes read out given s b old new cause.TurnsUsed at holds went says is closed failed = absurd is
-read_ended duty before bytes read out given s b old new cause.HistoryFull at holds went says is closed failed = absurd is
-read_ended duty before bytes read out given s b old new cause.Stopped at holds went says is closed failed = absurd is
+    → (e ≡ cause.Closed → new.input.has_ended ≡ true) → (e ≡ cause.ReadFault → new.input.failures ≡ old.input.failures + 1) → (e ≡ Memory → NoFault old new) → Halts (session_of duty before read) out s.tally b e × Reason (session_of duty before read) old new s.tally b e
+read_ended duty before bytes read out given s b old new cause.Closed at holds went says is closed failed none = (halts_at_rest duty before bytes read out given s b cause.Closed at holds went tt says (λ e. cc), closed refl)
+read_ended duty before bytes read out given s b old new cause.ReadFault at holds went says is closed failed none = (halts_at_rest duty before bytes read out given s b cause.ReadFault at holds went tt says (λ e. cc), failed refl)
+read_ended duty before bytes read out given s b old new Memory at holds went says is closed failed none = (halts_at_rest duty before bytes read out given s b Memory at holds went tt says (λ e. cc), none refl)
+read_ended duty before bytes read out given s b old new WriteFault at holds went says is closed failed none = absurd is
+read_ended duty before bytes read out given s b old new cause.Retired at holds went says is closed failed none = absurd is
+read_ended duty before bytes read out given s b old new cause.Gone at holds went says is closed failed none = absurd is
+read_ended duty before bytes read out given s b old new cause.BadPacket at holds went says is closed failed none = absurd is
+read_ended duty before bytes read out given s b old new cause.ServerError at holds went says is closed failed none = absurd is
+read_ended duty before bytes read out given s b old new cause.TurnsUsed at holds went says is closed failed none = absurd is
+read_ended duty before bytes read out given s b old new cause.HistoryFull at holds went says is closed failed none = absurd is
+read_ended duty before bytes read out given s b old new cause.Stopped at holds went says is closed failed none = absurd is
 
 -- ---- the start
 

@@ -1,5 +1,5 @@
 -- What a session does at a message and at a timeout, by what it waits for.
-use Rattle.std.specs.Prelude.{◌≡◌, ◌≢◌, ◌⊎◌, ℕ, ◌<◌, List, [], ◌∷◌, length, take, Option, Result, Ok, Err}
+use Rattle.std.specs.Prelude.{◌≡◌, ◌≢◌, ◌⊎◌, ℕ, ◌<◌, List, [], ◌∷◌, length, take, Option, Some, Result, Ok, Err}
 use Rattle.gear_packets.specs.Request.{Packet, pre_sleep, set_client_id}
 use Rattle.gear_packets.specs.Response.{AssignedJob, Message, noop, no_job, assign, server_error, other}
 use Rattle.gear_packets.specs.Text.{text_of}
@@ -12,6 +12,8 @@ use Rattle.job_runner.specs.declared.order.Phase.{Phase}
 use Rattle.job_runner.specs.declared.order.Phase.TheVariants.{Waiting, Asleep}
 use Rattle.job_runner.specs.declared.state.State.{State}
 use Rattle.job_runner.specs.declared.worker.Worker.{Worker}
+use Rattle.job_runner.specs.declared.port.PortAnswer.{PortAnswer}
+use Rattle.job_runner.specs.declared.port.PortAnswer.TheVariants as port
 use Rattle.job_runner.specs.Told.{Told, reply}
 use Rattle.job_runner.specs.Book.{Ledger, after_order}
 use Rattle.job_runner.specs.Course.{GoesOnOrEnds, IsStop, Sends}
@@ -75,6 +77,14 @@ Replies old new packets (Err cause.Gone) = (new ≡ old) ⊎ (new ≡ and_then o
 Replies old new packets (Err cause.HistoryFull) = new ≡ old
 Replies old new packets (Err Memory) = new ≡ old
 Replies old new packets (Err reason) = ⊥
+
+-- What a port answered last is told as what it was: a refusal, or that the worker retires, ends the session for that cause.
+abbrev pub TellsAnswer : Option PortAnswer → Result (Unit {0}) EndCause → Type 0
+TellsAnswer (Some port.Gone) result = result ≡ Err cause.Gone
+TellsAnswer (Some port.HistoryFull) result = result ≡ Err cause.HistoryFull
+TellsAnswer (Some port.Memory) result = result ≡ Err Memory
+TellsAnswer (Some port.Retire) result = result ≡ Err cause.Retired
+TellsAnswer last result = Unit {0}
 
 -- A job was answered, and behind its reply an order was read and followed, unless the answer ended the session.
 pub record Serves {J : Type 0} (told : List ℕ → List ℕ → Option Told) (worker : Worker J) (job : AssignedJob) (old new : Moment)

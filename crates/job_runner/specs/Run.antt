@@ -46,11 +46,17 @@ pub record Link : Type 0 where
 abbrev pub seen_link : {D : Type 0} → (D → Input) → (D → Output) → D → Link
 seen_link input output device = record { input = input device; output = output device }
 
--- A step that writes and does not read leaves the input as it was. A write fails only where the step ends as WriteFault, and once then.
+-- A step that writes and does not read leaves the input as it was. A write fails only where the step ends as WriteFault, and once then; it
+-- is never told as want of memory.
 pub record LinkKept {T : Type 0} (old new : Link) (result : Result T EndCause) : Type 0 where
   pub input : new.input ≡ old.input
   pub no_failure : OnOk result (new.output.failures ≡ old.output.failures)
   pub write_fault : result ≡ Err cause.WriteFault → new.output.failures ≡ old.output.failures + 1
+  pub memory : result ≡ Err cause.Memory → new.output.failures ≡ old.output.failures
+
+-- no read failed, and no write
+abbrev pub NoFault : Link → Link → Type 0
+NoFault old new = (new.input.failures ≡ old.input.failures) × (new.output.failures ≡ old.output.failures)
 
 -- Why a session ends at what was read, or at its port, by its counts and its port's book then.
 abbrev pub ReadReason : Session → Tally → Ledger → EndCause → Type 0
@@ -64,7 +70,8 @@ abbrev pub Reason : Session → Link → Link → Tally → Ledger → EndCause 
 Reason session old new tally book cause.Closed = new.input.has_ended ≡ true
 Reason session old new tally book cause.ReadFault = new.input.failures ≡ old.input.failures + 1
 Reason session old new tally book cause.WriteFault = new.output.failures ≡ old.output.failures + 1
-Reason session old new tally book cause.TurnsUsed = Unit {0}
+Reason session old new tally book cause.TurnsUsed = NoFault old new
+Reason session old new tally book cause.Memory = NoFault old new
 Reason session old new tally book other = ReadReason session tally book other
 
 -- no call of `lose`, or one with this cause

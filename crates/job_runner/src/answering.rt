@@ -9,7 +9,7 @@ ghost use Rattle.job_runner.specs.Book.{Ledger};
 ghost use Rattle.job_runner.specs.Told.{reply, told_of};
 ghost use Rattle.job_runner.specs.Course.{Duty, Wrote, Even, Ends, GoesOnOrEnds, PortReason, CanCount, CanBook};
 ghost use Rattle.job_runner.specs.Run.{LinkKept, seen_link};
-ghost use Rattle.job_runner.specs.Acting.{Replies};
+ghost use Rattle.job_runner.specs.Acting.{Replies, TellsAnswer};
 
 use crate::end::EndCause;
 use crate::job::Outcome;
@@ -66,6 +66,7 @@ pub fn answer<L: Sink, P: PoolPort, J: Jobs>(
         (Ends duty more (done ++ job_of job ∷ []) tally.new (P.book port.new)) result }
     ensures replies { Replies (L.output link.old).got (L.output link.new).got
         (reply (J.told worker.now.place.jobs.now) (job_of job)) result }
+    ensures tells { TellsAnswer (P.book port.new).last_answer result }
     ensures orders { (P.book port.new).orders ≡ (P.book port.old).orders }
     ensures reason { IfErr result (PortReason worker.now.pass.now.generation (P.book port.new)) }
     ensures link { LinkKept (seen_link L.input L.output link.old) (seen_link L.input L.output link.new) result }

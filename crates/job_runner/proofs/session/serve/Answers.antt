@@ -26,7 +26,8 @@ returns-in-Err-clause-ran g c =
         begun_halts duty _ _ _ _ c.in-Err.cause left
             (begun_gone told c.args.worker.now (moment c.args.state.now old.output.got (g.P.PoolPort.book c.args.port.now)) (moment c.begin.new.state new.output.got (g.P.PoolPort.book c.begin.new.port)) (Err c.in-Err.cause) c.requires.first c.requires.fresh c.in-Err.ensures.begins says_nothing),
         outer_reason (session_of duty old.output.got []) old new c.begin.new.state.tally (g.P.PoolPort.book c.begin.new.port) c.in-Err.cause (read_reason (session_of duty old.output.got []) c.begin.new.state.tally (g.P.PoolPort.book c.begin.new.port) c.in-Err.cause c.in-Err.ensures.reason)
-            (λ x. c.in-Err.ensures.link.write_fault (ap (λ (y : EndCause). let z : Result (Unit {0}) EndCause = Err y in z) x)),
+            (λ x. c.in-Err.ensures.link.write_fault (ap (λ (y : EndCause). let z : Result (Unit {0}) EndCause = Err y in z) x))
+            (λ x. (ap (λ (i : Input). i.failures) c.begin.ensures.link.input, c.in-Err.ensures.link.memory (ap (λ (y : EndCause). let z : Result (Unit {0}) EndCause = Err y in z) x))),
       ),
     )
 
@@ -84,7 +85,7 @@ returns-in-Ok-drain-clause-ran g c =
     let before = (g.L.Device.output c.args.link.now).got in
     let now = c.loop-made.invariant.stands in
     let left = c.in-Ok-drain.ensures.leaves before now.0 now.3 in
-    (now.0, ap (λ (i : Input). i.given) c.drain.ensures.link.input ∙ now.1, (stands_halts duty before now.0 _ _ c.drain.new.state _ TurnsUsed left tt (λ e. cc), tt))
+    (now.0, ap (λ (i : Input). i.given) c.drain.ensures.link.input ∙ now.1, (stands_halts duty before now.0 _ _ c.drain.new.state _ TurnsUsed left tt (λ e. cc), (ap (λ (i : Input). i.failures) c.drain.ensures.link.input ∙ c.loop-made.invariant.read_failures, c.in-Ok-drain.ensures.link.no_failure ∙ c.loop-made.invariant.write_failures)))
 
 pub returns-clause-ran : goal.returns-clause-ran
 returns-clause-ran g c =
@@ -94,7 +95,7 @@ returns-clause-ran g c =
     let new : Link = record { input = g.L.Device.input c.drain.new.link; output = g.L.Device.output c.drain.new.link } in
     let now = c.loop-made.invariant.stands in
     let left = c.in-Err-drain.ensures.leaves before now.0 now.3 in
-    (now.0, ap (λ (i : Input). i.given) c.drain.ensures.link.input ∙ now.1, (left, outer_reason (session_of duty before now.0) old new c.drain.new.state.tally (g.P.PoolPort.book c.drain.new.port) c.in-Err-drain.cause (c.in-Err-drain.ensures.reason before now.0 now.3) (λ x. c.in-Err-drain.ensures.link.write_fault (ap (λ (y : EndCause). let z : Result (Unit {0}) EndCause = Err y in z) x) ∙ ap (λ (n : ℕ). n + 1) c.loop-made.invariant.write_failures)))
+    (now.0, ap (λ (i : Input). i.given) c.drain.ensures.link.input ∙ now.1, (left, outer_reason (session_of duty before now.0) old new c.drain.new.state.tally (g.P.PoolPort.book c.drain.new.port) c.in-Err-drain.cause (c.in-Err-drain.ensures.reason before now.0 now.3) (λ x. c.in-Err-drain.ensures.link.write_fault (ap (λ (y : EndCause). let z : Result (Unit {0}) EndCause = Err y in z) x) ∙ ap (λ (n : ℕ). n + 1) c.loop-made.invariant.write_failures) (λ x. (ap (λ (i : Input). i.failures) c.drain.ensures.link.input ∙ c.loop-made.invariant.read_failures, c.in-Err-drain.ensures.link.memory (ap (λ (y : EndCause). let z : Result (Unit {0}) EndCause = Err y in z) x) ∙ c.loop-made.invariant.write_failures))))
 
 pub drain-requires-clause-stands : goal.drain-requires-clause-stands
 drain-requires-clause-stands g c =

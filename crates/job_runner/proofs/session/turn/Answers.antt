@@ -1,4 +1,4 @@
-use Rattle.std.proofs.Common.{ℕ, ◌+◌, Result, Err, refl, ap, ◌∙◌, arith}
+use Rattle.std.proofs.Common.{ℕ, ◌+◌, Result, Err, refl, ap, ◌∙◌, arith, add-zero}
 use Rattle.gear_packets.specs.Text.{assignments_in, Reading}
 use Rattle.byte_io.specs.Sides.{Input, Output}
 use Rattle.job_runner.specs.declared.end.EndCause.{EndCause}
@@ -18,7 +18,7 @@ returns-in-Err-clause-turns g c = λ before start read at stands.
     let left = c.in-Err.ensures.leaves before read stands in
     let old : Link = record { input = g.L.Device.input c.args.link.now; output = g.L.Device.output c.args.link.now } in
     let new : Link = record { input = g.L.Device.input c.drain.new.link; output = g.L.Device.output c.drain.new.link } in
-    (read, ap (λ (i : Input). i.given) c.drain.ensures.link.input ∙ at, omega arith, (left, outer_reason (session_of duty before read) old new c.drain.new.state.tally (g.P.PoolPort.book c.drain.new.port) c.in-Err.cause (c.in-Err.ensures.reason before read stands) (λ x. c.in-Err.ensures.link.write_fault (ap (λ (y : EndCause). let z : Result (Unit {0}) EndCause = Err y in z) x))))
+    (read, ap (λ (i : Input). i.given) c.drain.ensures.link.input ∙ at, omega arith, (left, outer_reason (session_of duty before read) old new c.drain.new.state.tally (g.P.PoolPort.book c.drain.new.port) c.in-Err.cause (c.in-Err.ensures.reason before read stands) (λ x. c.in-Err.ensures.link.write_fault (ap (λ (y : EndCause). let z : Result (Unit {0}) EndCause = Err y in z) x)) (λ x. (ap (λ (i : Input). i.failures) c.drain.ensures.link.input, c.in-Err.ensures.link.memory (ap (λ (y : EndCause). let z : Result (Unit {0}) EndCause = Err y in z) x)))))
 
 pub returns-in-Ok-Piece-clause-turns : goal.returns-in-Ok-Piece-clause-turns
 returns-in-Ok-Piece-clause-turns g c = λ before start read at stands.
@@ -43,7 +43,8 @@ returns-in-Ok-Lull-clause-turns g c = λ before start read at stands.
           (glance_gone (g.J.Jobs.told c.args.worker.now.place.jobs.now) c.args.worker.now before heard.0
           (moment c.drain.new.state (g.L.Device.output c.hear.new.link).got (g.P.PoolPort.book c.drain.new.port)) (moment c.glance.new.state (g.L.Device.output c.glance.new.link).got (g.P.PoolPort.book c.glance.new.port))
           st.given _ c.glance.result c.glance.ensures.glances (went_at duty before _ _ st.given _ _ (ap (λ (o : Output). o.got) c.in-Ok-Lull.ensures.output) st.went) (ap (λ (x : Reading). x.messages) heard.3))
-          c.glance.ensures.reason (λ x. c.glance.ensures.link.write_fault x ∙ ap (λ (n : ℕ). n + 1) (same ∙ c.in-Ok.ensures.link.no_failure)),
+          c.glance.ensures.reason (λ x. c.glance.ensures.link.write_fault x ∙ ap (λ (n : ℕ). n + 1) (same ∙ c.in-Ok.ensures.link.no_failure))
+          (λ x. (ap (λ (i : Input). i.failures) c.glance.ensures.link.input ∙ c.in-Ok-Lull.ensures.failures ∙ add-zero (g.L.Device.input c.drain.new.link).failures ∙ ap (λ (i : Input). i.failures) c.drain.ensures.link.input, c.glance.ensures.link.memory x ∙ same ∙ c.in-Ok.ensures.link.no_failure)),
     )
 
 pub returns-in-Err-hear-clause-turns : goal.returns-in-Err-hear-clause-turns
@@ -59,5 +60,6 @@ returns-in-Err-hear-clause-turns g c = λ before start read at stands.
       omega (arith, heard.2, c.requires.room),
       read_ended duty before st.bytes heard.0 _ st.given c.drain.new.state _ old new c.in-Err-hear.cause (ap (λ (o : Output). o.got) c.in-Err-hear.ensures.output ∙ st.at) st.rests.holds (went_at duty before _ _ st.given _ _ (ap (λ (o : Output). o.got) c.in-Err-hear.ensures.output) st.went) heard.3 c.in-Err-hear.ensures.causes
           (λ x. c.in-Err-hear.ensures.ended ∙ ap (λ (y : EndCause). finds_end (Err y)) x)
-          (λ x. c.in-Err-hear.ensures.failures ∙ ap (λ (y : EndCause). (g.L.Device.input c.drain.new.link).failures + read_failures (Err y)) x ∙ ap (λ (n : ℕ). n + 1) same),
+          (λ x. c.in-Err-hear.ensures.failures ∙ ap (λ (y : EndCause). (g.L.Device.input c.drain.new.link).failures + read_failures (Err y)) x ∙ ap (λ (n : ℕ). n + 1) same)
+          (λ x. (c.in-Err-hear.ensures.failures ∙ ap (λ (y : EndCause). (g.L.Device.input c.drain.new.link).failures + read_failures (Err y)) x ∙ add-zero (g.L.Device.input c.drain.new.link).failures ∙ same, ap (λ (o : Output). o.failures) c.in-Err-hear.ensures.output ∙ c.in-Ok.ensures.link.no_failure)),
     )
