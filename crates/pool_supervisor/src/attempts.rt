@@ -1,6 +1,7 @@
 //! The supervisor of a run, and the steps of an attempt, one after the other.
 ghost use Rattle.std.specs.Prelude.{◌≡◌, ◌+◌, ◌<◌, ◌≤◌, IfOk, IfSome, OnOk, vec_len, vec_capacity};
 ghost use Rattle.pool_settings.specs.Slots.{slots as slot_count};
+ghost use Rattle.pool_supervisor.specs.Counted.{CountAHistory};
 ghost use Rattle.pool_supervisor.specs.Rounds.{PostAndStop, Posts, PostSince, StopsAll, TellRun};
 
 use crate::attempt::Attempt;
@@ -267,6 +268,7 @@ impl<
         L: 's,
         ensures lines { IfOk result (λ ended. vec_len ended.lines ≡ lines.rounds) }
         ensures told { IfOk result (λ ended. TellRun N.settings lines.told.items ended.lines.items self.entry.seats.publisher.posts) }
+        ensures counts { IfOk result (λ ended. CountAHistory N.settings ended.totals) }
     {
         let attempted = self.attempt_and_stop(scope, &mut lines);
         let Supervisor {
@@ -286,6 +288,7 @@ impl<
     pub fn run(self, lines: Lines) -> Result<RunEnd, AllocError>
         ensures lines { IfOk result (λ ended. vec_len ended.lines ≡ lines.rounds) }
         ensures told { IfOk result (λ ended. TellRun N.settings lines.told.items ended.lines.items self.entry.seats.publisher.posts) }
+        ensures counts { IfOk result (λ ended. CountAHistory N.settings ended.totals) }
     {
         thread::scope(
             thread::scope_env(),
@@ -294,6 +297,7 @@ impl<
                 ensures lines { IfOk result (λ ended. vec_len ended.lines ≡ lines.rounds) }
                 ensures told { IfOk result
                     (λ ended. TellRun N.settings lines.told.items ended.lines.items self.entry.seats.publisher.posts) }
+                ensures counts { IfOk result (λ ended. CountAHistory N.settings ended.totals) }
             { self.supervise(scope, lines) },
         )
     }

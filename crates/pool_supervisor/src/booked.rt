@@ -187,6 +187,7 @@ impl<G: RunLedger, D: Ledger> Booked<G, D> {
     pub fn settle(&mut self, grabbed: &mut Share<G>, reported: &mut Share<D>) -> Totals
         ensures same { self.new ≡ self.old }
         ensures totals { result ≡ totals_of self.old }
+        ensures settings { self.old.settings ≡ G.settings }
         ensures events { CountsItsEvents self.old result }
         ensures accounts { result.grabbed ≡ result.running + result.reported + result.lost }
         ensures grabs_kept { (grabbed.new.amount ≡ grabbed.old.amount) × (grabbed.new.parts ≡ grabbed.old.parts) }

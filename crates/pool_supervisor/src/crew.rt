@@ -1,6 +1,7 @@
 //! The sessions of a run: started as threads, and joined as they end.
 ghost use Rattle.std.specs.Prelude.{◌≡◌, ◌+◌, ◌-◌, ◌<◌, ◌≤◌, ◌^◌, IfSome, OnOk, vec_len};
 ghost use Rattle.pool_settings.specs.Slots.{slots as slot_count};
+ghost use Rattle.pool_supervisor.specs.Counted.{CountAHistory};
 
 use crate::attempts::Lines;
 use crate::ends::EndCounts;
@@ -182,6 +183,7 @@ impl<N: RunId> Crew<N> {
         requires board { source.old.board ≡ N.board }
         ensures lines { IfSome result (λ ended. vec_len ended.lines ≡ vec_len lines.told) }
         ensures told { IfSome result (λ ended. ended.lines.items ≡ lines.told.items) }
+        ensures counts { IfSome result (λ ended. CountAHistory N.settings ended.totals) }
     {
         while self.running.len() > 0 {
             let last = self.running.len() - 1;

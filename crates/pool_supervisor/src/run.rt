@@ -2,6 +2,7 @@
 ghost use Rattle.std.specs.Prelude.{◌≡◌, ◌+◌, ◌≤◌, ◌^◌, [], IfOk, vec_len};
 ghost use Rattle.pool_settings.specs.Slots.{slots as slot_count};
 ghost use Rattle.pool_core.specs.Book.{totals_of};
+ghost use Rattle.pool_supervisor.specs.Counted.{CountAHistory};
 ghost use Rattle.pool_supervisor.specs.Rounds.{TellRun};
 
 use crate::attempt::Attempt;
@@ -93,6 +94,7 @@ impl<'e, L: Source + Sink + Send + Drop, Y: Dial<L>, P: Planner> Tools<'e, L, Y,
         requires reported { (reported.name ≡ N.reports) × (reported.parts ≡ 2 ^ 40) }
         ensures lines { IfOk result (λ ended. vec_len ended.lines ≡ made.lines.rounds) }
         ensures told { IfOk result (λ ended. TellRun made.pool.settings [] ended.lines.items []) }
+        ensures counts { IfOk result (λ ended. CountAHistory made.pool.settings ended.totals) }
     {
         let Tools {
             settings,
@@ -180,6 +182,7 @@ pub fn run_pool<
 ) -> Result<RunEnd, AllocError>
     ensures lines { IfOk result (λ e. vec_len e.lines ≡ rounds) }
     ensures told { IfOk result (λ e. TellRun settings [] e.lines.items []) }
+    ensures counts { IfOk result (λ e. CountAHistory settings e.totals) }
 {
     let made = make(alloc, &settings, rounds)?;
     let tools: Tools<'_, L, Y, P> = Tools {

@@ -4,6 +4,7 @@ use Rattle.pool_settings.specs.Settings.{Settings}
 use Rattle.pool_settings.specs.Slots.{slots as slot_count}
 use Rattle.order_board.specs.declared.view.Post.{Post}
 use Rattle.pool_supervisor.specs.declared.attempt.Attempt.{Attempt}
+use Rattle.pool_supervisor.specs.Counted.{CountAHistory}
 use Rattle.pool_supervisor.specs.Rounds.{TellRun}
 use Rattle.pool_supervisor.proofs.run.Tools.run.Goals as goal
 
@@ -25,3 +26,7 @@ returns-clause-told g c =
     in
     let from_empty = subst (λ (p : List Post). IfOk c.run.result (λ e. TellRun settings [] e.lines.items p)) c.args.made.none_posted from_first in
     subst (λ (s : Settings). IfOk c.run.result (λ e. TellRun s [] e.lines.items [])) (sym c.requires.settings.1) from_empty
+
+pub returns-clause-counts : goal.returns-clause-counts
+returns-clause-counts g c =
+    subst (λ (s : Settings). IfOk c.run.result (λ e. CountAHistory s e.totals)) (sym c.requires.settings.1) c.run.ensures.counts
