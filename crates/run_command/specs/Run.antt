@@ -1,17 +1,19 @@
 -- What `run` writes, and how it ends.
-use Rattle.std.specs.Prelude.{◌≡◌, ◌⊎◌, ℕ, ◌+◌, List, [], ◌∷◌, ◌++◌, Bool, true, false, Err, codes, length, nat_lt, if◌then◌else◌}
+use Rattle.std.specs.Prelude.{◌≡◌, ◌⊎◌, ℕ, ◌+◌, List, [], ◌∷◌, ◌++◌, Bool, true, false, Ok, Err, codes, length, nat_lt, if◌then◌else◌}
 use Rattle.std.specs.Fmt.{decimal}
 use Rattle.std.specs.List.{list_any}
 use Rattle.byte_io.specs.Sides.{Output}
 use Rattle.plan_commands.specs.Ending.{Delivers, Stops}
 use Rattle.plan_commands.specs.Fault.{answered}
-use Rattle.plan_commands.specs.Posing.{HaveMeaning}
 use Rattle.plan_commands.specs.declared.ending.Exit.{Exit}
 use Rattle.plan_commands.specs.declared.fault.Fault.{Fault}
 use Rattle.plan_commands.specs.declared.fault.Fault.TheVariants as fault
 use Rattle.pool_core.specs.Totals.{totals_line}
 use Rattle.pool_settings.specs.Reading.{reading}
+use Rattle.pool_settings.specs.Settings.{Settings}
+use Rattle.pool_supervisor.specs.Counted.{CountAHistory}
 use Rattle.pool_supervisor.specs.Lines.{attempt_line}
+use Rattle.pool_supervisor.specs.Rounds.{TellRun}
 use Rattle.pool_supervisor.specs.declared.attempt.Attempt.{Attempt}
 use Rattle.pool_supervisor.specs.declared.attempt.Attempt.TheVariants.{NoPlan}
 use Rattle.pool_supervisor.specs.declared.run.RunEnd.{RunEnd}
@@ -43,10 +45,17 @@ IsKeptFrom settings_text (fault.Settings e) = reading settings_text ≡ Err e
 IsKeptFrom settings_text fault.Memory = Unit {0}
 IsKeptFrom settings_text other = ⊥
 
+-- The text means settings, and a run by them came to this: its lines tell rounds of histories of these settings, and its totals count the
+-- grabs and the reports of one.
+abbrev pub IsRunBy : List ℕ → RunEnd → Type 0
+IsRunBy settings_text ended =
+    (settings : Settings) × (reading settings_text ≡ Ok settings) × TellRun settings [] ended.lines.items []
+    × CountAHistory settings ended.totals
+
 -- The settings mean something, a run by them ended after so many attempts, and what it came to is written. Or it is kept from that by a
 -- fault, and nothing is written.
 abbrev pub Supervises : List ℕ → ℕ → Output → Output → Exit → Type 0
 Supervises settings_text rounds old new exit =
-    (HaveMeaning settings_text × ((ended : RunEnd) × (length ended.lines.items ≡ rounds)
-    × Delivers (run_text ended) (answered (status_after ended.lines.items)) old new exit))
+    ((ended : RunEnd) × IsRunBy settings_text ended × (length ended.lines.items ≡ rounds)
+    × Delivers (run_text ended) (answered (status_after ended.lines.items)) old new exit)
     ⊎ ((f : Fault) × IsKeptFrom settings_text f × Stops f old new exit)

@@ -1,7 +1,8 @@
 //! The command `run`: from a settings text to what a run of the pool came to.
 
-ghost use Rattle.std.specs.Prelude.{◌≡◌, ◌-◌, ◌^◌, ◌<◌, IfErr, IfOk, length, string_bytes};
-ghost use Rattle.plan_commands.specs.Posing.{HaveMeaning};
+ghost use Rattle.std.specs.Prelude.{◌≡◌, ◌-◌, ◌^◌, ◌<◌, IfErr, IfOk, [], length, string_bytes};
+ghost use Rattle.pool_supervisor.specs.Counted.{CountAHistory};
+ghost use Rattle.pool_supervisor.specs.Rounds.{TellRun};
 ghost use Rattle.run_command.specs.Run as spec;
 
 use crate::host::{Host, Route};
@@ -20,7 +21,9 @@ fn run_stock<H: Host>(
     settings: Settings,
     rounds: u32,
 ) -> Result<RunEnd, AllocError>
-    ensures { IfOk result (λ ended. length ended.lines.items ≡ rounds) }
+    ensures lines { IfOk result (λ ended. length ended.lines.items ≡ rounds) }
+    ensures told { IfOk result (λ ended. TellRun settings [] ended.lines.items []) }
+    ensures counts { IfOk result (λ ended. CountAHistory settings ended.totals) }
 {
     let jobs = stock_jobs(alloc)?;
     let route = Route {
@@ -46,7 +49,7 @@ fn run_told<H: Host>(
     settings_text: &[u8],
     rounds: u32,
 ) -> Result<Told, Fault>
-    ensures meant { IfOk result (λ _. HaveMeaning settings_text.now) }
+    ensures run { IfOk result (λ told. spec.IsRunBy settings_text.now told.ended) }
     ensures lines { IfOk result (λ told. length told.ended.lines.items ≡ rounds) }
     ensures text { IfOk result (λ told. string_bytes told.text ≡ spec.run_text told.ended) }
     ensures kept { IfErr result (spec.IsKeptFrom settings_text.now) }

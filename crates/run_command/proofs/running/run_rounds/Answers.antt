@@ -14,7 +14,9 @@ returns-in-Ok g c =
     let exit = c.answered-done.ensures ∙ ap answered (c.status_after.ensures ∙ ap status_after c.deref.ensures.value) in
     let written = subst (λ t. Delivers t c.answered-done.result old new c.deliver.result) text c.deliver.ensures.delivers in record {
       supervises = inl (
-        c.in-Ok.ensures.meant,
-        (told.ended, c.in-Ok.ensures.lines, subst (λ e. Delivers (run_text told.ended) e old new c.deliver.result) exit written),
+        told.ended,
+        c.in-Ok.ensures.run,
+        c.in-Ok.ensures.lines,
+        subst (λ e. Delivers (run_text told.ended) e old new c.deliver.result) exit written,
       );
     }
