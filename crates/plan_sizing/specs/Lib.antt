@@ -1,0 +1,3 @@
+pub mod Sizing
+pub mod Shown
+pub mod Flaws
