@@ -135,10 +135,10 @@ marks-marked place (suc n) =
     let p : ℕ → Bool = λ f. ltb 0 (get_or place f 0) in
     ap (λ xs. xs ++ cond (p n) (n ∷ []) []) (marks-marked place n) ∙ sym (filter-append p (range_with_len 0 n) (n ∷ [])) ∙ ap (filter p) (sym (range_more 0 n n (omega arith)))
 
-marked-rises : (place : List ℕ) (n : ℕ) → IsStrictlyIncreasing (marked place n)
+pub marked-rises : (place : List ℕ) (n : ℕ) → IsStrictlyIncreasing (marked place n)
 marked-rises place n = IsStrictlyIncreasing-filter (λ f. ltb 0 (get_or place f 0)) (range_with_len 0 n) (range-rises n)
 
-marked-below : (place : List ℕ) (n : ℕ) → All (λ f. f < n) (marked place n)
+pub marked-below : (place : List ℕ) (n : ℕ) → All (λ f. f < n) (marked place n)
 marked-below place n = All-filter (λ f. ltb 0 (get_or place f 0)) (λ f. f < n) (range_with_len 0 n) (range-below n)
 
 -- The set of the functions that a stuck search has reached is short: each worker who may do one of

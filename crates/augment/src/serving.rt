@@ -10,8 +10,10 @@ ghost use Rattle.augment.specs.Moves.{GainsOne, IsStuck};
 ghost use Rattle.augment.specs.Round.{AreLimited, IsCapped, IsServed, IsWithinLooks, KeepsServed, PaysForWorkers, served};
 ghost use Rattle.augment.specs.Searching.{AddsLooks, HasNeeds, IsLacking, IsStaffed, ShowsShort};
 ghost use Rattle.augment.specs.Short.{marked};
+ghost use Rattle.augment.specs.Tree.{HasRoom};
 
 use crate::search::{Tree, search};
+use bumpalo::Bump;
 use round_arena::{FuncId, Tables};
 use std::alloc::AllocError;
 
@@ -24,8 +26,14 @@ pub enum Served<'a> {
     Short(&'a [FuncId]),
 }
 
-// Gives `root` one worker more, and says whether there was one to be had.
-fn serve_one(tables: &mut Tables, need: &[u32], root: u32, tree: &mut Tree, looks: &mut u64) -> bool
+/// Gives `root` one worker more, and says whether there was one to be had.
+pub fn serve_one(
+    tables: &mut Tables,
+    need: &[u32],
+    root: u32,
+    tree: &mut Tree,
+    looks: &mut u64,
+) -> bool
     requires graph { IsGraph (length need.now) (length tables.old.owner.now) tables.old.pairs }
     requires staffed { IsStaffed tables.old.pairs need.now tables.old.owner.now tables.old.count.now tree.old }
     requires lacking { IsLacking tables.old need.now root }
@@ -94,8 +102,8 @@ fn serve_all(tables: &mut Tables, need: &[u32], tree: &mut Tree, looks: &mut u64
     true
 }
 
-// Writes the marked functions to the front of `set`, in order, and gives their number.
-fn collect(place: &[usize], set: &mut [FuncId]) -> usize
+/// Writes the marked functions to the front of `set`, in order, and gives their number.
+pub fn collect(place: &[usize], set: &mut [FuncId]) -> usize
     requires room { length set.old ≡ length place.now }
     requires functions { length place.now < 2 ^ 32 }
     ensures within { result ≤ length set.new }
@@ -148,16 +156,8 @@ pub fn serve<'a>(tables: &mut Tables<'a>, need: &[u32]) -> Result<Served<'a>, Al
         let set = bump.try_alloc_slice_copy(&[FuncId::new(alone)])?;
         return Ok(Served::Short(set));
     }
-    let machines = tables.pairs.workers.first.len() - 1;
     let set = bump.try_alloc_slice_fill_clone(functions, FuncId::new(0))?;
-    let mut tree = Tree {
-        reached: bump.try_alloc_slice_fill_clone(functions, 0)?,
-        by: bump.try_alloc_slice_fill_clone(functions, 0)?,
-        from: bump.try_alloc_slice_fill_clone(functions, 0)?,
-        place: bump.try_alloc_slice_fill_clone(functions, 0)?,
-        tail: 0,
-        passed: bump.try_alloc_slice_fill_clone(machines, false)?,
-    };
+    let mut tree = new_tree(bump, functions, tables.pairs.workers.first.len() - 1)?;
     let mut looks = tables.looks;
     let is_served = serve_all(tables, need, &mut tree, &mut looks);
     tables.looks = looks;
@@ -165,6 +165,24 @@ pub fn serve<'a>(tables: &mut Tables<'a>, need: &[u32]) -> Result<Served<'a>, Al
         return Ok(Served::All);
     }
     Ok(Served::Short(reached(&tree, set)))
+}
+
+/// A tree that has reached nothing, with room for so many functions and machines.
+pub fn new_tree<'a>(
+    bump: &'a Bump,
+    functions: usize,
+    machines: usize,
+) -> Result<Tree<'a>, AllocError>
+    ensures { IfOk result (HasRoom functions machines) }
+{
+    Ok(Tree {
+        reached: bump.try_alloc_slice_fill_clone(functions, 0)?,
+        by: bump.try_alloc_slice_fill_clone(functions, 0)?,
+        from: bump.try_alloc_slice_fill_clone(functions, 0)?,
+        place: bump.try_alloc_slice_fill_clone(functions, 0)?,
+        tail: 0,
+        passed: bump.try_alloc_slice_fill_clone(machines, false)?,
+    })
 }
 
 // The first function that needs more workers than there are.

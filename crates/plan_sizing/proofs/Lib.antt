@@ -4,3 +4,7 @@ pub mod Barred
 pub mod Right
 pub mod Grown
 pub mod Falling
+pub mod Hired
+pub mod Placed
+pub mod Start
+pub mod Found

@@ -1,3 +1,4 @@
 pub mod Sizing
 pub mod Shown
 pub mod Flaws
+pub mod Hiring

@@ -8,12 +8,15 @@
 mod checker;
 mod counting;
 mod farm;
+mod hiring;
 mod law;
 mod obstacles;
+mod search;
 mod size;
 
 pub use checker::{check_size, total_need};
 pub use farm::Farm;
 pub use law::{needs_are_fewest, shown_is_right};
 pub use obstacles::first_obstacle;
+pub use search::find_size;
 pub use size::{Addition, Flaw, MachineOrder, Obstacle, Size};
