@@ -2,9 +2,7 @@
 
 ghost use Rattle.std.specs.Prelude.{◌<◌, ◌↔◌, All, IsTrue};
 
-use super::examples::{
-    Example, NOBODY, ONE_MACHINE, ONE_WORKER, TWO_MACHINES, TWO_WORKERS, problem,
-};
+use super::examples::problem;
 use plan_model::{
     Answer, Certified, FuncId, Input, Reason, TOP_LEVEL, check, count_neighbours, total_need,
 };
@@ -42,7 +40,7 @@ fn need_and_have(input: &Input, answer: &Answer) -> (u64, u32) {
     (total_need(input, level, set), count_neighbours(input, set))
 }
 
-fn examine(alloc: Global, example: Example) -> Result<Option<Seen>, AllocError> {
+fn examine(alloc: Global, example: &str) -> Result<Option<Seen>, AllocError> {
     let Some((input, answer)) = problem(alloc, example)? else {
         return Ok(None);
     };
@@ -53,145 +51,77 @@ fn examine(alloc: Global, example: Example) -> Result<Option<Seen>, AllocError> 
 }
 
 /// Answers that are best, each with what its set needs and has.
-const BEST: [(Example<'static>, (u64, u32)); 11] = [
-    (TWO_MACHINES, (3, 2)),
-    (TWO_WORKERS, (3, 2)),
-    (ONE_MACHINE, (4, 3)),
+const BEST: [(&str, (u64, u32)); 11] = [
     (
-        Example {
-            least: &[0, 2],
-            plan: Some(&[(0, Some(0)), (1, Some(1)), (2, Some(1))]),
-            backlog: 10,
-            ..ONE_MACHINE
-        },
-        (4, 3),
-    ),
-    (
-        Example {
-            live: &[],
-            waiting: &[7],
-            plan: Some(&[]),
-            backlog: 0,
-            short: &[],
-            ..ONE_WORKER
-        },
-        (0, 0),
-    ),
-    (
-        Example {
-            may: &[&[0, 1]],
-            least: &[0, 0],
-            waiting: &[3, 7],
-            plan: Some(&[(0, Some(1))]),
-            backlog: 4294967299,
-            short: &[0, 1],
-            ..ONE_WORKER
-        },
-        (2, 1),
-    ),
-    (
-        Example {
-            may: &[&[0, 1]],
-            least: &[0, 0],
-            waiting: &[7, 3],
-            backlog: 4294967299,
-            short: &[0, 1],
-            ..ONE_WORKER
-        },
-        (2, 1),
-    ),
-    (
-        Example {
-            live: &[(0, 0), (1, 1), (2, 1), (3, 1)],
-            may: &[&[0], &[1]],
-            least: &[0, 0],
-            most: None,
-            waiting: &[8, 3],
-            plan: Some(&[(0, Some(0)), (1, Some(1)), (2, Some(1)), (3, Some(1))]),
-            backlog: 8,
-            short: &[0],
-        },
-        (2, 1),
-    ),
-    (ONE_WORKER, (2, 1)),
-    (
-        Example {
-            live: &[(0, 0), (1, 0)],
-            waiting: &[1],
-            plan: Some(&[(0, Some(0)), (1, Some(0))]),
-            backlog: 1,
-            ..ONE_WORKER
-        },
+        "live 0/0 1/1; may 0 | 0 1; least 0 0; waiting 6 2; plan 0:0 1:1; backlog 6; set 0 1",
         (3, 2),
     ),
     (
-        Example {
-            live: &[(0, 0), (1, 0)],
-            waiting: &[0],
-            plan: Some(&[(0, Some(0)), (1, Some(0))]),
-            backlog: 0,
-            short: &[],
-            ..ONE_WORKER
-        },
+        "live 0/0 1/0; may 0; least 0; waiting 9; plan 0:0 1:0; backlog 5; set 0",
+        (3, 2),
+    ),
+    (
+        "live 0/0 1/0 2/0; may 0 1; least 0 0; waiting 10 4; plan 0:0 1:0 2:1; backlog 5; set 0 1",
+        (4, 3),
+    ),
+    (
+        "live 0/0 1/0 2/0; may 0 1; least 0 2; waiting 10 4; plan 0:0 1:1 2:1; backlog 10; set 0 1",
+        (4, 3),
+    ),
+    (
+        "live; may 0; least 0; waiting 7; plan; backlog 0; set",
+        (0, 0),
+    ),
+    (
+        "live 0/0; may 0 1; least 0 0; waiting 3 7; plan 0:1; backlog 4294967299; set 0 1",
+        (2, 1),
+    ),
+    (
+        "live 0/0; may 0 1; least 0 0; waiting 7 3; plan 0:0; backlog 4294967299; set 0 1",
+        (2, 1),
+    ),
+    (
+        "live 0/0 1/1 2/1 3/1; may 0 | 1; least 0 0; waiting 8 3; plan 0:0 1:1 2:1 3:1; backlog 8; set 0",
+        (2, 1),
+    ),
+    (
+        "live 0/0; may 0; least 0; waiting 4294967295; plan 0:0; backlog 4294967295; set 0",
+        (2, 1),
+    ),
+    (
+        "live 0/0 1/0; may 0; least 0; waiting 1; plan 0:0 1:0; backlog 1; set 0",
+        (3, 2),
+    ),
+    (
+        "live 0/0 1/0; may 0; least 0; waiting 0; plan 0:0 1:0; backlog 0; set",
         (0, 0),
     ),
 ];
 
 /// Answers that are best with greatest numbers, each with what its set needs and has.
-const BEST_WITH_MOST: [(Example<'static>, (u64, u32)); 6] = [
+const BEST_WITH_MOST: [(&str, (u64, u32)); 6] = [
     (
-        Example {
-            most: Some(&[1]),
-            plan: Some(&[(0, Some(0)), (1, None)]),
-            backlog: 9,
-            ..TWO_WORKERS
-        },
+        "live 0/0 1/0; may 0; least 0; most 1; waiting 9; plan 0:0 1; backlog 9; set 0",
         (3, 2),
     ),
     (
-        Example {
-            most: Some(&[0]),
-            plan: Some(&[(0, None), (1, None)]),
-            backlog: 4294967305,
-            ..TWO_WORKERS
-        },
+        "live 0/0 1/0; may 0; least 0; most 0; waiting 9; plan 0 1; backlog 4294967305; set 0",
         (3, 2),
     ),
     (
-        Example {
-            least: &[2],
-            most: Some(&[1]),
-            plan: None,
-            ..TWO_WORKERS
-        },
+        "live 0/0 1/0; may 0; least 2; most 1; waiting 9; set 0",
         (3, 2),
     ),
     (
-        Example {
-            most: Some(&[4294967295]),
-            ..TWO_WORKERS
-        },
+        "live 0/0 1/0; may 0; least 0; most 4294967295; waiting 9; plan 0:0 1:0; backlog 5; set 0",
         (3, 2),
     ),
     (
-        Example {
-            most: Some(&[1]),
-            waiting: &[0],
-            plan: Some(&[(1, Some(0))]),
-            backlog: 0,
-            short: &[],
-            ..TWO_WORKERS
-        },
+        "live 0/0 1/0; may 0; least 0; most 1; waiting 0; plan 1:0; backlog 0; set",
         (0, 0),
     ),
     (
-        Example {
-            most: Some(&[1, 1]),
-            plan: Some(&[(0, Some(0)), (2, Some(1))]),
-            backlog: 10,
-            short: &[0],
-            ..ONE_MACHINE
-        },
+        "live 0/0 1/0 2/0; may 0 1; least 0 0; most 1 1; waiting 10 4; plan 0:0 2:1; backlog 10; set 0",
         (4, 3),
     ),
 ];
@@ -205,18 +135,12 @@ fn best_plans(rt: HostRuntime) -> Result<(), AllocError> {
             need_and_have: *need_and_have,
         };
         assert_eq!(rt;
-            examine(rt.alloc(), *example)?,
+            examine(rt.alloc(), example)?,
             Some(expected),
             "example {number}"
         );
     }
-    let nobody = Example {
-        live: &[],
-        least: &[1],
-        waiting: &[7],
-        plan: None,
-        ..ONE_WORKER
-    };
+    let nobody = "live; may 0; least 1; waiting 7; set 0";
     let expected = Seen {
         reason: None,
         need_and_have: (1, 0),
@@ -234,7 +158,7 @@ fn best_with_most(rt: HostRuntime) -> Result<(), AllocError> {
             need_and_have: *need_and_have,
         };
         assert_eq!(rt;
-            examine(rt.alloc(), *example)?,
+            examine(rt.alloc(), example)?,
             Some(expected),
             "example {number}"
         );
@@ -243,155 +167,77 @@ fn best_with_most(rt: HostRuntime) -> Result<(), AllocError> {
 }
 
 /// Answers that are not shown, each with the first reason that is true.
-const NOT_SHOWN: [(Example<'static>, Reason); 18] = [
+const NOT_SHOWN: [(&str, Reason); 18] = [
     (
-        Example {
-            backlog: 5,
-            ..TWO_MACHINES
-        },
+        "live 0/0 1/1; may 0 | 0 1; least 0 0; waiting 6 2; plan 0:0 1:1; backlog 5; set 0 1",
         Reason::WrongBacklog,
     ),
     (
-        Example {
-            plan: Some(&[(0, Some(1)), (1, Some(1))]),
-            ..TWO_MACHINES
-        },
+        "live 0/0 1/1; may 0 | 0 1; least 0 0; waiting 6 2; plan 0:1 1:1; backlog 6; set 0 1",
         Reason::NotPermitted,
     ),
     (
-        Example {
-            plan: Some(&[(0, Some(0)), (1, Some(1)), (2, None)]),
-            ..TWO_MACHINES
-        },
+        "live 0/0 1/1; may 0 | 0 1; least 0 0; waiting 6 2; plan 0:0 1:1 2; backlog 6; set 0 1",
         Reason::NotPermitted,
     ),
     (
-        Example {
-            short: &[0],
-            ..TWO_MACHINES
-        },
+        "live 0/0 1/1; may 0 | 0 1; least 0 0; waiting 6 2; plan 0:0 1:1; backlog 6; set 0",
         Reason::NotShort,
     ),
     (
-        Example {
-            short: &[0, 1, 2],
-            ..TWO_MACHINES
-        },
+        "live 0/0 1/1; may 0 | 0 1; least 0 0; waiting 6 2; plan 0:0 1:1; backlog 6; set 0 1 2",
         Reason::NotShort,
     ),
     (
-        Example {
-            short: &[],
-            ..TWO_MACHINES
-        },
+        "live 0/0 1/1; may 0 | 0 1; least 0 0; waiting 6 2; plan 0:0 1:1; backlog 6; set",
         Reason::SetMissing,
     ),
     (
-        Example {
-            least: &[0, 2],
-            ..ONE_MACHINE
-        },
+        "live 0/0 1/0 2/0; may 0 1; least 0 2; waiting 10 4; plan 0:0 1:0 2:1; backlog 5; set 0 1",
         Reason::BelowLeast,
     ),
     (
-        Example {
-            least: &[0, 2],
-            backlog: 6,
-            ..ONE_MACHINE
-        },
+        "live 0/0 1/0 2/0; may 0 1; least 0 2; waiting 10 4; plan 0:0 1:0 2:1; backlog 6; set 0 1",
         Reason::BelowLeast,
     ),
     (
-        Example {
-            live: &[(0, 0), (1, 1), (2, 1), (3, 1)],
-            may: &[&[0], &[1]],
-            waiting: &[8, 3],
-            plan: Some(&[(0, Some(0)), (1, Some(1)), (2, Some(1)), (3, Some(1))]),
-            backlog: 8,
-            ..TWO_MACHINES
-        },
+        "live 0/0 1/1 2/1 3/1; may 0 | 1; least 0 0; waiting 8 3; plan 0:0 1:1 2:1 3:1; backlog 8; set 0 1",
         Reason::NotShort,
     ),
     (
-        Example {
-            waiting: &[8, 1],
-            plan: Some(&[(0, Some(0)), (1, Some(1)), (2, None)]),
-            backlog: 8,
-            short: &[0, 1],
-            ..ONE_MACHINE
-        },
+        "live 0/0 1/0 2/0; may 0 1; least 0 0; waiting 8 1; plan 0:0 1:1 2; backlog 8; set 0 1",
         Reason::NotShort,
     ),
     (
-        Example {
-            waiting: &[0, 0],
-            plan: Some(&[(0, Some(0))]),
-            backlog: 0,
-            short: &[],
-            ..TWO_MACHINES
-        },
+        "live 0/0 1/1; may 0 | 0 1; least 0 0; waiting 0 0; plan 0:0; backlog 0; set",
         Reason::Idle,
     ),
     (
-        Example {
-            waiting: &[0, 0],
-            backlog: 0,
-            ..TWO_MACHINES
-        },
+        "live 0/0 1/1; may 0 | 0 1; least 0 0; waiting 0 0; plan 0:0 1:1; backlog 0; set 0 1",
         Reason::NotShort,
     ),
     (
-        Example {
-            plan: None,
-            ..TWO_MACHINES
-        },
+        "live 0/0 1/1; may 0 | 0 1; least 0 0; waiting 6 2; set 0 1",
         Reason::NotShort,
     ),
     (
-        Example {
-            most: Some(&[1]),
-            ..TWO_WORKERS
-        },
+        "live 0/0 1/0; may 0; least 0; most 1; waiting 9; plan 0:0 1:0; backlog 5; set 0",
         Reason::AboveMost,
     ),
     (
-        Example {
-            least: &[3],
-            most: Some(&[1]),
-            ..TWO_WORKERS
-        },
+        "live 0/0 1/0; may 0; least 3; most 1; waiting 9; plan 0:0 1:0; backlog 5; set 0",
         Reason::BelowLeast,
     ),
     (
-        Example {
-            waiting: &[0],
-            plan: Some(&[(1, Some(0))]),
-            backlog: 0,
-            short: &[],
-            ..TWO_WORKERS
-        },
+        "live 0/0 1/0; may 0; least 0; waiting 0; plan 1:0; backlog 0; set",
         Reason::Idle,
     ),
     (
-        Example {
-            most: Some(&[1, 1]),
-            waiting: &[0, 0],
-            plan: Some(&[(0, Some(0)), (1, Some(0)), (2, None)]),
-            backlog: 0,
-            short: &[],
-            ..ONE_MACHINE
-        },
+        "live 0/0 1/0 2/0; may 0 1; least 0 0; most 1 1; waiting 0 0; plan 0:0 1:0 2; backlog 0; set",
         Reason::Idle,
     ),
     (
-        Example {
-            most: Some(&[1, 0]),
-            waiting: &[0, 0],
-            plan: Some(&[(0, Some(0)), (1, Some(0)), (2, None)]),
-            backlog: 0,
-            short: &[],
-            ..ONE_MACHINE
-        },
+        "live 0/0 1/0 2/0; may 0 1; least 0 0; most 1 0; waiting 0 0; plan 0:0 1:0 2; backlog 0; set",
         Reason::AboveMost,
     ),
 ];
@@ -400,9 +246,9 @@ const NOT_SHOWN: [(Example<'static>, Reason); 18] = [
 #[test]
 fn reasons(rt: HostRuntime) -> Result<(), AllocError> {
     for (number, (example, reason)) in NOT_SHOWN.iter().enumerate() {
-        let found = examine(rt.alloc(), *example)?.and_then(|seen| seen.reason);
+        let found = examine(rt.alloc(), example)?.and_then(|seen| seen.reason);
         assert_eq!(rt; found, Some(*reason), "example {number}");
-        let Some((input, answer)) = problem(rt.alloc(), *example)? else {
+        let Some((input, answer)) = problem(rt.alloc(), example)? else {
             return Err(AllocError);
         };
         let tried = match Certified::tried(input, answer) {
@@ -421,6 +267,6 @@ fn nobody_is_live(rt: HostRuntime) -> Result<(), AllocError> {
         reason: None,
         need_and_have: (0, 0),
     };
-    assert_eq!(rt; examine(rt.alloc(), NOBODY)?, Some(shown));
+    assert_eq!(rt; examine(rt.alloc(), "plan; backlog 0")?, Some(shown));
     Ok(())
 }

@@ -1,143 +1,110 @@
-//! Problems with answers to them, as plain numbers.
+//! Problems with answers to them, each as one line of text.
+//!
+//! A line has parts: `live` each live slot and its machine, `may` the functions of each machine, then the `least`, the `most` and the
+//! `waiting` of each function, then the answer: the `plan` with each slot and its function, its `backlog`, and the `set` of functions.
+//! Without `most` each greatest number is the number of workers. Without `plan` the answer is that there is none.
 
 use plan_model::{Answer, FuncId, FuncSet, Input, InputError, MachineId, Plan, SlotId};
 use std::alloc::{AllocError, Global};
 
-/// The parts of an input, and an answer to it: without a plan that there is none, without functions in
-/// the set that none is given. Without greatest numbers each is the number of workers.
-#[derive(Clone, Copy)]
-pub(super) struct Example<'a> {
-    pub(super) live: &'a [(u32, u32)],
-    pub(super) may: &'a [&'a [u32]],
-    pub(super) least: &'a [u32],
-    pub(super) most: Option<&'a [u32]>,
-    pub(super) waiting: &'a [u32],
-    pub(super) plan: Option<&'a [(u32, Option<u32>)]>,
-    pub(super) backlog: u64,
-    pub(super) short: &'a [u32],
+/// What a line says in the part of this name, if it has the part.
+fn part<'t>(line: &'t str, name: &str) -> Option<&'t str> {
+    line.split("; ").find_map(|part| part.strip_prefix(name))
 }
 
-fn workers(alloc: Global, live: &[(u32, u32)]) -> Result<Vec<(SlotId, MachineId)>, AllocError> {
+fn number(word: &str) -> u32 {
+    word.parse().unwrap_or(u32::MAX)
+}
+
+fn numbers(alloc: Global, text: &str) -> Result<Vec<u32>, AllocError> {
+    let mut numbers = Vec::new(alloc);
+    for word in text.split_whitespace() {
+        numbers.push(number(word))?;
+    }
+    Ok(numbers)
+}
+
+fn workers(alloc: Global, text: &str) -> Result<Vec<(SlotId, MachineId)>, AllocError> {
     let mut workers = Vec::new(alloc);
-    for (slot, machine) in live {
-        workers.push((SlotId::new(*slot), MachineId::new(*machine)))?;
+    for word in text.split_whitespace() {
+        let (slot, machine) = word.split_once('/').unwrap_or((word, ""));
+        workers.push((SlotId::new(number(slot)), MachineId::new(number(machine))))?;
     }
     Ok(workers)
 }
 
-pub(super) fn functions(alloc: Global, numbers: &[u32]) -> Result<Vec<FuncId>, AllocError> {
+pub(super) fn functions(alloc: Global, text: &str) -> Result<Vec<FuncId>, AllocError> {
     let mut functions = Vec::new(alloc);
-    for number in numbers {
-        functions.push(FuncId::new(*number))?;
+    for word in text.split_whitespace() {
+        functions.push(FuncId::new(number(word)))?;
     }
     Ok(functions)
 }
 
 pub(super) fn entries(
     alloc: Global,
-    plan: &[(u32, Option<u32>)],
+    text: &str,
 ) -> Result<Vec<(SlotId, Option<FuncId>)>, AllocError> {
     let mut entries = Vec::new(alloc);
-    for (slot, function) in plan {
-        entries.push((SlotId::new(*slot), function.map(FuncId::new)))?;
+    for word in text.split_whitespace() {
+        entries.push(match word.split_once(':') {
+            Some((slot, function)) => {
+                (
+                    SlotId::new(number(slot)),
+                    Some(FuncId::new(number(function))),
+                )
+            }
+            None => (SlotId::new(number(word)), None),
+        })?;
     }
     Ok(entries)
 }
 
-pub(super) fn input(
-    alloc: Global,
-    example: Example,
-) -> Result<Result<Input, InputError>, AllocError> {
-    let live = workers(alloc, example.live)?;
+pub(super) fn input(alloc: Global, line: &str) -> Result<Result<Input, InputError>, AllocError> {
+    let live = workers(alloc, part(line, "live").unwrap_or(""))?;
     let mut may = Vec::new(alloc);
-    for row in example.may {
-        may.push(functions(alloc, row)?)?;
+    if let Some(rows) = part(line, "may") {
+        for row in rows.split('|') {
+            may.push(functions(alloc, row)?)?;
+        }
     }
-    let workers = u32::try_from(live.len()).unwrap_or(u32::MAX);
-    let all = vec![in alloc; workers; example.least.len()]?;
-    let most = example.most.unwrap_or(&all);
-    Ok(Input::new(alloc, &live, &may, example.least, most, example.waiting))
+    let least = numbers(alloc, part(line, "least").unwrap_or(""))?;
+    let waiting = numbers(alloc, part(line, "waiting").unwrap_or(""))?;
+    let most = match part(line, "most") {
+        Some(most) => numbers(alloc, most)?,
+        None => vec![in alloc; u32::try_from(live.len()).unwrap_or(u32::MAX); least.len()]?,
+    };
+    Ok(Input::new(alloc, &live, &may, &least, &most, &waiting))
 }
 
-/// The input of the example and its answer, where both are taken.
-pub(super) fn problem(
-    alloc: Global,
-    example: Example,
-) -> Result<Option<(Input, Answer)>, AllocError> {
-    let set = FuncSet::new(functions(alloc, example.short)?).ok();
-    let Ok(input) = input(alloc, example)? else {
+/// The input of the line and its answer, where both are taken.
+pub(super) fn problem(alloc: Global, line: &str) -> Result<Option<(Input, Answer)>, AllocError> {
+    let set = functions(alloc, part(line, "set").unwrap_or(""))?;
+    let short = if set.is_empty() {
+        None
+    } else {
+        FuncSet::new(set).ok()
+    };
+    let Ok(input) = input(alloc, line)? else {
         return Ok(None);
     };
-    let Some(plan) = example.plan else {
-        return Ok(set.map(|short| (input, Answer::NoPlan { short })));
+    let Some(plan) = part(line, "plan") else {
+        return Ok(short.map(|short| (input, Answer::NoPlan { short })));
     };
     let Ok(plan) = Plan::new(entries(alloc, plan)?) else {
         return Ok(None);
     };
-    let answer = Answer::Planned {
-        plan,
-        backlog: example.backlog,
-        short: if example.short.is_empty() { None } else { set },
-    };
-    Ok(Some((input, answer)))
+    let backlog = part(line, "backlog ").and_then(|text| text.parse().ok());
+    Ok(backlog.map(|backlog| {
+        let answer = Answer::Planned {
+            plan,
+            backlog,
+            short,
+        };
+        (input, answer)
+    }))
 }
 
 /// Two machines: the worker of the first may do function 0, that of the second both.
-pub(super) const TWO_MACHINES: Example<'static> = Example {
-    live: &[(0, 0), (1, 1)],
-    may: &[&[0], &[0, 1]],
-    least: &[0, 0],
-    most: None,
-    waiting: &[6, 2],
-    plan: Some(&[(0, Some(0)), (1, Some(1))]),
-    backlog: 6,
-    short: &[0, 1],
-};
-
-/// Nobody, and nothing to do.
-pub(super) const NOBODY: Example<'static> = Example {
-    live: &[],
-    may: &[],
-    least: &[],
-    most: None,
-    waiting: &[],
-    plan: Some(&[]),
-    backlog: 0,
-    short: &[],
-};
-
-/// One machine of three workers that may do both functions.
-pub(super) const ONE_MACHINE: Example<'static> = Example {
-    live: &[(0, 0), (1, 0), (2, 0)],
-    may: &[&[0, 1]],
-    least: &[0, 0],
-    most: None,
-    waiting: &[10, 4],
-    plan: Some(&[(0, Some(0)), (1, Some(0)), (2, Some(1))]),
-    backlog: 5,
-    short: &[0, 1],
-};
-
-/// One machine of two workers that may do one function.
-pub(super) const TWO_WORKERS: Example<'static> = Example {
-    live: &[(0, 0), (1, 0)],
-    may: &[&[0]],
-    least: &[0],
-    most: None,
-    waiting: &[9],
-    plan: Some(&[(0, Some(0)), (1, Some(0))]),
-    backlog: 5,
-    short: &[0],
-};
-
-/// One worker for one function.
-pub(super) const ONE_WORKER: Example<'static> = Example {
-    live: &[(0, 0)],
-    may: &[&[0]],
-    least: &[0],
-    most: None,
-    waiting: &[4294967295],
-    plan: Some(&[(0, Some(0))]),
-    backlog: 4294967295,
-    short: &[0],
-};
+pub(super) const TWO_MACHINES: &str =
+    "live 0/0 1/1; may 0 | 0 1; least 0 0; waiting 6 2; plan 0:0 1:1; backlog 6; set 0 1";

@@ -1,94 +1,56 @@
 //! Inputs that are refused, and what the others keep.
 
-use super::examples::{Example, ONE_WORKER, TWO_MACHINES, entries, functions, input, problem};
+use super::examples::{TWO_MACHINES, entries, functions, input, problem};
 use plan_model::{Answer, Certified, FuncId, FuncSet, Input, InputError, MachineId, Plan, SlotId};
 use std::alloc::{AllocError, Global};
 
 /// Inputs with the first refusal that is true of them, if there is one.
-const REFUSED: [(Example<'static>, Option<InputError>); 10] = [
+const REFUSED: [(&str, Option<InputError>); 10] = [
     (
-        Example {
-            live: &[(1, 0), (0, 0)],
-            ..ONE_WORKER
-        },
+        "live 1/0 0/0; may 0; least 0; waiting 9",
         Some(InputError::SlotOrder),
     ),
     (
-        Example {
-            live: &[(0, 0), (0, 9)],
-            ..ONE_WORKER
-        },
+        "live 0/0 0/9; may 0; least 0; waiting 9",
         Some(InputError::SlotOrder),
     ),
     (
-        Example {
-            live: &[(0, 1)],
-            ..ONE_WORKER
-        },
+        "live 0/1; may 0; least 0; waiting 9",
         Some(InputError::BadMachine),
     ),
     (
-        Example {
-            may: &[&[1]],
-            ..ONE_WORKER
-        },
+        "live 0/0; may 1; least 0; waiting 9",
         Some(InputError::BadMachine),
     ),
     (
-        Example {
-            waiting: &[0, 0],
-            ..ONE_WORKER
-        },
+        "live 0/0; may 0; least 0; waiting 0 0",
         Some(InputError::BadMachine),
     ),
     (
-        Example {
-            most: Some(&[]),
-            ..ONE_WORKER
-        },
+        "live 0/0; may 0; least 0; most; waiting 9",
         Some(InputError::BadMachine),
     ),
+    ("live 0/0; may 0; least 2; most 1; waiting 9", None),
     (
-        Example {
-            least: &[2],
-            most: Some(&[1]),
-            ..ONE_WORKER
-        },
-        None,
-    ),
-    (
-        Example {
-            live: &[(4096, 0)],
-            ..ONE_WORKER
-        },
+        "live 4096/0; may 0; least 0; waiting 9",
         Some(InputError::TooMany),
     ),
     (
-        Example {
-            live: &[(4096, 9)],
-            ..ONE_WORKER
-        },
+        "live 4096/9; may 0; least 0; waiting 9",
         Some(InputError::BadMachine),
     ),
-    (
-        Example {
-            live: &[(4095, 0)],
-            may: &[&[0, 0]],
-            ..ONE_WORKER
-        },
-        None,
-    ),
+    ("live 4095/0; may 0 0; least 0; waiting 9", None),
 ];
 
 /// Inputs that are refused, each with the first refusal that is true.
 #[test]
 fn refusals(rt: HostRuntime) -> Result<(), AllocError> {
     for (number, (example, error)) in REFUSED.iter().enumerate() {
-        let found = input(rt.alloc(), *example)?.err();
+        let found = input(rt.alloc(), example)?.err();
         assert_eq!(rt; found, *error, "example {number}");
     }
-    assert!(rt; Plan::new(entries(rt.alloc(), &[(1, None), (1, None)])?).is_err());
-    assert!(rt; FuncSet::new(functions(rt.alloc(), &[1, 0])?).is_err());
+    assert!(rt; Plan::new(entries(rt.alloc(), "1 1")?).is_err());
+    assert!(rt; FuncSet::new(functions(rt.alloc(), "1 0")?).is_err());
     Ok(())
 }
 
@@ -119,11 +81,7 @@ fn limits(rt: HostRuntime) -> Result<(), AllocError> {
 /// A function that a row names twice is permitted once.
 #[test]
 fn named_twice(rt: HostRuntime) -> Result<(), AllocError> {
-    let doubled = Example {
-        may: &[&[0, 0]],
-        ..ONE_WORKER
-    };
-    let Ok(input) = input(rt.alloc(), doubled)? else {
+    let Ok(input) = input(rt.alloc(), "live 0/0; may 0 0; least 0; waiting 9")? else {
         return Err(AllocError);
     };
     if input.machines() == 0 {
@@ -160,14 +118,8 @@ fn copies(rt: HostRuntime) -> Result<(), AllocError> {
 /// Two inputs are the same problem where all their numbers are.
 #[test]
 fn same_problems(rt: HostRuntime) -> Result<(), AllocError> {
-    let more_waits = Example {
-        waiting: &[6, 3],
-        ..TWO_MACHINES
-    };
-    let fewer_at_most = Example {
-        most: Some(&[2, 1]),
-        ..TWO_MACHINES
-    };
+    let more_waits = "live 0/0 1/1; may 0 | 0 1; least 0 0; waiting 6 3";
+    let fewer_at_most = "live 0/0 1/1; may 0 | 0 1; least 0 0; most 2 1; waiting 6 2";
     let Ok(first) = input(rt.alloc(), TWO_MACHINES)? else {
         return Err(AllocError);
     };
