@@ -3,14 +3,18 @@ use Rattle.std.specs.Prelude.{◌≡◌, ◌≢◌, ◌⊎◌, ℕ, List, ◌∷
 use Rattle.devices.specs.Whole.{IsNotWhole, IsUntouched, IsWhole}
 use Rattle.devices.specs.declared.error.InputError.TheVariants as input
 use Rattle.byte_io.specs.Sides.{Met, Output, Undisturbed}
+use Rattle.gear_status.specs.Status.{Line}
 use Rattle.plan_model.specs.Reasons.{reason_label}
 use Rattle.plan_model.specs.Shown.{IsFirstReason, Shown}
 use Rattle.plan_model.specs.declared.answer.Answer.{Answer}
 use Rattle.pool_report.specs.Answered.{report_text}
 use Rattle.pool_report.specs.Reading.{meaning}
+use Rattle.pool_settings.specs.Settings.{Settings}
 use Rattle.refusal.specs.Label.{label_words}
 use Rattle.plan_commands.specs.Ending.{Delivers, Stops}
 use Rattle.plan_commands.specs.Fault.{answered}
+use Rattle.plan_commands.specs.Mistake.{Reads}
+use Rattle.plan_commands.specs.Problem.{problem}
 use Rattle.plan_commands.specs.declared.check.Verdict.{Verdict}
 use Rattle.plan_commands.specs.declared.check.Verdict.TheVariants as verdict
 use Rattle.plan_commands.specs.declared.ending.Exit.{Exit}
@@ -64,3 +68,13 @@ abbrev pub Checks : Result Problem Fault → Met → Output → Output → Exit 
 Checks posed met old new exit =
     ((found : Verdict) × Examines posed met (Ok found) × Pronounces found old new exit)
     ⊎ ((f : Fault) × Examines posed met (Err f) × Stops f old new exit)
+
+-- The same of a settings text, lost workers and the load of a status text.
+abbrev pub ChecksText : List ℕ → List (List ℕ) → Result (List Line) Fault → Met → Output → Output → Exit → Type 0
+ChecksText settings_text lost load met old new exit =
+    (settings : Result Settings Fault) × Reads settings_text settings × Checks (problem settings lost load) met old new exit
+
+-- What a report is found to be, or the first fault, by a settings text, lost workers and the load of a status text.
+abbrev pub ExaminesText : List ℕ → List (List ℕ) → Result (List Line) Fault → Met → Result Verdict Fault → Type 0
+ExaminesText settings_text lost load met result =
+    (settings : Result Settings Fault) × Reads settings_text settings × Examines (problem settings lost load) met result

@@ -12,8 +12,6 @@ use Rattle.pool_report.specs.declared.error.WriteError.TheVariants as write
 use Rattle.pool_report.specs.declared.error.ReadError.{ReadError}
 use Rattle.pool_report.specs.declared.error.ReadError.TheVariants as read
 use Rattle.pool_settings.specs.SettingsRefusals.{settings_label}
-use Rattle.pool_settings.specs.declared.error.SettingsError.{SettingsError}
-use Rattle.pool_settings.specs.declared.error.SettingsError.TheVariants as settings
 use Rattle.refusal.specs.Label.{label_words}
 use Rattle.plan_commands.specs.declared.ending.Exit.{Exit}
 use Rattle.plan_commands.specs.declared.fault.Fault.{Fault}
@@ -46,7 +44,7 @@ input_words input.Memory = codes "memory"
 
 -- The fault as one line for a person and a script: a word for what is at fault, a number, a name, and the line.
 abbrev pub fault_line : Fault → List ℕ
-fault_line (fault.Settings e) = codes "settings " ++ label_words (settings_label e)
+fault_line (fault.Settings mistake) = codes "settings " ++ label_words (settings_label mistake.error)
 fault_line (fault.UnknownWorker place) = codes "lost 1 UnknownWorker"
 fault_line (fault.Status e) = codes "status " ++ label_words (status_label e) ++ on_line (status_line e)
 fault_line (fault.Report e) = codes "report " ++ label_words (read_label e) ++ on_line (report_line e)
@@ -58,10 +56,6 @@ fault_line fault.WriteFault = codes "device 2 WriteFault"
 fault_line fault.Memory = codes "memory"
 
 -- Want of memory is one fault, whoever meets it.
-abbrev pub settings_fault : SettingsError → Fault
-settings_fault settings.Memory = fault.Memory
-settings_fault other = fault.Settings other
-
 abbrev pub status_fault : StatusError → Fault
 status_fault status.ReadFault = fault.ReadFault
 status_fault status.Memory = fault.Memory

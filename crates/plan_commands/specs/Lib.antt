@@ -1,5 +1,6 @@
 pub mod Fault
 pub mod Ending
+pub mod Mistake
 pub mod Problem
 pub mod Posing
 pub mod Plan

@@ -7,6 +7,7 @@ use Rattle.gear_status.specs.Stream.{EndsWithPiece}
 use Rattle.gear_status.specs.declared.error.StatusError.TheVariants.{Truncated}
 use Rattle.pool_settings.specs.Settings.{Settings}
 use Rattle.pool_settings.specs.Reading.{reading}
+use Rattle.plan_commands.specs.Mistake.{Reads}
 use Rattle.plan_commands.specs.Problem.{are_workers, load_within, problem}
 use Rattle.plan_commands.specs.declared.fault.Fault.{Fault}
 use Rattle.plan_commands.specs.declared.fault.Fault.TheVariants as fault
@@ -20,9 +21,9 @@ IsDue due result = (result ≡ due) ⊎ (result ≡ Err fault.Memory)
 abbrev pub HaveMeaning : List ℕ → Type 0
 HaveMeaning settings_text = (settings : Settings) × (reading settings_text ≡ Ok settings)
 
--- The settings mean something, and each lost worker is one of theirs.
-abbrev pub AreRight : List ℕ → List (List ℕ) → Type 0
-AreRight settings_text lost = (settings : Settings) × (reading settings_text ≡ Ok settings) × (are_workers settings lost ≡ true)
+-- The settings were read, and each lost worker is one of theirs.
+abbrev pub AreRight : Result Settings Fault → List (List ℕ) → Type 0
+AreRight settings lost = (s : Settings) × (settings ≡ Ok s) × (are_workers s lost ≡ true)
 
 -- The source failed, or lulled for the 65th time, before its bytes decided anything.
 abbrev pub IsReadFault : Met → Type 0
@@ -48,11 +49,21 @@ GivesLoad met (Err fault.ReadFault) = IsReadFault met
 GivesLoad met (Err fault.WriteFault) = ⊥
 GivesLoad met (Err f) = (load_within met.bytes ≡ Err f) × ReadsTo f met
 
--- the problem that settings, lost workers and what was met at the source of the status text pose, or why there is none; where memory is
--- refused, nothing was read, or nothing before the last piece decided
+-- the problem that the settings which were read, lost workers and what was met at the source of the status text pose, or why there is
+-- none; where memory is refused, nothing was read, or nothing before the last piece decided
+abbrev pub PosesBy : Result Settings Fault → List (List ℕ) → Met → Result Problem Fault → Type 0
+PosesBy settings lost met (Ok posed) = (problem settings lost (load_within met.bytes) ≡ Ok posed) × IsDecided met
+PosesBy settings lost met (Err fault.Memory) = IsUntouched met ⊎ IsDecided met
+PosesBy settings lost met (Err fault.ReadFault) = AreRight settings lost × IsReadFault met
+PosesBy settings lost met (Err fault.WriteFault) = ⊥
+PosesBy settings lost met (Err f) = (problem settings lost (load_within met.bytes) ≡ Err f) × ReadsTo f met
+
+-- The same of a settings text.
 abbrev pub Poses : List ℕ → List (List ℕ) → Met → Result Problem Fault → Type 0
-Poses settings_text lost met (Ok posed) = (problem settings_text lost (load_within met.bytes) ≡ Ok posed) × IsDecided met
-Poses settings_text lost met (Err fault.Memory) = IsUntouched met ⊎ IsDecided met
-Poses settings_text lost met (Err fault.ReadFault) = AreRight settings_text lost × IsReadFault met
-Poses settings_text lost met (Err fault.WriteFault) = ⊥
-Poses settings_text lost met (Err f) = (problem settings_text lost (load_within met.bytes) ≡ Err f) × ReadsTo f met
+Poses settings_text lost met result =
+    (settings : Result Settings Fault) × Reads settings_text settings × PosesBy settings lost met result
+
+-- A problem that is due by a settings text, lost workers and a load, or its first fault.
+abbrev pub PosesText : List ℕ → List (List ℕ) → Result (List Line) Fault → Result Problem Fault → Type 0
+PosesText settings_text lost load result =
+    (settings : Result Settings Fault) × Reads settings_text settings × IsDue (problem settings lost load) result

@@ -7,9 +7,8 @@ use Rattle.gear_status.specs.declared.error.StatusError.{StatusError}
 use Rattle.gear_status.specs.declared.error.StatusError.TheVariants.{Truncated}
 use Rattle.pool_settings.specs.Planning.{instance_of, waiting_of}
 use Rattle.pool_settings.specs.Settings.{Settings}
-use Rattle.pool_settings.specs.Reading.{reading}
 use Rattle.pool_settings.specs.Slots.{slot_named, slots}
-use Rattle.plan_commands.specs.Fault.{settings_fault, status_fault}
+use Rattle.plan_commands.specs.Fault.{status_fault}
 use Rattle.plan_commands.specs.declared.fault.Fault.{Fault}
 use Rattle.plan_commands.specs.declared.fault.Fault.TheVariants as fault
 use Rattle.plan_commands.specs.declared.problem.Problem.{Problem}
@@ -47,10 +46,10 @@ problem_with lost load settings =
     if are_workers settings lost then then_on load (λ lines. Ok (problem_of settings lost lines))
     else Err (fault.UnknownWorker (unknown_place settings lost))
 
--- The problem that settings, lost workers and a load pose, or the first fault: the settings are looked at first, then the lost workers
--- and then the load.
-abbrev pub problem : List ℕ → List (List ℕ) → Result (List Line) Fault → Result Problem Fault
-problem settings_text lost load = then_on (or_fault settings_fault (reading settings_text)) (problem_with lost load)
+-- The problem that the settings which were read, lost workers and a load pose, or the first fault: the settings are looked at first, then
+-- the lost workers and then the load.
+abbrev pub problem : Result Settings Fault → List (List ℕ) → Result (List Line) Fault → Result Problem Fault
+problem settings lost load = then_on settings (problem_with lost load)
 
 -- the load of a status text that is there whole
 abbrev pub load_of : List ℕ → Result (List Line) Fault

@@ -5,7 +5,7 @@ ghost use Rattle.byte_io.specs.Sides.{Meets, Met};
 ghost use Rattle.plan_model.specs.Shown.{Shown};
 ghost use Rattle.pool_report.specs.Answered as answered;
 ghost use Rattle.plan_commands.specs.Check as spec;
-ghost use Rattle.plan_commands.specs.Problem.{load_of, problem};
+ghost use Rattle.plan_commands.specs.Problem.{load_of};
 
 use crate::ending::{Exit, deliver};
 use crate::fault::Fault;
@@ -111,7 +111,7 @@ fn examine<R: Source>(
 ) -> Result<Verdict, Fault>
     requires { (R.input source.old).failures < 2 ^ 64 - 1 }
     ensures { (met : Met) × Meets (R.input source.old) met (R.input source.new)
-        × spec.Examines (problem settings_text.now (map (λ w. w.now) lost.now) (load_of status_text.now)) met result }
+        × spec.ExaminesText settings_text.now (map (λ w. w.now) lost.now) (load_of status_text.now) met result }
 {
     let problem = pose_text(alloc, settings_text, lost, status_text)?;
     let report = read_whole(alloc, source)?;
@@ -140,7 +140,7 @@ pub fn check_text<R: Source, S: Sink>(
     requires source { (R.input source.old).failures < 2 ^ 64 - 1 }
     requires sink { (S.output sink.old).failures < 2 ^ 64 - 1 }
     ensures checks { (met : Met) × Meets (R.input source.old) met (R.input source.new)
-        × spec.Checks (problem settings_text.now (map (λ w. w.now) lost.now) (load_of status_text.now)) met
+        × spec.ChecksText settings_text.now (map (λ w. w.now) lost.now) (load_of status_text.now) met
         (S.output sink.old) (S.output sink.new) result }
 {
     match examine(alloc, settings_text, status_text, lost, source) {

@@ -8,7 +8,7 @@ use crate::fault::Fault;
 use byte_io::{Sink, give_all};
 
 /// How a command ended: its exit status, and the fault that kept it from an answer, if one did.
-#[derive(Clone, Copy, Debug, PartialEq, Eq)]
+#[derive(Debug, PartialEq, Eq, Drop)]
 pub struct Exit {
     /// 0 where it is done, 1 where there is no plan or the report is not shown, 3 and 4 with a fault. The
     /// command line alone ends with 2.

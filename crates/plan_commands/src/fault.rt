@@ -4,10 +4,10 @@ ghost use Rattle.std.specs.Prelude.{◌≡◌, Some};
 ghost use Rattle.std.specs.Fmt.{WritesOnOk};
 ghost use Rattle.plan_commands.specs.Fault as spec;
 
+use crate::mistake::Mistake;
 use devices::InputError;
 use gear_status::StatusError;
 use pool_report::{ReadError, WriteError};
-use pool_settings::SettingsError;
 use refusal::Labelled;
 use std::alloc::AllocError;
 use std::fmt;
@@ -23,11 +23,12 @@ pub enum NamedFile {
 
 /// Why a command ends without an answer. Each is displayed as its fault line, which is meant for a
 /// person and for a script alike: a word for what is at fault, a number, a name, and the line, if
-/// there is one. Which file or which lost worker it is about is in the fault and not in its line.
-#[derive(Clone, Copy, Debug, PartialEq, Eq)]
+/// there is one. Which file or which lost worker it is about, and where in the settings it is, is in the
+/// fault and not in its line.
+#[derive(Debug, PartialEq, Eq, Drop)]
 pub enum Fault {
-    /// The settings file breaks a rule.
-    Settings(SettingsError),
+    /// The settings file breaks a rule: which one, and where.
+    Settings(Mistake),
     /// A lost worker is none of the settings: the one at this place, from 0, of those that were named.
     UnknownWorker(usize),
     /// The status text breaks a rule.
@@ -61,8 +62,8 @@ impl Fault {
 
     /// The exit status of a command that ends with this fault: 3 where input is refused, and 4 where
     /// memory or a device failed.
-    pub fn status(self) -> u8
-        ensures { result ≡ spec.status_of self }
+    pub fn status(&self) -> u8
+        ensures { result ≡ spec.status_of self.now }
     {
         match self {
             Fault::Settings(_)
@@ -82,8 +83,8 @@ impl fmt::Display for Fault {
 
     fn fmt<W: fmt::Write>(&self, f: &mut fmt::Formatter<W>) -> fmt::Result {
         match self {
-            Fault::Settings(error) => {
-                let label = error.label();
+            Fault::Settings(mistake) => {
+                let label = mistake.error.label();
                 write!(f, "settings {} {}", label.number(), label.name())
             }
             Fault::UnknownWorker(_) => f.write_str("lost 1 UnknownWorker"),
@@ -126,20 +127,6 @@ fn on_line<W: fmt::Write>(f: &mut fmt::Formatter<W>, line: Option<u64>) -> fmt::
     match line {
         Some(line) => write!(f, " line {line}"),
         None => Ok(()),
-    }
-}
-
-impl From<SettingsError> for Fault {
-    ghost use Rattle.std.specs.Prelude.{◌≡◌};
-    ghost use Rattle.plan_commands.specs.Fault.{settings_fault};
-
-    ghost from_gives = { λ error fault. fault ≡ settings_fault error };
-
-    fn from(error: SettingsError) -> Fault {
-        match error {
-            SettingsError::Memory => Fault::Memory,
-            other => Fault::Settings(other),
-        }
     }
 }
 

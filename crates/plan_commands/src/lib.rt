@@ -5,11 +5,15 @@
 mod check;
 mod ending;
 mod fault;
+mod mistake;
 mod plan;
 mod problem;
+mod reading;
 
 pub use check::{Verdict, check_text};
 pub use ending::{Exit, deliver};
 pub use fault::{Fault, NamedFile};
+pub use mistake::Mistake;
 pub use plan::plan_text;
 pub use problem::Problem;
+pub use reading::read_settings;

@@ -3,10 +3,11 @@
 ghost use Rattle.std.specs.Prelude.{◌≡◌, ◌≢◌, ◌-◌, ◌^◌, ◌<◌, IfErr, IfOk, false, map, true};
 ghost use Rattle.byte_io.specs.Sides.{Meets, Met};
 ghost use Rattle.pool_settings.specs.Planning.{instance_of, waiting_of};
-ghost use Rattle.plan_commands.specs.Posing.{IsDue, GivesLoad, Poses};
+ghost use Rattle.plan_commands.specs.Posing.{GivesLoad, Poses, PosesText};
 ghost use Rattle.plan_commands.specs.Problem as spec;
 
 use crate::fault::Fault;
+use crate::reading::read_settings;
 use byte_io::Source;
 use devices::LIMIT;
 use gear_status::{Load, load_of, read_status_within};
@@ -76,7 +77,7 @@ pub fn pose<S: Source>(
         × Poses settings_text.now (map (λ w. w.now) lost.now) met result }
     ensures of_these { IfOk result (λ p. p.input.may ≡ p.settings.may) }
 {
-    let settings = Settings::read(alloc, settings_text)?;
+    let settings = read_settings(alloc, settings_text)?;
     let live = live_marks(alloc, &settings, lost)?;
     let load = read_load(alloc, source)?;
     let input = input_of(alloc, &settings, &live, &load)?;
@@ -91,10 +92,10 @@ pub fn pose_text(
     lost: &[&str],
     status_text: &[u8],
 ) -> Result<Problem, Fault>
-    ensures posed { IsDue (spec.problem settings_text.now (map (λ w. w.now) lost.now) (spec.load_of status_text.now)) result }
+    ensures posed { PosesText settings_text.now (map (λ w. w.now) lost.now) (spec.load_of status_text.now) result }
     ensures of_these { IfOk result (λ p. p.input.may ≡ p.settings.may) }
 {
-    let settings = Settings::read(alloc, settings_text)?;
+    let settings = read_settings(alloc, settings_text)?;
     let live = live_marks(alloc, &settings, lost)?;
     let load = load_of(alloc, status_text)?;
     let input = input_of(alloc, &settings, &live, &load)?;

@@ -5,11 +5,11 @@ use Rattle.devices.specs.Folder.{IsReadFile, IsUnreadFile, Known}
 use Rattle.devices.specs.Whole.{IsUntouched}
 use Rattle.devices.specs.declared.error.InputError.{InputError}
 use Rattle.byte_io.specs.Sides.{Met, Output}
-use Rattle.plan_commands.specs.Check.{Checks}
+use Rattle.plan_commands.specs.Check.{ChecksText}
 use Rattle.plan_commands.specs.Ending.{Stops}
 use Rattle.plan_commands.specs.Fault.{file_fault}
 use Rattle.plan_commands.specs.Plan.{Plans}
-use Rattle.plan_commands.specs.Problem.{load_of, problem}
+use Rattle.plan_commands.specs.Problem.{load_of}
 use Rattle.plan_commands.specs.declared.ending.Exit.{Exit}
 use Rattle.plan_commands.specs.declared.fault.Fault.{Fault}
 use Rattle.plan_commands.specs.declared.fault.NamedFile.{NamedFile}
@@ -43,7 +43,7 @@ ActsOnFiles file (plan s lost) met old new exit =
     (settings_text : List ℕ) × IsReadFile (file s) settings_text × Plans settings_text lost met old new exit
 ActsOnFiles file (check s t lost) met old new exit =
     (settings_text : List ℕ) × (status_text : List ℕ) × IsReadFile (file s) settings_text × IsReadFile (file t) status_text
-    × Checks (problem settings_text lost (load_of status_text)) met old new exit
+    × ChecksText settings_text lost (load_of status_text) met old new exit
 ActsOnFiles file (replay s) met old new exit =
     (settings_text : List ℕ) × IsReadFile (file s) settings_text × Replays settings_text met old new exit
 ActsOnFiles file (show_settings s) met old new exit =

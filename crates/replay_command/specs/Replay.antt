@@ -11,6 +11,7 @@ use Rattle.pool_settings.specs.Settings.{Settings}
 use Rattle.pool_settings.specs.Reading.{reading}
 use Rattle.plan_commands.specs.Ending.{Delivers, Stops}
 use Rattle.plan_commands.specs.Fault.{answered, refused}
+use Rattle.plan_commands.specs.Mistake.{IsMistakeOf}
 use Rattle.plan_commands.specs.Posing.{HaveMeaning}
 use Rattle.plan_commands.specs.declared.ending.Exit.{Exit}
 use Rattle.plan_commands.specs.declared.fault.Fault.{Fault}
@@ -25,7 +26,7 @@ Transcribes settings_text met output how =
 -- The run of the input that was taken, or the first fault of settings and input. Nothing is taken where the settings are refused.
 abbrev pub GivesRun : List ℕ → Met → Result Outcome Fault → Type 0
 GivesRun settings_text met (Ok outcome) = Transcribes settings_text met (string_bytes outcome.output) outcome.end
-GivesRun settings_text met (Err (fault.Settings e)) = (reading settings_text ≡ Err e) × IsUntouched met
+GivesRun settings_text met (Err (fault.Settings mistake)) = IsMistakeOf settings_text mistake × IsUntouched met
 GivesRun settings_text met (Err fault.TooLong) = HaveMeaning settings_text × IsNotWhole met input.TooLong
 GivesRun settings_text met (Err fault.ReadFault) = HaveMeaning settings_text × IsNotWhole met input.ReadFault
 GivesRun settings_text met (Err fault.Memory) = Undisturbed met

@@ -6,9 +6,8 @@ ghost use Rattle.replay_command.specs.Replay as spec;
 
 use byte_io::{Sink, Source};
 use devices::read_whole;
-use plan_commands::{Exit, Fault, deliver};
+use plan_commands::{Exit, Fault, deliver, read_settings};
 use pool_replay::{End, Outcome, run};
-use pool_settings::Settings;
 use std::alloc::Global;
 
 /// Runs the command lines that the source gives, whole, on a pool of these settings. Faults are looked for in the settings
@@ -21,7 +20,7 @@ fn run_input<R: Source>(
     requires { (R.input source.old).failures < 2 ^ 64 - 1 }
     ensures { (met : Met) × Meets (R.input source.old) met (R.input source.new) × spec.GivesRun settings_text.now met result }
 {
-    let settings = Settings::read(alloc, settings_text)?;
+    let settings = read_settings(alloc, settings_text)?;
     let input = read_whole(alloc, source)?;
     Ok(run(alloc, &settings, &input))
 }

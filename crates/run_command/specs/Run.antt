@@ -5,9 +5,9 @@ use Rattle.std.specs.List.{list_any}
 use Rattle.byte_io.specs.Sides.{Output}
 use Rattle.plan_commands.specs.Ending.{Delivers, Stops}
 use Rattle.plan_commands.specs.Fault.{answered}
+use Rattle.plan_commands.specs.Mistake.{Reads}
 use Rattle.plan_commands.specs.declared.ending.Exit.{Exit}
 use Rattle.plan_commands.specs.declared.fault.Fault.{Fault}
-use Rattle.plan_commands.specs.declared.fault.Fault.TheVariants as fault
 use Rattle.pool_core.specs.Totals.{totals_line}
 use Rattle.pool_settings.specs.Reading.{reading}
 use Rattle.pool_settings.specs.Settings.{Settings}
@@ -39,11 +39,9 @@ has_no_plan attempt = false
 abbrev pub status_after : List Attempt → ℕ
 status_after attempts = if list_any has_no_plan attempts then 1 else 0
 
--- why a pool is not run, or not to its end: the settings are refused by their fault, or memory is refused
+-- why a pool is not run, or not to its end: the settings have a mistake, or memory is refused
 abbrev pub IsKeptFrom : List ℕ → Fault → Type 0
-IsKeptFrom settings_text (fault.Settings e) = reading settings_text ≡ Err e
-IsKeptFrom settings_text fault.Memory = Unit {0}
-IsKeptFrom settings_text other = ⊥
+IsKeptFrom settings_text f = Reads settings_text (Err f)
 
 -- The text means settings, and a run by them came to this: its lines tell rounds of histories of these settings, and its totals count the
 -- grabs and the reports of one.

@@ -9,7 +9,7 @@ use crate::host::{Host, Route};
 use crate::stock::stock_jobs;
 use crate::text::{run_text, status_after};
 use byte_io::Sink;
-use plan_commands::{Exit, Fault, deliver};
+use plan_commands::{Exit, Fault, deliver, read_settings};
 use pool_settings::Settings;
 use pool_supervisor::{ArenaPlanner, RunEnd, run_pool};
 use std::alloc::{AllocError, Global};
@@ -54,7 +54,7 @@ fn run_told<H: Host>(
     ensures text { IfOk result (λ told. string_bytes told.text ≡ spec.run_text told.ended) }
     ensures kept { IfErr result (spec.IsKeptFrom settings_text.now) }
 {
-    let settings = Settings::read(alloc, settings_text)?;
+    let settings = read_settings(alloc, settings_text)?;
     let ended = run_stock(host, alloc, settings, rounds)?;
     let text = run_text(alloc, &ended)?;
     Ok(Told { ended, text })

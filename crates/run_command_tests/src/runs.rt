@@ -3,8 +3,8 @@
 use crate::hosts::Teller;
 use crate::one_job::OneJob;
 use byte_io::doubles::Script;
-use plan_commands::{Exit, Fault};
-use pool_settings::SettingsError;
+use plan_commands::{Exit, Fault, Mistake};
+use pool_settings::{Place, SettingsError};
 use run_command::{Host, run_rounds};
 use std::alloc::{AllocError, Global};
 use std::sync::atomic::Ordering;
@@ -155,12 +155,14 @@ fn calls_that_the_pool_refuses(rt: HostRuntime) {
 
 /// Nothing is dialled for settings that are refused.
 #[test]
-fn settings_first(rt: HostRuntime) {
+fn settings_first(rt: HostRuntime) -> Result<(), AllocError> {
     let alloc = rt.alloc();
     let host = Teller::new(&rt, alloc, &[]);
-    let refused = Exit::refused(Fault::Settings(SettingsError::Version));
+    let version = Mistake::new(alloc, SettingsError::Version, &Place::Key("version"))?;
+    let refused = Exit::refused(Fault::Settings(version));
     assert!(rt; ends(&host, alloc, b"version = 3\n", 2, refused, b""));
     assert_eq!(rt; host.dials.load(Ordering::SeqCst), 0);
+    Ok(())
 }
 
 /// Whether a sink that takes so many bytes one by one, and then fails, has got them.

@@ -1,16 +1,17 @@
 -- What `settings` writes, and how it ends.
-use Rattle.std.specs.Prelude.{◌≡◌, ◌⊎◌, ℕ, List, Some, Ok, Err}
+use Rattle.std.specs.Prelude.{◌≡◌, ◌⊎◌, ℕ, List, Some, Ok}
 use Rattle.byte_io.specs.Sides.{Output}
 use Rattle.toml.specs.Data.{Members}
 use Rattle.plan_commands.specs.Ending.{Delivers, Stops}
 use Rattle.plan_commands.specs.Fault.{answered, refused}
 use Rattle.plan_commands.specs.declared.ending.Exit.{Exit}
 use Rattle.plan_commands.specs.declared.fault.Fault.TheVariants as fault
-use Rattle.pool_settings.specs.Fault.{IsFoundIn, RefusesTree}
+use Rattle.plan_commands.specs.Mistake.{IsMistakeOf, kept_view, mistake_view}
+use Rattle.plan_commands.specs.declared.mistake.Mistake.{Mistake}
+use Rattle.pool_settings.specs.Fault.{RefusesTree}
 use Rattle.pool_settings.specs.Place.{place_view}
 use Rattle.pool_settings.specs.Settings.{Settings}
-use Rattle.pool_settings.specs.Reading.{Where, read_tree, reading, tree_of}
-use Rattle.pool_settings.specs.declared.error.SettingsError.{SettingsError}
+use Rattle.pool_settings.specs.Reading.{read_tree, reading, tree_of}
 use Rattle.pool_settings.specs.declared.fault.SettingsFault.{SettingsFault}
 use Rattle.pool_settings.specs.declared.fault.SettingsFault.TheVariants as first
 use Rattle.settings_command.specs.Meaning.{meaning}
@@ -20,10 +21,15 @@ use Rattle.settings_command.specs.Place.{line_of_place}
 abbrev pub Means : Members → Settings → Output → Output → Exit → Type 0
 Means tree settings old new exit = Delivers (meaning tree settings) (answered 0) old new exit ⊎ Stops fault.Memory old new exit
 
--- The line of the place of a fault is written, and the command ends by that fault. Or memory is refused, and nothing is written.
+-- The line of the place of a mistake is written, and the command ends by that mistake.
+abbrev pub TellsPlace : Mistake → Output → Output → Exit → Type 0
+TellsPlace mistake old new exit = Delivers (line_of_place (kept_view mistake.place)) (refused (fault.Settings mistake)) old new exit
+
+-- The place of this fault is told, and the command ends by it. Or memory is refused, and nothing is written.
 abbrev pub Locates : SettingsFault → Output → Output → Exit → Type 0
 Locates (first.At e at) old new exit =
-    Delivers (line_of_place (place_view (λ t. t.now) at)) (refused (fault.Settings e)) old new exit ⊎ Stops fault.Memory old new exit
+    ((mistake : Mistake) × (mistake_view mistake ≡ (e, place_view (λ t. t.now) at)) × TellsPlace mistake old new exit)
+    ⊎ Stops fault.Memory old new exit
 Locates first.Memory old new exit = Stops fault.Memory old new exit
 
 -- What the tree of a file means is written, or where its first fault is.
@@ -36,19 +42,10 @@ Explains tree old new exit =
 abbrev pub TellsMeaning : List ℕ → Settings → Output → Output → Exit → Type 0
 TellsMeaning file settings old new exit = (tree : Members) × (tree_of file ≡ Some tree) × Means tree settings old new exit
 
--- The text is the line that tells the place where this first fault of the file is.
-abbrev pub IsPlaceLine : List ℕ → SettingsError → List ℕ → Type 0
-IsPlaceLine file e text = (place : Where) × IsFoundIn file (e, place) × (text ≡ line_of_place place)
-
--- Where this first fault of the file is is written, and the command ends by the fault.
-abbrev pub TellsPlace : List ℕ → SettingsError → Output → Output → Exit → Type 0
-TellsPlace file e old new exit =
-    (text : List ℕ) × IsPlaceLine file e text × Delivers text (refused (fault.Settings e)) old new exit
-
--- The file means settings, which are explained. Or it is refused by its first fault, whose place is told. Or memory is refused, and
+-- The file means settings, which are explained. Or it is refused by its first mistake, whose place is told. Or memory is refused, and
 -- nothing is written.
 abbrev pub TellsSettings : List ℕ → Output → Output → Exit → Type 0
 TellsSettings file old new exit =
     ((settings : Settings) × (reading file ≡ Ok settings) × TellsMeaning file settings old new exit)
-    ⊎ (((e : SettingsError) × (reading file ≡ Err e) × TellsPlace file e old new exit)
+    ⊎ (((mistake : Mistake) × IsMistakeOf file mistake × TellsPlace mistake old new exit)
     ⊎ Stops fault.Memory old new exit)

@@ -1,15 +1,18 @@
 //! The command `settings`: from a settings file to what it means, or to where its first fault is.
 
-ghost use Rattle.std.specs.Prelude.{◌-◌, ◌^◌, ◌<◌};
+ghost use Rattle.std.specs.Prelude.{◌≡◌, ◌-◌, ◌^◌, ◌<◌, IfOk, string_bytes};
+ghost use Rattle.plan_commands.specs.Mistake.{mistake_view};
+ghost use Rattle.pool_settings.specs.Place.{place_view};
+ghost use Rattle.settings_command.specs.Place.{line_of_place};
 ghost use Rattle.settings_command.specs.Told as spec;
 ghost use Rattle.toml.specs.View.{table_view};
 
 use crate::meaning::meaning_text;
 use crate::place::place_text;
 use byte_io::Sink;
-use plan_commands::{Exit, Fault, deliver};
-use pool_settings::{Settings, SettingsFault, SettingsFile};
-use std::alloc::Global;
+use plan_commands::{Exit, Fault, Mistake, deliver};
+use pool_settings::{Place, Settings, SettingsError, SettingsFault, SettingsFile};
+use std::alloc::{AllocError, Global};
 
 /// Writes what the settings of a file mean.
 fn write_meaning<S: Sink>(
@@ -27,17 +30,31 @@ fn write_meaning<S: Sink>(
     }
 }
 
+/// The line that tells where a mistake is, and the mistake.
+fn located(
+    alloc: Global,
+    error: SettingsError,
+    place: &Place<&str>,
+) -> Result<(String, Mistake), AllocError>
+    ensures line { IfOk result (λ both. string_bytes both.0 ≡ line_of_place (place_view (λ t. t.now) place.now)) }
+    ensures mistake { IfOk result (λ both. mistake_view both.1 ≡ (error, place_view (λ t. t.now) place.now)) }
+{
+    let line = place_text(alloc, place)?;
+    let mistake = Mistake::new(alloc, error, place)?;
+    Ok((line, mistake))
+}
+
 /// Writes where the first fault of a file is, and ends by that fault.
 fn locate<S: Sink>(alloc: Global, fault: &SettingsFault<'_>, sink: &mut S) -> Exit
     requires { (S.output sink.old).failures < 2 ^ 64 - 1 }
     ensures { spec.Locates fault.now (S.output sink.old) (S.output sink.new) result }
 {
     match fault {
-        SettingsFault::At(error, place) => match place_text(alloc, place) {
-            Ok(line) => deliver(
+        SettingsFault::At(error, place) => match located(alloc, *error, place) {
+            Ok((line, mistake)) => deliver(
                 sink,
                 line.as_bytes(),
-                Exit::refused(Fault::Settings(*error)),
+                Exit::refused(Fault::Settings(mistake)),
             ),
             Err(_) => Exit::refused(Fault::Memory),
         },

@@ -2,14 +2,13 @@
 
 ghost use Rattle.std.specs.Prelude.{◌≡◌, IfOk};
 
-use super::one_worker::{LIMIT, REPORT, SETTINGS, STATUS};
+use super::one_worker::{LIMIT, REPORT, SETTINGS, STATUS, no_version};
 use byte_io::SliceSource;
 use byte_io::doubles::Script;
 use devices::{InputSource, OutputSink};
 use gear_status::{StatusError, read_status_within};
 use plan_commands::{Exit, Fault, check_text, plan_text};
 use pool_report::ReadError;
-use pool_settings::SettingsError;
 use std::alloc::{AllocError, Global};
 use std::io;
 use std::io::{ErrorKind, Read, Write};
@@ -75,20 +74,21 @@ fn check_fails_after(alloc: Global, sent: u32) -> bool {
 }
 
 #[test]
-fn plan_looks_at_its_source_last(rt: HostRuntime) {
+fn plan_looks_at_its_source_last(rt: HostRuntime) -> Result<(), AllocError> {
     let alloc = rt.alloc();
-    let version = Fault::Settings(SettingsError::Version);
+    let version = no_version(alloc)?;
     let unknown = Fault::UnknownWorker(0);
     assert!(rt; plan_on(alloc, b"", &["c/0"], broken(alloc)) == Exit::refused(version));
     assert!(rt; plan_on(alloc, SETTINGS, &["c/0"], broken(alloc)) == Exit::refused(unknown));
     let failed = Fault::ReadFault;
     assert!(rt; plan_on(alloc, SETTINGS, &[], broken(alloc)) == Exit::refused(failed));
+    Ok(())
 }
 
 #[test]
-fn check_looks_at_its_source_last(rt: HostRuntime) {
+fn check_looks_at_its_source_last(rt: HostRuntime) -> Result<(), AllocError> {
     let alloc = rt.alloc();
-    let version = Fault::Settings(SettingsError::Version);
+    let version = no_version(alloc)?;
     let unknown = Fault::UnknownWorker(0);
     assert!(rt; check_on(alloc, b"", b"", &["c/0"], broken(alloc)) == Exit::refused(version));
     assert!(rt; check_on(alloc, SETTINGS, b"", &["c/0"], broken(alloc)) == Exit::refused(unknown));
@@ -96,6 +96,7 @@ fn check_looks_at_its_source_last(rt: HostRuntime) {
     assert!(rt; check_on(alloc, SETTINGS, b"", &[], broken(alloc)) == Exit::refused(cut));
     let failed = Fault::ReadFault;
     assert!(rt; check_on(alloc, SETTINGS, STATUS, &[], broken(alloc)) == Exit::refused(failed));
+    Ok(())
 }
 
 #[test]

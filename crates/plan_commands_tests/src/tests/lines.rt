@@ -2,10 +2,10 @@
 
 use devices::InputError;
 use gear_status::StatusError;
-use plan_commands::{Fault, NamedFile};
+use plan_commands::{Fault, Mistake, NamedFile};
 use pool_report::ReadError;
-use pool_settings::SettingsError;
-use std::alloc::Global;
+use pool_settings::{Counted, Place, SettingsError};
+use std::alloc::{AllocError, Global};
 
 /// Whether the fault is displayed as this line and ends with this status.
 fn prints(alloc: Global, fault: Fault, line: &str, status: u8) -> bool {
@@ -16,26 +16,17 @@ fn prints(alloc: Global, fault: Fault, line: &str, status: u8) -> bool {
 }
 
 #[test]
-fn lines_of_settings_and_workers(rt: HostRuntime) {
+fn lines_of_settings_and_workers(rt: HostRuntime) -> Result<(), AllocError> {
     let alloc = rt.alloc();
-    assert!(rt;
-        prints(
-            alloc,
-            Fault::Settings(SettingsError::Text),
-            "settings 1 Text",
-            3
-        )
-    );
-    assert!(rt;
-        prints(
-            alloc,
-            Fault::Settings(SettingsError::TooMany),
-            "settings 8 TooMany",
-            3
-        )
-    );
+    let place = Place::Text { line: 2, column: 1 };
+    let text = Fault::Settings(Mistake::new(alloc, SettingsError::Text, &place)?);
+    assert!(rt; prints(alloc, text, "settings 1 Text", 3));
+    let place = Place::Count(Counted::Workers);
+    let workers = Fault::Settings(Mistake::new(alloc, SettingsError::TooMany, &place)?);
+    assert!(rt; prints(alloc, workers, "settings 8 TooMany", 3));
     assert!(rt; prints(alloc, Fault::UnknownWorker(0), "lost 1 UnknownWorker", 3));
     assert!(rt; prints(alloc, Fault::TooLong, "input 1 TooLong", 3));
+    Ok(())
 }
 
 /// Whether the fault of a status text is displayed as this line.

@@ -1,5 +1,9 @@
 //! Texts of a pool of one worker, for one function for which no job waits.
 
+use plan_commands::{Fault, Mistake};
+use pool_settings::{Place, SettingsError};
+use std::alloc::{AllocError, Global};
+
 pub const SETTINGS: &[u8] = b"version = 1
 [functions.x]
 [machines.a]
@@ -18,3 +22,9 @@ end
 
 /// The most bytes that a file or an input may have.
 pub const LIMIT: usize = 16_777_216;
+
+/// The fault of a settings file without a version.
+pub fn no_version(alloc: Global) -> Result<Fault, AllocError> {
+    let mistake = Mistake::new(alloc, SettingsError::Version, &Place::Key("version"))?;
+    Ok(Fault::Settings(mistake))
+}

@@ -1,11 +1,11 @@
 //! Whole commands over texts in memory: worked examples, faults, and devices that fail.
 
+use super::one_worker::no_version;
 use byte_io::SliceSource;
 use byte_io::doubles::Script;
 use gear_status::StatusError;
 use plan_commands::{Exit, Fault, check_text, plan_text};
 use pool_report::ReadError;
-use pool_settings::SettingsError;
 use std::alloc::{AllocError, Global};
 
 /// Worker a/0 may do x, worker b/0 may do x and y.
@@ -417,9 +417,9 @@ fn verdicts_with_greatest_numbers(rt: HostRuntime) {
 }
 
 #[test]
-fn faults_of_plans(rt: HostRuntime) {
+fn faults_of_plans(rt: HostRuntime) -> Result<(), AllocError> {
     let alloc = rt.alloc();
-    let version = Fault::Settings(SettingsError::Version);
+    let version = no_version(alloc)?;
     assert!(rt; plan_meets(alloc, b"", &["c/0"], b"", version));
     assert!(rt; plan_meets(alloc, TWO, &["c/0"], b"", Fault::UnknownWorker(0)));
     assert!(rt;
@@ -431,6 +431,7 @@ fn faults_of_plans(rt: HostRuntime) {
             Fault::UnknownWorker(1)
         )
     );
+    Ok(())
 }
 
 #[test]
@@ -521,10 +522,11 @@ fn verdicts_on_other_reports(rt: HostRuntime) {
 #[test]
 fn faults_of_checks(rt: HostRuntime) {
     let alloc = rt.alloc();
-    let cut = Fault::Report(ReadError::Truncated);
     let front = &TWO_REPORT[..TWO_REPORT.len() - 1];
-    assert!(rt; check_meets(alloc, TWO_STATUS, front, cut));
-    assert!(rt; check_meets(alloc, TWO_STATUS, b"", cut));
+    for report in [front, b""] {
+        let cut = Fault::Report(ReadError::Truncated);
+        assert!(rt; check_meets(alloc, TWO_STATUS, report, cut));
+    }
     let bad = Fault::Report(ReadError::BadLine(1));
     assert!(rt; check_meets(alloc, TWO_STATUS, b"report 2\n", bad));
     let status = Fault::Status(StatusError::Truncated);

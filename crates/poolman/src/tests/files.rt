@@ -7,8 +7,8 @@ use crate::lent::Lent;
 use byte_io::{SliceSource, VecSink};
 use command_line::Command;
 use devices::{Folder, InputError};
-use plan_commands::{Exit, Fault, NamedFile};
-use pool_settings::SettingsError;
+use plan_commands::{Exit, Fault, Mistake, NamedFile};
+use pool_settings::{Place, SettingsError};
 use run_command::Host;
 use std::alloc::{AllocError, Global};
 use std::io;
@@ -65,6 +65,17 @@ fn carries_out<H: Host>(
     carry_out(lent, command, &mut source, &mut sink) == exit && sink.bytes() == output
 }
 
+/// Whether a command on standard input is done and writes so much.
+fn does<H: Host>(
+    host: &H,
+    alloc: Global,
+    command: &Command<'_>,
+    input: &[u8],
+    output: &[u8],
+) -> bool {
+    carries_out(host, alloc, command, input, Exit::answered(0), output)
+}
+
 fn plan<'a>(alloc: Global, settings: &'a str) -> Command<'a> {
     Command::Plan {
         settings,
@@ -84,38 +95,29 @@ fn check<'a>(alloc: Global, settings: &'a str, status: &'a str) -> Command<'a> {
 fn commands_read_their_files(rt: HostRuntime) {
     let alloc = rt.alloc();
     let host = Away { rt: &rt };
-    let done = Exit::answered(0);
-    assert!(rt;
-        carries_out(
-            &host,
-            alloc,
-            &plan(alloc, "settings.toml"),
-            STATUS,
-            done,
-            REPORT
-        )
-    );
+    let plan = plan(alloc, "settings.toml");
+    assert!(rt; does(&host, alloc, &plan, STATUS, REPORT));
     let check = check(alloc, "settings.toml", "status.txt");
-    assert!(rt; carries_out(&host, alloc, &check, REPORT, done, b"shown\n"));
+    assert!(rt; does(&host, alloc, &check, REPORT, b"shown\n"));
     let replay = Command::Replay {
         settings: "settings.toml",
     };
-    assert!(rt; carries_out(&host, alloc, &replay, b"", done, b""));
+    assert!(rt; does(&host, alloc, &replay, b"", b""));
     let told = Command::Settings {
         settings: "settings.toml",
     };
-    assert!(rt; carries_out(&host, alloc, &told, b"", done, MEANING));
+    assert!(rt; does(&host, alloc, &told, b"", MEANING));
     let run = Command::Run {
         settings: "settings.toml",
         rounds: 1,
     };
     let unreached =
         b"attempt 1 nolink\ntotals grabbed 0 running 0 reported 0 lost 0 rounds 0 events 0\n";
-    assert!(rt; carries_out(&host, alloc, &run, b"", done, unreached));
+    assert!(rt; does(&host, alloc, &run, b"", unreached));
 }
 
 #[test]
-fn files_that_are_not_there_are_told_first(rt: HostRuntime) {
+fn files_that_are_not_there_are_told_first(rt: HostRuntime) -> Result<(), AllocError> {
     let alloc = rt.alloc();
     let host = Away { rt: &rt };
     let missing = Exit::refused(Fault::File(NamedFile::Settings, InputError::NoFile));
@@ -132,8 +134,11 @@ fn files_that_are_not_there_are_told_first(rt: HostRuntime) {
         )
     );
     let swapped = check(alloc, "status.txt", "settings.toml");
-    let text = Exit::refused(Fault::Settings(SettingsError::Text));
+    let place = Place::Text { line: 1, column: 3 };
+    let text = Mistake::new(alloc, SettingsError::Text, &place)?;
+    let text = Exit::refused(Fault::Settings(text));
     assert!(rt; carries_out(&host, alloc, &swapped, REPORT, text, b""));
+    Ok(())
 }
 
 /// How `check` of these two files in their folder ends, by the names that it is given.

@@ -3,8 +3,8 @@
 use crate::run_commands;
 use byte_io::SliceSource;
 use byte_io::doubles::Script;
-use plan_commands::{Exit, Fault};
-use pool_settings::SettingsError;
+use plan_commands::{Exit, Fault, Mistake};
+use pool_settings::{Place, SettingsError};
 use std::alloc::{AllocError, Global};
 
 /// Worker a/0 may do x, worker b/0 may do x and y.
@@ -459,10 +459,12 @@ fn meets(alloc: Global, settings_text: &[u8], fault: Fault) -> bool {
 }
 
 #[test]
-fn settings_before_input(rt: HostRuntime) {
+fn settings_before_input(rt: HostRuntime) -> Result<(), AllocError> {
     let alloc = rt.alloc();
-    assert!(rt; meets(alloc, b"", Fault::Settings(SettingsError::Version)));
+    let version = Mistake::new(alloc, SettingsError::Version, &Place::Key("version"))?;
+    assert!(rt; meets(alloc, b"", Fault::Settings(version)));
     assert!(rt; meets(alloc, TWO, Fault::ReadFault));
+    Ok(())
 }
 
 /// The exit of `replay` on a line with so many lulls behind it, and what it writes.

@@ -109,12 +109,13 @@ fn defaults_and_given_values(rt: HostRuntime) {
 
 /// Whether the file is refused so, and this line tells where.
 fn refuses(alloc: Global, settings: &[u8], error: SettingsError, place: &[u8]) -> bool {
-    prints(
-        alloc,
-        settings,
-        Exit::refused(Fault::Settings(error)),
-        place,
-    )
+    let mut sink = VecSink::new(alloc);
+    let exit = settings_text(alloc, settings, &mut sink);
+    let is_refused = match exit.fault {
+        Some(Fault::Settings(mistake)) => mistake.error == error,
+        _ => false,
+    };
+    is_refused && exit.status == 3 && sink.bytes() == place
 }
 
 #[test]

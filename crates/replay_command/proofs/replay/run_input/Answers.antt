@@ -11,7 +11,7 @@ returns-in_err-settings g c =
     let p = err_from_is_err_and c.from_residual.result c.from_residual.ensures.1 in (
       nothing_from side,
       meets_nothing side,
-      rw (p.1, p.2) (refused_by c.args.settings_text.now side c.in_err-settings.field-0.0 c.in_err-settings.ensures.refused),
+      rw (p.1, p.2) (refused_by c.args.settings_text.now side c.in_err-settings.field-0.0 c.in_err-settings.ensures.reads),
     )
 
 pub returns-in_err-input : goal.returns-in_err-input
@@ -20,7 +20,7 @@ returns-in_err-input g c =
     let p = err_from_is_err_and c.from_residual-in_err-input.result c.from_residual-in_err-input.ensures.1 in (
       told.0,
       told.1,
-      rw (p.1, p.2) (untaken c.args.settings_text.now told.0 c.in_ok-settings.settings c.in_ok-settings.ensures.ok c.in_err-input.field-0.0 told.2),
+      rw (p.1, p.2) (untaken c.args.settings_text.now told.0 c.in_ok-settings.settings c.in_ok-settings.ensures.reads c.in_err-input.field-0.0 told.2),
     )
 
 pub returns : goal.returns
@@ -30,7 +30,7 @@ returns g c =
       told.1,
       (
         c.in_ok-settings.settings,
-        c.in_ok-settings.ensures.ok,
+        c.in_ok-settings.ensures.reads,
         told.2.1,
         subst (λ (text : List ℕ). IsRun c.in_ok-settings.settings text (string_bytes c.run.result.output) c.run.result.end) (c.deref.ensures.value ∙ told.2.0) c.run.ensures.run,
       ),

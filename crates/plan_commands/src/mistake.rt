@@ -1,0 +1,73 @@
+//! A mistake in a settings file: what is wrong, and where.
+
+ghost use Rattle.std.specs.Prelude.{◌≡◌, IfOk};
+ghost use Rattle.pool_settings.specs.Place.{place_view};
+ghost use Rattle.plan_commands.specs.Mistake.{kept_view, mistake_view};
+
+use pool_settings::{Place, SettingsError};
+use std::alloc::{AllocError, Global};
+
+/// The first mistake of a settings file: what is wrong, and where in the file that is. With `Text` the place is a line and a column, with
+/// `TooMany` what there are too many of, and else a key or a name.
+#[derive(Debug, PartialEq, Eq, Drop)]
+pub struct Mistake {
+    /// What is wrong, which is not `Memory`.
+    pub error: SettingsError,
+    /// Where in the file that is.
+    pub place: Place<String>,
+}
+
+impl Mistake {
+    /// The mistake with texts of its own, so that it outlives the file. The only error is out of memory.
+    pub fn new(
+        alloc: Global,
+        error: SettingsError,
+        place: &Place<&str>,
+    ) -> Result<Mistake, AllocError>
+        ensures { IfOk result (λ mistake. mistake_view mistake ≡ (error, place_view (λ t. t.now) place.now)) }
+    {
+        let place = keep(alloc, place)?;
+        Ok(Mistake { error, place })
+    }
+
+    /// The place, which lends its texts.
+    pub fn lent_place(&self) -> Place<&str>
+        ensures { place_view (λ t. t.now) result ≡ kept_view self.now.place }
+    {
+        match &self.place {
+            Place::Text { line, column } => Place::Text {
+                line: *line,
+                column: *column,
+            },
+            Place::Key(key) => Place::Key(key.as_str()),
+            Place::Entry(section, name) => Place::Entry(*section, name.as_str()),
+            Place::EntryKey(section, name, key) => {
+                Place::EntryKey(*section, name.as_str(), key.as_str())
+            }
+            Place::Listed(machine, function) => Place::Listed(machine.as_str(), function.as_str()),
+            Place::Count(counted) => Place::Count(*counted),
+        }
+    }
+}
+
+/// The place with texts of its own.
+fn keep(alloc: Global, place: &Place<&str>) -> Result<Place<String>, AllocError>
+    ensures { IfOk result (λ kept. kept_view kept ≡ place_view (λ t. t.now) place.now) }
+{
+    let kept = match *place {
+        Place::Text { line, column } => Place::Text { line, column },
+        Place::Key(key) => Place::Key(String::from_str(alloc, key)?),
+        Place::Entry(section, name) => Place::Entry(section, String::from_str(alloc, name)?),
+        Place::EntryKey(section, name, key) => Place::EntryKey(
+            section,
+            String::from_str(alloc, name)?,
+            String::from_str(alloc, key)?,
+        ),
+        Place::Listed(machine, function) => Place::Listed(
+            String::from_str(alloc, machine)?,
+            String::from_str(alloc, function)?,
+        ),
+        Place::Count(counted) => Place::Count(counted),
+    };
+    Ok(kept)
+}
