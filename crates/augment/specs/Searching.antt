@@ -3,7 +3,7 @@ use Rattle.std.specs.Prelude.{◌≡◌, ℕ, ◌+◌, ◌<◌, ◌≤◌, Bool,
 use Rattle.augment.specs.declared.search.Tree.{Tree}
 use Rattle.round_arena.specs.declared.tables.Pairs.{Pairs}
 use Rattle.round_arena.specs.declared.tables.Tables.{Tables}
-use Rattle.round_arena.specs.Plan.{IsAssigned, IsCounted, IsGraph, IsIn, Represents, count_on, machine_count}
+use Rattle.round_arena.specs.Plan.{IsAssigned, IsCounted, IsGraph, IsIn, IsPair, Represents, count_on, machine_count}
 use Rattle.round_arena.specs.Planning.{LacksWorkers}
 use Rattle.augment.specs.Tree.{HasRoom, IsTree, IsWayOut}
 
@@ -28,6 +28,18 @@ pub record IsSearching (tables : Tables) (need : List ℕ) (tree : Tree) (head :
 pub record MayDo (pairs : Pairs) (m f : ℕ) : Type 0 where
   pub listed : IsIn pairs.machines.first.now pairs.machines.items.now m f
   pub known : m < machine_count pairs
+
+-- The worker is idle, and one of the machine.
+pub record IsIdleOf (tables : Tables) (need : List ℕ) (m w : ℕ) : Type 0 where
+  pub employed : w < length tables.owner.now
+  pub listed : IsIn tables.pairs.workers.first.now tables.pairs.workers.items.now w m
+  pub idle : slice_index tables.owner.now w ≡ length need
+
+-- The worker is idle, and may do the function.
+pub record IsIdleFor (tables : Tables) (need : List ℕ) (f w : ℕ) : Type 0 where
+  pub employed : w < length tables.owner.now
+  pub permitted : IsPair tables.pairs w f
+  pub idle : slice_index tables.owner.now w ≡ length need
 
 -- The function has fewer workers than it needs.
 pub record IsLacking (tables : Tables) (need : List ℕ) (f : ℕ) : Type 0 where

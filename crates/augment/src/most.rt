@@ -12,13 +12,20 @@ ghost use Rattle.augment.specs.Moves.{IsStuck};
 ghost use Rattle.augment.specs.Searching.{IsLacking, IsStaffed};
 ghost use Rattle.augment.specs.Short.{marked};
 
+use crate::idle::{Idle, count_idle};
 use crate::search::Tree;
 use crate::serving::{collect, new_tree, serve_one};
 use round_arena::{FuncId, Groups, Tables};
 use std::alloc::AllocError;
 
 // Gives the function workers up to its need, and says whether it has so many then. What is looked at is counted in the tables.
-fn serve_function(tables: &mut Tables, need: &[u32], f: u32, tree: &mut Tree) -> bool
+fn serve_function(
+    tables: &mut Tables,
+    need: &[u32],
+    f: u32,
+    tree: &mut Tree,
+    idle: &mut Idle,
+) -> bool
     requires graph { IsGraph (length need.now) (length tables.old.owner.now) tables.old.pairs }
     requires staffed { IsStaffed tables.old.pairs need.now tables.old.owner.now tables.old.count.now tree.old }
     requires within { AreWithinNeeds need.now tables.old.owner.now }
@@ -33,7 +40,7 @@ fn serve_function(tables: &mut Tables, need: &[u32], f: u32, tree: &mut Tree) ->
 {
     while tables.count[f as usize] < need[f as usize] {
         let mut looks = 0;
-        let is_served = serve_one(tables, need, f, tree, &mut looks);
+        let is_served = serve_one(tables, need, f, tree, idle, &mut looks);
         tables.looks = tables.looks.saturating_add(looks);
         if !is_served {
             return false;
@@ -87,7 +94,14 @@ fn mark_reached(short: &mut [usize], tree: &Tree)
 
 // Gives the function workers up to its need. Where it is left short it is marked, and with it all functions that the workers who may do a
 // marked one are on. Where all who may do it are on marked functions, nothing is to be looked for.
-fn serve_or_mark(tables: &mut Tables, need: &[u32], f: u32, tree: &mut Tree, short: &mut [usize])
+fn serve_or_mark(
+    tables: &mut Tables,
+    need: &[u32],
+    f: u32,
+    tree: &mut Tree,
+    idle: &mut Idle,
+    short: &mut [usize],
+)
     requires graph { IsGraph (length need.now) (length tables.old.owner.now) tables.old.pairs }
     requires staffed { IsStaffed tables.old.pairs need.now tables.old.owner.now tables.old.count.now tree.old }
     requires within { AreWithinNeeds need.now tables.old.owner.now }
@@ -104,13 +118,19 @@ fn serve_or_mark(tables: &mut Tables, need: &[u32], f: u32, tree: &mut Tree, sho
 {
     if is_cut_off(tables, short, f) {
         short[f as usize] = 1;
-    } else if !serve_function(tables, need, f, tree) {
+    } else if !serve_function(tables, need, f, tree, idle) {
         mark_reached(short, tree);
     }
 }
 
 // Serves each function that lacks workers as far as it goes, in the order of the tables.
-fn serve_each(tables: &mut Tables, need: &[u32], tree: &mut Tree, short: &mut [usize])
+fn serve_each(
+    tables: &mut Tables,
+    need: &[u32],
+    tree: &mut Tree,
+    idle: &mut Idle,
+    short: &mut [usize],
+)
     requires order { IsPermutation (range_with_len 0 (length need.now)) tables.old.order.now }
     requires graph { IsGraph (length need.now) (length tables.old.owner.now) tables.old.pairs }
     requires staffed { IsStaffed tables.old.pairs need.now tables.old.owner.now tables.old.count.now tree.old }
@@ -127,7 +147,7 @@ fn serve_each(tables: &mut Tables, need: &[u32], tree: &mut Tree, short: &mut [u
     for k in 0..order.len() {
         let f = order[k];
         if tables.count[f as usize] < need[f as usize] {
-            serve_or_mark(tables, need, f, tree, short);
+            serve_or_mark(tables, need, f, tree, idle, short);
         }
     }
 }
@@ -166,7 +186,9 @@ pub fn serve_most<'a>(tables: &mut Tables<'a>, need: &[u32]) -> Result<&'a [Func
     let bump = tables.bump;
     let set = bump.try_alloc_slice_fill_clone(functions, FuncId::new(0))?;
     let short = bump.try_alloc_slice_fill_clone(functions, 0)?;
-    let mut tree = new_tree(bump, functions, tables.pairs.workers.first.len() - 1)?;
-    serve_each(tables, need, &mut tree, short);
+    let machines = tables.pairs.workers.first.len() - 1;
+    let mut tree = new_tree(bump, functions, machines)?;
+    let mut idle = count_idle(bump, tables, functions, machines)?;
+    serve_each(tables, need, &mut tree, &mut idle, short);
     Ok(marked_functions(short, set))
 }

@@ -12,6 +12,7 @@ ghost use Rattle.augment.specs.Searching.{AddsLooks, HasNeeds, IsLacking, IsStaf
 ghost use Rattle.augment.specs.Short.{marked};
 ghost use Rattle.augment.specs.Tree.{HasRoom};
 
+use crate::idle::{Idle, count_idle, employ};
 use crate::search::{Tree, search};
 use bumpalo::Bump;
 use round_arena::{FuncId, Tables};
@@ -32,6 +33,7 @@ pub fn serve_one(
     need: &[u32],
     root: u32,
     tree: &mut Tree,
+    idle: &mut Idle,
     looks: &mut u64,
 ) -> bool
     requires graph { IsGraph (length need.now) (length tables.old.owner.now) tables.old.pairs }
@@ -47,9 +49,10 @@ pub fn serve_one(
     ensures stuck { OnFalse result
         (IsStuck tables.old.pairs tables.new.owner.now tables.new.count.now need.now tree.new root) }
 {
-    let Some(way) = search(tables, need, root, tree, looks) else {
+    let Some(way) = search(tables, need, root, tree, idle, looks) else {
         return false;
     };
+    employ(idle, tables, need.len(), way.worker);
     let mut w = way.worker as usize;
     let mut at = way.place;
     let owner = &mut *tables.owner;
@@ -69,7 +72,13 @@ pub fn serve_one(
 // Moves workers until each function has its need, in the order of the tables, and says whether that was
 // reached. Where it was not, the functions marked in the tree are short of workers. The pairs that it
 // looks at are counted in `looks`, and not in the tables.
-fn serve_all(tables: &mut Tables, need: &[u32], tree: &mut Tree, looks: &mut u64) -> bool
+fn serve_all(
+    tables: &mut Tables,
+    need: &[u32],
+    tree: &mut Tree,
+    idle: &mut Idle,
+    looks: &mut u64,
+) -> bool
     requires order { IsPermutation (range_with_len 0 (length need.now)) tables.old.order.now }
     requires graph { IsGraph (length need.now) (length tables.old.owner.now) tables.old.pairs }
     requires staffed { IsStaffed tables.old.pairs need.now tables.old.owner.now tables.old.count.now tree.old }
@@ -94,7 +103,7 @@ fn serve_all(tables: &mut Tables, need: &[u32], tree: &mut Tree, looks: &mut u64
     for k in 0..order.len() {
         let f = order[k];
         while tables.count[f as usize] < need[f as usize] {
-            if !serve_one(tables, need, f, tree, looks) {
+            if !serve_one(tables, need, f, tree, idle, looks) {
                 return false;
             }
         }
@@ -157,9 +166,11 @@ pub fn serve<'a>(tables: &mut Tables<'a>, need: &[u32]) -> Result<Served<'a>, Al
         return Ok(Served::Short(set));
     }
     let set = bump.try_alloc_slice_fill_clone(functions, FuncId::new(0))?;
-    let mut tree = new_tree(bump, functions, tables.pairs.workers.first.len() - 1)?;
+    let machines = tables.pairs.workers.first.len() - 1;
+    let mut tree = new_tree(bump, functions, machines)?;
+    let mut idle = count_idle(bump, tables, functions, machines)?;
     let mut looks = tables.looks;
-    let is_served = serve_all(tables, need, &mut tree, &mut looks);
+    let is_served = serve_all(tables, need, &mut tree, &mut idle, &mut looks);
     tables.looks = looks;
     if is_served {
         return Ok(Served::All);
