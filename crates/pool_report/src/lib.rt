@@ -43,5 +43,8 @@ pub use error::{ReadError, WriteError};
 pub use law::{
     lines_are_spelled, lines_read_back, names_read_back, report_reads_back, texts_are_reports,
 };
-pub use reader::read;
+pub use line::{Line, after_word, count_after, read_line};
+pub use lines::{push_needed_line, push_short_line, push_worker_line};
+pub use reader::{cut_line, read};
 pub use report::{report_text, write};
+pub use stage::Misread;

@@ -8,21 +8,29 @@ use plan_model::UNSERVED;
 use pool_settings::{is_machine_name, is_name};
 use text_pieces::{cut_last, is_plain, plain_number_u32, plain_number_u64};
 
-/// What a line tells, less the numbers that an answer does not hold.
+/// What a line tells, less the numbers that an answer does not hold. Names are those that some settings could have.
 #[derive(Clone, Copy)]
 pub enum Line<'t> {
+    /// `report 1`.
     Head,
+    /// The backlog of a plan.
     Backlog(u64),
+    /// `noplan`.
     NoPlan,
+    /// A worker, with its function or none.
     Task(&'t [u8], Option<&'t [u8]>),
+    /// What a set needs and has.
     Short,
+    /// A function of the set.
     Needed(&'t [u8]),
+    /// A function that no live worker may do.
     Stranded(&'t [u8]),
+    /// `end`.
     Last,
 }
 
 /// What stands behind a word at the start of a line.
-fn after<'t>(word: &[u8], line: &'t [u8]) -> Option<&'t [u8]>
+pub fn after_word<'t>(word: &[u8], line: &'t [u8]) -> Option<&'t [u8]>
     ensures { option_map (λ t. t.now) result ≡ spec.after_word word.now line.now }
 {
     line.strip_prefix(word)
@@ -77,15 +85,24 @@ fn read_idle(rest: &[u8]) -> Option<Line<'_>>
     }
 }
 
+/// The text `TEXT WORD NUMBER`, as the text and the number, which is below 2^64 and without leading zeros.
+pub fn count_after<'t>(word: &[u8], rest: &'t [u8]) -> Option<(&'t [u8], u64)>
+    ensures { option_map (λ parts. (parts.0.now, parts.1)) result ≡ spec.count_after word.now rest.now }
+{
+    let (front, digits) = cut_last(b' ', rest)?;
+    let number = plain_number_u64(digits)?;
+    let (text, found) = cut_last(b' ', front)?;
+    if found == word {
+        Some((text, number))
+    } else {
+        None
+    }
+}
+
 fn read_short(rest: &[u8]) -> Option<Line<'_>>
     ensures { option_map line_view result ≡ spec.short_in rest.now }
 {
-    let (front, have) = cut_last(b' ', rest)?;
-    let _have = plain_number_u64(have)?;
-    let (need, word) = cut_last(b' ', front)?;
-    if word != b"have".as_slice() {
-        return None;
-    }
+    let (need, _have) = count_after(b"have", rest)?;
     let _need = plain_number_u64(need)?;
     Some(Line::Short)
 }
@@ -93,12 +110,7 @@ fn read_short(rest: &[u8]) -> Option<Line<'_>>
 fn read_needed(rest: &[u8]) -> Option<Line<'_>>
     ensures { option_map line_view result ≡ spec.needed_in rest.now }
 {
-    let (front, need) = cut_last(b' ', rest)?;
-    let _need = plain_number_u64(need)?;
-    let (function, word) = cut_last(b' ', front)?;
-    if word != b"need".as_slice() {
-        return None;
-    }
+    let (function, _need) = count_after(b"need", rest)?;
     if is_name(function) {
         Some(Line::Needed(function))
     } else {
@@ -121,25 +133,25 @@ fn read_stranded(rest: &[u8]) -> Option<Line<'_>>
 fn keyed(line: &[u8]) -> Option<Line<'_>>
     ensures { option_map line_view result ≡ spec.keyed line.now }
 {
-    if let Some(rest) = after(b"backlog ", line) {
+    if let Some(rest) = after_word(b"backlog ", line) {
         return read_backlog(rest);
     }
-    if let Some(rest) = after(b"unserved ", line) {
+    if let Some(rest) = after_word(b"unserved ", line) {
         return read_unserved(rest);
     }
-    if let Some(rest) = after(b"work ", line) {
+    if let Some(rest) = after_word(b"work ", line) {
         return read_work(rest);
     }
-    if let Some(rest) = after(b"idle ", line) {
+    if let Some(rest) = after_word(b"idle ", line) {
         return read_idle(rest);
     }
-    if let Some(rest) = after(b"short need ", line) {
+    if let Some(rest) = after_word(b"short need ", line) {
         return read_short(rest);
     }
-    if let Some(rest) = after(b"in ", line) {
+    if let Some(rest) = after_word(b"in ", line) {
         return read_needed(rest);
     }
-    if let Some(rest) = after(b"stranded ", line) {
+    if let Some(rest) = after_word(b"stranded ", line) {
         return read_stranded(rest);
     }
     None

@@ -14,7 +14,7 @@ use std::alloc::Global;
 use text_pieces::cut_first;
 
 /// The text before and behind the first line feed.
-fn cut_line(text: &[u8]) -> Option<(&[u8], &[u8])>
+pub fn cut_line(text: &[u8]) -> Option<(&[u8], &[u8])>
     ensures { MatchOption result (slice_split is_line_feed text.now ≡ text.now ∷ [])
         (λ p. (slice_split is_line_feed text.now ≡ p.0.now ∷ slice_split is_line_feed p.1.now)
         × (length p.1.now < length text.now)) }

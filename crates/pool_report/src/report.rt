@@ -11,7 +11,7 @@ ghost use Rattle.pool_report.specs.Report.{needed_line, short_if, short_lines, s
 ghost use Rattle.pool_settings.specs.Names.{name_at};
 
 use crate::error::WriteError;
-use crate::lines::{push_backlog, push_short_line};
+use crate::lines::{push_backlog, push_needed_line, push_short_line, push_worker_line};
 use byte_io::{Sink, give_all};
 use plan_model::{
     Answer, FuncId, FuncSet, Input, MachineId, Plan, SlotId, TOP_LEVEL, count_neighbours,
@@ -44,10 +44,7 @@ fn push_worker(
     let (slot, machine) = worker;
     let name = settings.machine_name(machine);
     let number = slot.number().saturating_sub(settings.first_slot(machine));
-    match task_of(settings, plan, slot) {
-        Some(function) => write!(out, "work {name}/{number} {function}\n"),
-        None => write!(out, "idle {name}/{number}\n"),
-    }
+    push_worker_line(out, name, number, task_of(settings, plan, slot))
 }
 
 fn push_tasks(
@@ -79,8 +76,7 @@ fn push_needed(
         ≡ string_bytes out.old ++ needed_line (spec.needed_at settings.now input.now level function)) }
 {
     let name = settings.function_name(function);
-    let need = input.need(level, function);
-    write!(out, "in {name} need {need}\n")
+    push_needed_line(out, name, input.need(level, function))
 }
 
 fn push_set(

@@ -1,0 +1,6 @@
+pub mod Lines
+pub mod Told
+pub mod Grown
+pub mod Text
+pub mod Reading
+pub mod Drafts

@@ -1,0 +1,28 @@
+//! How far the text of a size has been read, and which kind of size it tells.
+
+use plan_sizing::Obstacle;
+
+/// How far the text of a size has been read.
+#[derive(Clone, Copy, Debug, PartialEq, Eq)]
+pub enum Stage {
+    Start,
+    Level,
+    Verdict,
+    /// The machines with an addition are told.
+    Added,
+    Tasks,
+    /// It is told that no addition serves.
+    Barred,
+    /// It is told that each addition that serves is too many.
+    Beyond,
+    Set,
+    Done,
+}
+
+/// Which kind of size is told.
+#[derive(Clone, Copy, Debug, PartialEq, Eq)]
+pub enum Kind {
+    Enough,
+    Never(Obstacle),
+    TooMany(u64),
+}
