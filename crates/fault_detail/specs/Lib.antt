@@ -1,0 +1,2 @@
+pub mod Complaint
+pub mod Detail

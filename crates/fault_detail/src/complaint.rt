@@ -1,0 +1,81 @@
+//! What error output gets of a fault.
+
+ghost use Rattle.std.specs.Prelude.{◌≡◌, ◌-◌, ◌^◌, ◌<◌, IsTrue};
+ghost use Rattle.fault_detail.specs.Complaint as spec;
+ghost use Rattle.fault_detail.specs.Detail.{names_of};
+
+use crate::detail::detail_line;
+use crate::given::Given;
+use byte_io::{Sink, give_all};
+use plan_commands::Fault;
+use std::alloc::Global;
+
+/// Who reads what the program writes to error output.
+#[derive(Clone, Copy, Debug, PartialEq, Eq)]
+pub enum Reader {
+    /// A person at a terminal, who is told in a second line what a fault is about.
+    Person,
+    /// A program or a file, which gets the fault line alone.
+    Program,
+}
+
+/// Writes the fault line, and for a person what the fault is about.
+pub fn tell<E: Sink>(
+    reader: Reader,
+    alloc: Global,
+    given: &Given<'_>,
+    fault: &Fault,
+    errors: &mut E,
+)
+    requires { (E.output errors.old).failures < 2 ^ 64 - 1 }
+    ensures tells { spec.Tells reader (names_of given.now) fault.now (E.output errors.old) (E.output errors.new) }
+{
+    match reader {
+        Reader::Program => {
+            complain(alloc, fault, errors);
+        }
+        Reader::Person => tell_person(alloc, given, fault, errors),
+    }
+}
+
+/// Writes the fault line, and what the fault is about, if the fault line went out whole.
+fn tell_person<E: Sink>(alloc: Global, given: &Given<'_>, fault: &Fault, errors: &mut E)
+    requires { (E.output errors.old).failures < 2 ^ 64 - 1 }
+    ensures { spec.TellsPerson (names_of given.now) fault.now (E.output errors.old) (E.output errors.new) }
+{
+    let is_whole = complain(alloc, fault, errors);
+    if is_whole {
+        tell_more(alloc, given, fault, errors);
+    }
+}
+
+/// Writes what a fault is about; where there is no memory for that line, nothing.
+fn tell_more<E: Sink>(alloc: Global, given: &Given<'_>, fault: &Fault, errors: &mut E)
+    requires { (E.output errors.old).failures < 2 ^ 64 - 1 }
+    ensures { spec.TellsMore (names_of given.now) fault.now (E.output errors.old) (E.output errors.new) }
+{
+    if let Ok(line) = detail_line(alloc, given, fault) {
+        say(errors, line.as_bytes());
+    }
+}
+
+/// Writes the line of a fault; where there is no memory for it, that there is none. Tells whether the line went out whole.
+pub fn complain<E: Sink>(alloc: Global, fault: &Fault, errors: &mut E) -> bool
+    requires { (E.output errors.old).failures < 2 ^ 64 - 1 }
+    ensures complains { spec.Complains fault.now (E.output errors.old) (E.output errors.new) }
+    ensures whole { IsTrue result → (E.output errors.new).failures ≡ (E.output errors.old).failures }
+{
+    match format!(in alloc; "poolman: {fault}\n") {
+        Ok(line) => say(errors, line.as_bytes()),
+        Err(_) => say(errors, b"poolman: memory\n"),
+    }
+}
+
+/// Writes a text, or a front of it where a write fails, which nobody can be told of. Tells whether the text went out whole.
+pub fn say<E: Sink>(errors: &mut E, text: &[u8]) -> bool
+    requires { (E.output errors.old).failures < 2 ^ 64 - 1 }
+    ensures says { spec.SaysLine text.now (E.output errors.old) (E.output errors.new) }
+    ensures whole { IsTrue result → (E.output errors.new).failures ≡ (E.output errors.old).failures }
+{
+    give_all(errors, text).is_ok()
+}

@@ -1,0 +1,12 @@
+//! What error output gets of a fault: the fault line, and for a person what the fault is about.
+#![tactic(auto)]
+
+mod complaint;
+mod detail;
+mod given;
+mod sentence;
+mod wanted;
+
+pub use complaint::{Reader, complain, say, tell};
+pub use detail::detail_line;
+pub use given::Given;

@@ -1,0 +1,30 @@
+//! A fault in a sentence.
+
+use crate::wanted::wanted;
+use devices::InputError;
+use plan_commands::{Fault, Mistake};
+use std::alloc::{AllocError, Global};
+
+/// What is wrong with the settings, and what is wanted in its place.
+fn of_mistake(alloc: Global, mistake: &Mistake) -> Result<String, AllocError> {
+    match wanted(mistake) {
+        Some(words) => format!(in alloc; "{} ({words})", mistake.error),
+        None => format!(in alloc; "{}", mistake.error),
+    }
+}
+
+/// What is wrong, in a sentence. Refusals that have one of their own are displayed by it.
+pub fn sentence(alloc: Global, fault: &Fault) -> Result<String, AllocError> {
+    match fault {
+        Fault::Settings(mistake) => of_mistake(alloc, mistake),
+        Fault::UnknownWorker(_) => String::from_str(alloc, "the settings have no such worker"),
+        Fault::Status(error) => format!(in alloc; "{error}"),
+        Fault::Report(error) => format!(in alloc; "{error}"),
+        Fault::BadCommand(line) => format!(in alloc; "line {line} is no command"),
+        Fault::File(_, error) => format!(in alloc; "{error}"),
+        Fault::TooLong => format!(in alloc; "{}", InputError::TooLong),
+        Fault::ReadFault => format!(in alloc; "{}", InputError::ReadFault),
+        Fault::WriteFault => String::from_str(alloc, "a write failed"),
+        Fault::Memory => String::from_str(alloc, "out of memory"),
+    }
+}
