@@ -1,25 +1,42 @@
 #!/usr/bin/env bash
-# Time, looks and memory of one round at the limits: bench/planning.sh
-# Builds bench/planning in a scratch copy of the repository and runs it on each kind of input. Where the program is built
-# (crates/poolman/out/poolman), `poolman plan` is timed on the same inputs as files.
+# Time, looks and memory of one round at the limits, and of the size of that farm: bench/planning.sh
+# Builds bench/planning in a scratch copy of the repository and runs it on each kind of input: `solve`, and `find_size` at the backlog,
+# where nobody is missing, and at half of it. Where the program is built (crates/poolman/out/poolman), `poolman plan` is timed on the same
+# inputs as files, and `poolman size` at half of the backlog, if the program has that command.
 set -eu
 cd "$(dirname "$0")/.."
 program="$PWD/crates/poolman/out/poolman"
 source bench/scratch.sh
-begin planning 'level_search plan_model bumpalo'
+begin planning 'level_search plan_sizing plan_model bumpalo'
 build all
-printf '%-10s %12s %12s %10s %10s %12s %12s\n' input backlog looks seconds 'peak KiB' 'plan seconds' 'plan KiB'
+
+# figures WORDS: what the program prints, and behind it seconds and peak KiB. A command that is not there gives none.
+figures() {
+    local status=0
+    /usr/bin/time -q -o "$scratch/time" -f '%U %S %M' "$@" > "$scratch/output" || status=$?
+    if [ "$status" -gt 1 ]; then
+        echo '- - -'
+        return
+    fi
+    awk -v output="$(head -n 1 "$scratch/output")" '{ printf "%s %.2f %s\n", output, $1 + $2, $3 }' "$scratch/time"
+}
+
+printf '%-10s %8s %10s %8s %8s %8s %8s %8s %8s %8s %8s\n' input backlog looks seconds KiB 'size' 'half' \
+    'plan' 'plan KiB' 'size' 'size KiB'
 for kind in all half sparse chains triangle detour steps; do
-    figures=$(/usr/bin/time -o "$scratch/time" -f '%U %S %M' "$bench" "$kind")
-    read -r user system peak < "$scratch/time"
-    whole='- - -'
+    read -r backlog looks seconds peak <<< "$(figures "$bench" "$kind")"
+    half=$(((backlog + 1) / 2))
+    size=$(figures "$bench" "$kind" "$backlog" | awk '{ print $(NF - 1) }')
+    size_half=$(figures "$bench" "$kind" "$half" | awk '{ print $(NF - 1) }')
+    whole='- -'
+    sized='- -'
     if [ -x "$program" ]; then
         python3 bench/planning/generate.py "$kind" "$scratch/$kind"
-        /usr/bin/time -o "$scratch/time" -f '%U %S %M' "$program" plan "$scratch/$kind/settings.toml" \
-            < "$scratch/$kind/status.txt" > "$scratch/$kind/report.txt"
-        whole=$(cat "$scratch/time")
+        files="$scratch/$kind"
+        whole=$(figures "$program" plan "$files/settings.toml" < "$files/status.txt" | awk '{ print $(NF - 1), $NF }')
+        sized=$(figures "$program" size "$files/settings.toml" "$half" < "$files/status.txt" | awk '{ print $(NF - 1), $NF }')
     fi
-    awk -v kind="$kind" -v figures="$figures" -v user="$user" -v system_time="$system" -v peak="$peak" -v whole="$whole" \
-        'BEGIN { split(figures, f, " "); split(whole, w, " ");
-                 printf "%-10s %12s %12s %10.2f %10s %12s %12s\n", kind, f[1], f[2], user + system_time, peak, (w[1] == "-" ? "-" : sprintf("%.2f", w[1] + w[2])), w[3] }'
+    read -r plan_seconds plan_peak size_seconds size_peak <<< "$whole $sized"
+    printf '%-10s %8s %10s %8s %8s %8s %8s %8s %8s %8s %8s\n' "$kind" "$backlog" "$looks" "$seconds" "$peak" "$size" "$size_half" \
+        "$plan_seconds" "$plan_peak" "$size_seconds" "$size_peak"
 done
