@@ -15,5 +15,5 @@ pub use ending::{Exit, deliver};
 pub use fault::{Fault, NamedFile};
 pub use mistake::Mistake;
 pub use plan::plan_text;
-pub use problem::Problem;
+pub use problem::{Problem, pose, pose_text};
 pub use reading::read_settings;

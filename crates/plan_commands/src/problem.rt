@@ -2,6 +2,7 @@
 
 ghost use Rattle.std.specs.Prelude.{◌≡◌, ◌≢◌, ◌-◌, ◌^◌, ◌<◌, IfErr, IfOk, false, map, true};
 ghost use Rattle.byte_io.specs.Sides.{Meets, Met};
+ghost use Rattle.pool_report.specs.Law.{IsOf};
 ghost use Rattle.pool_settings.specs.Planning.{instance_of, waiting_of};
 ghost use Rattle.plan_commands.specs.Posing.{GivesLoad, Poses, PosesText};
 ghost use Rattle.plan_commands.specs.Problem as spec;
@@ -76,6 +77,7 @@ pub fn pose<S: Source>(
     ensures posed { (met : Met) × Meets (S.input source.old) met (S.input source.new)
         × Poses settings_text.now (map (λ w. w.now) lost.now) met result }
     ensures of_these { IfOk result (λ p. p.input.may ≡ p.settings.may) }
+    ensures of_settings { IfOk result (λ p. IsOf p.settings p.input) }
 {
     let settings = read_settings(alloc, settings_text)?;
     let live = live_marks(alloc, &settings, lost)?;
@@ -94,6 +96,7 @@ pub fn pose_text(
 ) -> Result<Problem, Fault>
     ensures posed { PosesText settings_text.now (map (λ w. w.now) lost.now) (spec.load_of status_text.now) result }
     ensures of_these { IfOk result (λ p. p.input.may ≡ p.settings.may) }
+    ensures of_settings { IfOk result (λ p. IsOf p.settings p.input) }
 {
     let settings = read_settings(alloc, settings_text)?;
     let live = live_marks(alloc, &settings, lost)?;

@@ -47,3 +47,6 @@ returns-clause-posed g c =
           c.in_ok-load.load c.in_ok-input.input c.in_ok-settings.ensures.reads c.in_ok-live.ensures.known (c.deref.ensures.value ∙ c.in_ok-live.ensures.ok) told.2
           c.in_ok-input.ensures,
     )
+
+pub returns-clause-of_settings : goal.returns-clause-of_settings
+returns-clause-of_settings g c = (_, _, c.in_ok-input.ensures)

@@ -1,0 +1,3 @@
+pub mod Farms
+pub mod Sizes
+pub mod CheckSizes
