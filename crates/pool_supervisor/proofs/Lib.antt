@@ -1,4 +1,6 @@
+pub mod Called
 pub mod Counts
 pub mod Late
 pub mod Published
 pub mod Rounds
+pub mod Tries

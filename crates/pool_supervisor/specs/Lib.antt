@@ -1,5 +1,8 @@
+pub mod Asking
 pub mod Boards
 pub mod Counted
+pub mod Dials
+pub mod Joined
 pub mod Lines
 pub mod PortCalls
 pub mod Published
@@ -7,3 +10,4 @@ pub mod Reached
 pub mod Rounds
 pub mod Sessions
 pub mod Steps
+pub mod Tries

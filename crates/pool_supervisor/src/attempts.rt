@@ -1,8 +1,10 @@
 //! The supervisor of a run, and the steps of an attempt, one after the other.
-ghost use Rattle.std.specs.Prelude.{◌≡◌, ◌+◌, ◌<◌, ◌≤◌, IfOk, IfSome, OnOk, vec_len, vec_capacity};
+ghost use Rattle.std.specs.Prelude.{◌≡◌, ◌+◌, ◌-◌, ◌<◌, ◌≤◌, ◌^◌, not, IfOk, IfSome, OnOk, vec_len, vec_capacity};
 ghost use Rattle.pool_settings.specs.Slots.{slots as slot_count};
+ghost use Rattle.pool_supervisor.specs.Asking.{Tells};
 ghost use Rattle.pool_supervisor.specs.Counted.{CountAHistory};
 ghost use Rattle.pool_supervisor.specs.Rounds.{PostAndStop, Posts, PostSince, StopsAll, TellRun};
+ghost use Rattle.pool_supervisor.specs.Tries.{Attempts, Dials, Fills, FillsOne, IsSeenAs};
 
 use crate::attempt::Attempt;
 use crate::crew::Crew;
@@ -53,19 +55,17 @@ pub struct Lines {
 
 /// The supervisor of a run: where its sessions are, the sessions, and what it alone has.
 #[derive(Drop)]
-pub struct Supervisor<'e, N: RunId, L, Y, P, J, C, R> {
+pub struct Supervisor<'e, N: RunId, L: Source + Sink, Y, P, J, C, R> {
     /// Where the sessions are.
     pub site: Site<'e, N, J, C, R>,
     /// What makes links to the job server.
-    pub dial: &'e Y,
+    pub dial: Y,
     /// What finds plans.
     pub planner: &'e P,
     /// The sessions.
-    pub crew: Crew<N>,
+    pub crew: Crew<N, L>,
     /// Its seats at the board.
     pub seats: Seats,
-    /// What kind of links there are.
-    pub links: PhantomData<L>,
     /// The seats are at the run's board.
     pub ghost can_post: { seats.publisher.board ≡ N.board },
     pub ghost can_seat: { seats.source.board ≡ N.board },
@@ -82,8 +82,11 @@ impl<'e, N: RunId, J, C: Watch, R: Wait> Site<'e, N, J, C, R> {
     /// Whether no worker is in the slot.
     fn is_empty(&self, slot: SlotId) -> bool
         requires { slot < slot_count self.now.run.settings.now }
+        ensures { IsSeenAs N.settings slot (not result) }
     {
-        self.run.is_empty(&self.shared.hold(self.lent.rt), slot)
+        let held = self.shared.hold(self.lent.rt);
+        held.facts();
+        self.run.is_empty(&held, slot)
     }
 
     /// A new worker in the slot, if the pool takes one.
@@ -110,30 +113,31 @@ impl<
     'e,
     N: RunId + Send + Sync + 'e,
     L: Source + Sink + Send + Drop,
-    Y: Dial<L>,
+    Y: Dial<L> + Drop,
     P: Planner,
     J: Jobs + Sync,
     C: Watch + Progress + Sync,
     R: Threads + Wait + Sync,
 > Supervisor<'e, N, L, Y, P, J, C, R> {
-    /// Starts a session in the slot if it is empty, and there is room, a link and a worker. The error is that a thread could not be
-    /// started.
-    fn start_one<'s>(&mut self, scope: &Scope<'s, &'e ()>, slot: SlotId) -> Result<(), AllocError>
+    /// Starts a session in the slot over this link if there is room and a worker; else the link is closed. The error is that a thread could
+    /// not be started.
+    fn start_over<'s>(
+        &mut self,
+        scope: &Scope<'s, &'e ()>,
+        slot: SlotId,
+        link: L,
+    ) -> Result<(), AllocError>
     where
         'e: 's,
         N: 's,
         L: 's,
         requires slot { slot < slot_count N.settings }
+        requires link { ((L.output link).failures < 2 ^ 64 - 1) × ((L.input link).failures < 2 ^ 64 - 1) }
         ensures posts { self.new.seats.publisher ≡ self.old.seats.publisher }
+        ensures dial { self.new.dial ≡ self.old.dial }
     {
         let site = self.site;
-        if !site.is_empty(slot) {
-            return Ok(());
-        }
         let Ok(berth) = self.crew.berth(site.lent.alloc) else {
-            return Ok(());
-        };
-        let Some(link) = self.dial.dial() else {
             return Ok(());
         };
         let Some(pass) = site.join_worker(slot) else {
@@ -147,14 +151,36 @@ impl<
         site.start(scope, &mut self.crew, berth, link, worker)
     }
 
-    /// Starts a session in each empty slot, in order, for which there is room, a link and a worker, whatever became of the others. The
-    /// error is that a thread could not be started.
+    /// Dials for the slot if it is empty, and starts a session if there is a link, room and a worker. The error is that a thread could
+    /// not be started.
+    fn start_one<'s>(&mut self, scope: &Scope<'s, &'e ()>, slot: SlotId) -> Result<(), AllocError>
+    where
+        'e: 's,
+        N: 's,
+        L: 's,
+        requires slot { slot < slot_count N.settings }
+        ensures posts { self.new.seats.publisher ≡ self.old.seats.publisher }
+        ensures fills { FillsOne N.settings slot (Y.calls self.old.dial) (Y.calls self.new.dial) }
+    {
+        if !self.site.is_empty(slot) {
+            return Ok(());
+        }
+        match self.dial.dial() {
+            Some(link) => self.start_over(scope, slot, link),
+            None => Ok(()),
+        }
+    }
+
+    /// Dials for each empty slot once, in order, and starts a session in it if there is a link, room and a worker, whatever became of the
+    /// others. The error is that a thread could not be started.
     fn start_all<'s>(&mut self, scope: &Scope<'s, &'e ()>) -> Result<(), AllocError>
     where
         'e: 's,
         N: 's,
         L: 's,
         ensures posts { self.new.seats.publisher ≡ self.old.seats.publisher }
+        ensures fills { OnOk result
+            (Fills N.settings (slot_count N.settings) (Y.calls self.old.dial) (Y.calls self.new.dial)) }
     {
         for number in 0..self.site.run.settings.slots() {
             self.start_one(scope, SlotId::new(number))?;
@@ -165,6 +191,7 @@ impl<
     /// Posts Stop to the worker of every slot.
     fn stop_all(&mut self)
         ensures stops { StopsAll N.settings self.old.seats.publisher.posts self.new.seats.publisher.posts }
+        ensures dial { self.new.dial ≡ self.old.dial }
     {
         let site = self.site;
         let held = site.shared.hold(site.lent.rt);
@@ -175,6 +202,7 @@ impl<
     /// What the server says, and then a plan for it.
     fn make_round(&mut self) -> Attempt
         ensures posts { Posts N.settings result self.old.seats.publisher.posts self.new.seats.publisher.posts }
+        ensures tells { Tells N.settings result (Y.calls self.old.dial) (Y.calls self.new.dial) }
     {
         match self.take_load() {
             Ok(()) => self.plan_round(),
@@ -197,10 +225,13 @@ impl<
         ensures one { OnOk result (vec_len lines.new.told ≡ vec_len lines.old.told + 1) }
         ensures posts { OnOk result (PostSince N.settings lines.old.told.items lines.new.told.items
             self.old.seats.publisher.posts self.new.seats.publisher.posts) }
+        ensures calls { OnOk result (Attempts N.settings lines.old.told.items lines.new.told.items
+            (Y.calls self.old.dial) (Y.calls self.new.dial)) }
     {
         let site = self.site;
         let number = lines.told.len() as u32 + 1;
-        self.crew.join_ended(&site, &mut self.seats.source);
+        self.crew
+            .join_ended(&site, &mut self.seats.source, &mut self.dial);
         // The lock is free when the events of the chapter are dropped.
         let ended = site.end_chapter_if_due();
         if ended.is_some() {
@@ -228,6 +259,8 @@ impl<
         ensures lines { OnOk result (vec_len lines.new.told ≡ lines.old.rounds) }
         ensures posts { OnOk result (PostSince N.settings lines.old.told.items lines.new.told.items
             self.old.seats.publisher.posts self.new.seats.publisher.posts) }
+        ensures calls { OnOk result (Attempts N.settings lines.old.told.items lines.new.told.items
+            (Y.calls self.old.dial) (Y.calls self.new.dial)) }
     {
         let site = self.site;
         while lines.told.len() < lines.rounds as usize {
@@ -250,54 +283,64 @@ impl<
         ensures lines { OnOk result (vec_len lines.new.told ≡ lines.old.rounds) }
         ensures posts { OnOk result (PostAndStop N.settings lines.old.told.items lines.new.told.items
             self.old.seats.publisher.posts self.new.seats.publisher.posts) }
+        ensures calls { OnOk result (Attempts N.settings lines.old.told.items lines.new.told.items
+            (Y.calls self.old.dial) (Y.calls self.new.dial)) }
     {
         let attempted = self.attempt_all(scope, lines);
         self.stop_all();
         attempted
     }
 
-    /// All attempts, and then the end of all sessions.
+    /// All attempts, and then the end of all sessions. What dials is handed back.
     fn supervise<'s>(
         mut self,
         scope: &Scope<'s, &'e ()>,
         mut lines: Lines,
-    ) -> Result<RunEnd, AllocError>
+    ) -> Result<(RunEnd, Y), AllocError>
     where
         'e: 's,
         N: 's,
         L: 's,
-        ensures lines { IfOk result (λ ended. vec_len ended.lines ≡ lines.rounds) }
-        ensures told { IfOk result (λ ended. TellRun N.settings lines.told.items ended.lines.items self.entry.seats.publisher.posts) }
-        ensures counts { IfOk result (λ ended. CountAHistory N.settings ended.totals) }
+        ensures lines { IfOk result (λ ended. vec_len ended.0.lines ≡ lines.rounds) }
+        ensures told { IfOk result (λ ended. TellRun N.settings lines.told.items ended.0.lines.items self.entry.seats.publisher.posts) }
+        ensures counts { IfOk result (λ ended. CountAHistory N.settings ended.0.totals) }
+        ensures dials { IfOk result
+            (λ ended. Dials N.settings lines.told.items ended.0.lines.items (Y.calls self.entry.dial) (Y.calls ended.1)) }
     {
         let attempted = self.attempt_and_stop(scope, &mut lines);
         let Supervisor {
             site,
-            dial: _,
+            mut dial,
             planner: _,
             crew,
             mut seats,
-            links: _,
         } = self;
-        let ended = crew.join_all(&site, &mut seats.source, lines);
+        let ended = crew.join_all(&site, &mut seats.source, &mut dial, lines);
         attempted?;
-        ended.ok_or(AllocError)
+        match ended {
+            Some(ended) => Ok((ended, dial)),
+            None => Err(AllocError),
+        }
     }
 
-    /// The run, with its sessions as threads of one scope. All that they are lent has one lifetime.
-    pub fn run(self, lines: Lines) -> Result<RunEnd, AllocError>
-        ensures lines { IfOk result (λ ended. vec_len ended.lines ≡ lines.rounds) }
-        ensures told { IfOk result (λ ended. TellRun N.settings lines.told.items ended.lines.items self.entry.seats.publisher.posts) }
-        ensures counts { IfOk result (λ ended. CountAHistory N.settings ended.totals) }
+    /// The run, with its sessions as threads of one scope. All that they are lent has one lifetime. What dials is handed back.
+    pub fn run(self, lines: Lines) -> Result<(RunEnd, Y), AllocError>
+        ensures lines { IfOk result (λ ended. vec_len ended.0.lines ≡ lines.rounds) }
+        ensures told { IfOk result (λ ended. TellRun N.settings lines.told.items ended.0.lines.items self.entry.seats.publisher.posts) }
+        ensures counts { IfOk result (λ ended. CountAHistory N.settings ended.0.totals) }
+        ensures dials { IfOk result
+            (λ ended. Dials N.settings lines.told.items ended.0.lines.items (Y.calls self.entry.dial) (Y.calls ended.1)) }
     {
         thread::scope(
             thread::scope_env(),
             self.site.lent.rt,
-            |scope| -> Result<RunEnd, AllocError>
-                ensures lines { IfOk result (λ ended. vec_len ended.lines ≡ lines.rounds) }
+            |scope| -> Result<(RunEnd, Y), AllocError>
+                ensures lines { IfOk result (λ ended. vec_len ended.0.lines ≡ lines.rounds) }
                 ensures told { IfOk result
-                    (λ ended. TellRun N.settings lines.told.items ended.lines.items self.entry.seats.publisher.posts) }
-                ensures counts { IfOk result (λ ended. CountAHistory N.settings ended.totals) }
+                    (λ ended. TellRun N.settings lines.told.items ended.0.lines.items self.entry.seats.publisher.posts) }
+                ensures counts { IfOk result (λ ended. CountAHistory N.settings ended.0.totals) }
+                ensures dials { IfOk result (λ ended. Dials N.settings lines.told.items ended.0.lines.items
+                    (Y.calls self.entry.dial) (Y.calls ended.1)) }
             { self.supervise(scope, lines) },
         )
     }

@@ -2,8 +2,10 @@
 ghost use Rattle.std.specs.Prelude.{◌≡◌, ◌+◌, ◌-◌, ◌<◌, ◌≤◌, ◌^◌, IfSome, OnOk, vec_len};
 ghost use Rattle.pool_settings.specs.Slots.{slots as slot_count};
 ghost use Rattle.pool_supervisor.specs.Counted.{CountAHistory};
+ghost use Rattle.pool_supervisor.specs.Joined.{Joins};
 
 use crate::attempts::Lines;
+use crate::dial::Dial;
 use crate::ends::EndCounts;
 use crate::place::{Grabs, Place, Reports, RunId};
 use crate::port::Watch;
@@ -14,6 +16,7 @@ use job_runner::Jobs;
 use order_board::SeatSource;
 use std::alloc::{AllocError, Global};
 use std::marker::Model;
+use std::snapshot::Snapshot;
 use std::sync::atomic::{AtomicBool, Ordering};
 use std::sync::ledger::Share;
 use std::sync::{Arc, Wait};
@@ -29,8 +32,9 @@ const STACK: usize = 256 * 1024;
 
 /// A session that was started.
 #[derive(Drop)]
-struct Started<N: RunId> {
-    handle: JoinHandle<Returned<N>>,
+struct Started<N: RunId, L: Source + Sink> {
+    /// It hands back what its link was at its end, besides.
+    handle: JoinHandle<(Returned<N>, Snapshot<L>)>,
     /// Set by the session as the last that it does.
     has_ended: Arc<AtomicBool>,
 }
@@ -47,8 +51,8 @@ pub struct Berth {
 /// Our shares and the running sessions' shares make up both ledgers, less two for each session that failed to start. Our shares
 /// stand at the sums of what the sessions told that have ended.
 #[derive(Drop)]
-pub struct Crew<N: RunId> {
-    running: Vec<Started<N>>,
+pub struct Crew<N: RunId, L: Source + Sink> {
+    running: Vec<Started<N, L>>,
     grabs: Share<Grabs<N>>,
     reports: Share<Reports<N>>,
     grabbed: u64,
@@ -57,7 +61,7 @@ pub struct Crew<N: RunId> {
     not_started: u64,
 }
 
-impl<N: RunId> Model for Crew<N> {
+impl<N: RunId, L: Source + Sink> Model for Crew<N, L> {
     ghost use Rattle.std.specs.Prelude.{◌≡◌, ◌+◌, ◌^◌, vec_len, vec_capacity};
     ghost use Rattle.pool_supervisor.specs.Sessions.{Sessions};
 
@@ -70,9 +74,9 @@ impl<N: RunId> Model for Crew<N> {
         × (c.reports.parts + vec_len c.running + c.not_started ≡ 2 ^ 40) × (c.reports.amount ≡ c.reported) };
 }
 
-impl<N: RunId> Crew<N> {
+impl<N: RunId, L: Source + Sink> Crew<N, L> {
     /// No session yet, over the whole shares, which stand at 0.
-    pub fn new(alloc: Global, grabs: Share<Grabs<N>>, reports: Share<Reports<N>>) -> Crew<N>
+    pub fn new(alloc: Global, grabs: Share<Grabs<N>>, reports: Share<Reports<N>>) -> Crew<N, L>
         requires grabs { (grabs.parts ≡ 2 ^ 40) × (grabs.amount ≡ 0) }
         requires reports { (reports.parts ≡ 2 ^ 40) × (reports.amount ≡ 0) }
     {
@@ -111,17 +115,19 @@ impl<N: RunId> Crew<N> {
         self.running[at].has_ended.load(Ordering::SeqCst)
     }
 
-    /// Joins a session, adds up what it did, and takes its seat back.
-    fn take_back<J, C, R: Threads + Wait>(
+    /// Joins a session, adds up what it did, takes its seat back, and tells how its link ended.
+    fn take_back<J, C, R: Threads + Wait, Y: Dial<L>>(
         &mut self,
         site: &Site<'_, N, J, C, R>,
         source: &mut SeatSource,
+        dial: &mut Y,
         at: usize,
     )
         requires at { at < self.old.running }
         requires board { source.old.board ≡ N.board }
         ensures one { self.new.running + 1 ≡ self.old.running }
         ensures source { source.new ≡ source.old }
+        ensures joins { Joins (Y.calls dial.old) (Y.calls dial.new) }
     {
         let Crew {
             running,
@@ -136,12 +142,13 @@ impl<N: RunId> Crew<N> {
             handle,
             has_ended: _,
         } = running.swap_remove(at);
+        let (returned, link) = handle.join(site.lent.rt);
         let Returned {
             end,
             place,
             grabbed: grab_share,
             reported: report_share,
-        } = handle.join(site.lent.rt);
+        } = returned;
         grabs.merge(grab_share);
         reports.merge(report_share);
         // The books bound the shares, and so the sums.
@@ -151,43 +158,48 @@ impl<N: RunId> Crew<N> {
         ends.count(end.cause);
         let Place { seat, of: _ } = place;
         site.run.board.give_back(seat, source);
+        dial.hung_up(link);
     }
 
     /// Joins the sessions that have ended, so that none keeps a handle or a thread for longer than an attempt. It waits for no session
     /// that goes on.
-    pub fn join_ended<J, C, R: Threads + Wait>(
+    pub fn join_ended<J, C, R: Threads + Wait, Y: Dial<L>>(
         &mut self,
         site: &Site<'_, N, J, C, R>,
         source: &mut SeatSource,
+        dial: &mut Y,
     )
         requires board { source.old.board ≡ N.board }
         ensures source { source.new ≡ source.old }
+        ensures joins { Joins (Y.calls dial.old) (Y.calls dial.new) }
     {
         let mut at = self.running.len();
         while at > 0 {
             at -= 1;
             if self.has_ended(at) {
-                self.take_back(site, source, at);
+                self.take_back(site, source, dial, at);
             }
         }
     }
 
     /// Joins all sessions, as each ends, and takes the totals: what the run came to, with these lines. None if a session could not be
     /// started.
-    pub fn join_all<J, C, R: Threads + Wait>(
+    pub fn join_all<J, C, R: Threads + Wait, Y: Dial<L>>(
         mut self,
         site: &Site<'_, N, J, C, R>,
         source: &mut SeatSource,
+        dial: &mut Y,
         lines: Lines,
     ) -> Option<RunEnd>
         requires board { source.old.board ≡ N.board }
+        ensures joins { Joins (Y.calls dial.old) (Y.calls dial.new) }
         ensures lines { IfSome result (λ ended. vec_len ended.lines ≡ vec_len lines.told) }
         ensures told { IfSome result (λ ended. ended.lines.items ≡ lines.told.items) }
         ensures counts { IfSome result (λ ended. CountAHistory N.settings ended.totals) }
     {
         while self.running.len() > 0 {
             let last = self.running.len() - 1;
-            self.take_back(site, source, last);
+            self.take_back(site, source, dial, last);
         }
         if self.not_started > 0 {
             return None;
@@ -226,7 +238,7 @@ impl<'e, N: RunId, J: Jobs + Sync, C: Watch + Sync, R: Threads + Wait + Sync> Si
     pub fn start<'s, L: Source + Sink + Send + Drop + 's>(
         self,
         scope: &Scope<'s, &'e ()>,
-        crew: &mut Crew<N>,
+        crew: &mut Crew<N, L>,
         berth: Berth,
         link: L,
         worker: Enrolled<N>,
@@ -256,15 +268,16 @@ impl<'e, N: RunId, J: Jobs + Sync, C: Watch + Sync, R: Threads + Wait + Sync> Si
             has_ended,
             of_session,
         } = berth;
-        let work = move || -> Returned<N>
+        let work = move || -> (Returned<N>, Snapshot<L>)
             requires slot { papers.worker.pass.slot < slot_count site.run.settings.now }
             requires link { ((L.output link).failures < 2 ^ 64 - 1) × ((L.input link).failures < 2 ^ 64 - 1) }
         {
             let mut link = link;
             let returned = run_worker(&site, &mut link, papers);
+            let closed = Snapshot::of(&link);
             drop(link);
             of_session.store(true, Ordering::SeqCst);
-            returned
+            (returned, closed)
         };
         match thread::Builder::new()
             .stack_size(STACK)

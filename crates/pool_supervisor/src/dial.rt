@@ -1,11 +1,29 @@
 //! What makes links to the job server.
-ghost use Rattle.std.specs.Prelude.{◌≡◌, IfSome};
+ghost use Rattle.std.specs.Prelude.{◌≡◌, ◌∷◌, [], IfSome};
+ghost use Rattle.job_runner.specs.Run.{seen_link};
+ghost use Rattle.pool_supervisor.specs.Dials.{IsNew, closed, dialled, then_called};
 
 use byte_io::{Sink, Source};
+use std::snapshot::Snapshot;
 
-/// What makes links to the job server.
+/// What makes links to the job server, and is told of those that were used how they ended.
+///
+/// One in memory can tell contracts its calls, as a list. Of the system's network nothing is known, and it tells None.
 pub trait Dial<L: Source + Sink> {
-    /// A new link, which has counted no failure, or none where the server could not be reached.
-    fn dial(&self) -> Option<L>
-        ensures { IfSome result (λ link. ((L.output link).failures ≡ 0) × ((L.input link).failures ≡ 0)) };
+    ghost use Rattle.std.specs.Prelude.{List, Option};
+    ghost use Rattle.pool_supervisor.specs.Dials.{DialCall};
+
+    /// The calls so far, the first one first, or None.
+    ghost calls: { Self → Option (List DialCall) };
+
+    /// A new link, or none if the server could not be reached.
+    fn dial(&mut self) -> Option<L>
+        ensures calls { Self.calls self.new ≡ then_called (Self.calls self.old) (dialled result ∷ []) }
+        ensures fresh { IfSome result (λ link. IsNew (seen_link L.input L.output link)) };
+
+    /// A link was closed. This is what it was then: a link of the run's own after its use, and the link of a session once that is joined.
+    /// A link over which no session came about is not told of.
+    fn hung_up(&mut self, link: Snapshot<L>)
+        ensures calls { Self.calls self.new
+            ≡ then_called (Self.calls self.old) (closed (seen_link L.input L.output link.value) ∷ []) };
 }

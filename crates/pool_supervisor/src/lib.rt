@@ -5,6 +5,7 @@
 //! shares add up to the totals of the pool, whatever the threads do.
 #![tactic(auto)]
 
+mod asking;
 mod attempt;
 mod attempts;
 mod booked;

@@ -1,16 +1,18 @@
 //! One round of planning: what the server says, the plan, and its orders.
-ghost use Rattle.std.specs.Prelude.{◌≡◌, ◌-◌, ◌<◌, ◌^◌, Ok, Err, false, IfSome, IfNone, IfOk, IfErr};
+ghost use Rattle.std.specs.Prelude.{◌≡◌, Ok, true, false, IfSome, IfNone, IfErr, OnOk};
+ghost use Rattle.pool_supervisor.specs.Asking.{Given, IsNotTaken, Takes, Tells, is_planned};
 ghost use Rattle.pool_supervisor.specs.Rounds.{Posts, is_round};
-ghost use Rattle.pool_supervisor.specs.Steps.{AnswersView, Reads};
+ghost use Rattle.pool_supervisor.specs.Steps.{AnswersView};
 
+use crate::asking::ask_for_load;
 use crate::attempt::{Attempt, PoolRefusal};
 use crate::attempts::Supervisor;
 use crate::dial::Dial;
 use crate::place::RunId;
 use crate::planner::Planner;
-use crate::steps::LoadCall;
-use byte_io::{Sink, Source, give_all};
-use gear_status::read_status;
+use crate::session::Site;
+use byte_io::{Sink, Source};
+use gear_status::Load;
 use plan_model::{Certified, Input, Plan};
 use pool_core::AdoptError;
 use std::sync::Wait;
@@ -29,6 +31,22 @@ fn planned_for<P: Planner>(planner: &P, viewed: (Input, Option<Plan>)) -> Option
     }
 }
 
+/// Gives the pool the load. The error is the line of an attempt whose load was not taken.
+fn give_load<N: RunId, J, C, R: Wait>(
+    site: &Site<'_, N, J, C, R>,
+    load: Load,
+) -> Result<(), Attempt>
+    ensures ok { OnOk result (Takes N.settings load (Ok tt)) }
+    ensures err { IfErr result (IsNotTaken N.settings load) }
+{
+    let mut held = site.shared.hold(site.lent.rt);
+    held.facts();
+    match held.load(load) {
+        Ok(()) => Ok(()),
+        Err(error) => Err(Attempt::Refused(PoolRefusal::Load(error))),
+    }
+}
+
 impl<'e, N: RunId, L: Source + Sink + Drop, Y: Dial<L>, P: Planner, J, C, R: Wait> Supervisor<
     'e,
     N,
@@ -39,38 +57,15 @@ impl<'e, N: RunId, L: Source + Sink + Drop, Y: Dial<L>, P: Planner, J, C, R: Wai
     C,
     R,
 > {
-    /// Asks the server for its status over this link, and gives the pool the load that it read.
-    fn load_over(&self, link: &mut L) -> Result<LoadCall, Attempt>
-        requires output { (L.output link.old).failures < 2 ^ 64 - 1 }
-        requires input { (L.input link.old).failures < 2 ^ 64 - 1 }
-        ensures load { IfOk result (λ call. Reads (Ok call.0) (L.input link.old) (L.input link.new)) }
+    /// Asks the server for its load, and gives it to the pool. The error is the line of an attempt that has no load to plan for.
+    pub fn take_load(&mut self) -> Result<(), Attempt>
+        ensures ok { OnOk result (Given N.settings (Y.calls self.old.dial) (Y.calls self.new.dial)) }
+        ensures err { IfErr result (λ line. Tells N.settings line (Y.calls self.old.dial) (Y.calls self.new.dial)) }
         ensures no_round { IfErr result (λ line. is_round line ≡ false) }
+        ensures posts { self.new.seats.publisher ≡ self.old.seats.publisher }
     {
-        if give_all(link, b"status\n").is_err() {
-            return Err(Attempt::NoLink);
-        }
-        match read_status(self.site.lent.alloc, link) {
-            Ok(load) => {
-                let mut held = self.site.shared.hold(self.site.lent.rt);
-                Ok(LoadCall::make(&mut held, load))
-            }
-            Err(error) => Err(Attempt::Status(error)),
-        }
-    }
-
-    /// Asks the server for its status over a link of its own, which is closed then, and gives the pool the load. At `Err` there is no load
-    /// to plan for, and why not.
-    pub fn take_load(&self) -> Result<(), Attempt>
-        ensures no_round { IfErr result (λ line. is_round line ≡ false) }
-    {
-        let Some(mut link) = self.dial.dial() else {
-            return Err(Attempt::NoLink);
-        };
-        let call = self.load_over(&mut link)?;
-        match call.answer() {
-            Ok(()) => Ok(()),
-            Err(error) => Err(Attempt::Refused(PoolRefusal::Load(error))),
-        }
+        let load = ask_for_load(self.site.lent.alloc, &mut self.dial)?;
+        give_load(&self.site, load)
     }
 
     /// Views the pool, plans while the lock is free, and adopts the plan, whose orders are posted in the same hold of the lock. None if the
@@ -78,6 +73,8 @@ impl<'e, N: RunId, L: Source + Sink + Drop, Y: Dial<L>, P: Planner, J, C, R: Wai
     fn try_round(&mut self) -> Option<Attempt>
         ensures posts { IfSome result (λ line. Posts N.settings line self.old.seats.publisher.posts self.new.seats.publisher.posts) }
         ensures stale { IfNone result (self.new.seats.publisher ≡ self.old.seats.publisher) }
+        ensures planned { IfSome result (λ line. is_planned line ≡ true) }
+        ensures dial { self.new.dial ≡ self.old.dial }
     {
         let site = self.site;
         let viewed = site.shared.hold(site.lent.rt).view();
@@ -100,6 +97,8 @@ impl<'e, N: RunId, L: Source + Sink + Drop, Y: Dial<L>, P: Planner, J, C, R: Wai
     /// A round for the load that the pool has. If the pool changes while it is planned, it is tried again, three times in all.
     pub fn plan_round(&mut self) -> Attempt
         ensures posts { Posts N.settings result self.old.seats.publisher.posts self.new.seats.publisher.posts }
+        ensures planned { is_planned result ≡ true }
+        ensures dial { self.new.dial ≡ self.old.dial }
     {
         for _turn in 0..TRIES {
             if let Some(attempt) = self.try_round() {

@@ -4,6 +4,7 @@ ghost use Rattle.pool_settings.specs.Slots.{slots as slot_count};
 ghost use Rattle.pool_core.specs.Book.{totals_of};
 ghost use Rattle.pool_supervisor.specs.Counted.{CountAHistory};
 ghost use Rattle.pool_supervisor.specs.Rounds.{TellRun};
+ghost use Rattle.pool_supervisor.specs.Tries.{Dials};
 
 use crate::attempt::Attempt;
 use crate::attempts::{Lines, Progress, Seats, Supervisor};
@@ -69,12 +70,12 @@ struct Made {
 /// What the supervisor of a run is lent by its caller, beside what its sessions are.
 struct Tools<'e, L, Y, P> {
     settings: &'e Settings,
-    dial: &'e Y,
+    dial: Y,
     planner: &'e P,
     links: PhantomData<L>,
 }
 
-impl<'e, L: Source + Sink + Send + Drop, Y: Dial<L>, P: Planner> Tools<'e, L, Y, P> {
+impl<'e, L: Source + Sink + Send + Drop, Y: Dial<L> + Drop, P: Planner> Tools<'e, L, Y, P> {
     /// The run of this name.
     fn run<
         N: RunId + Send + Sync,
@@ -87,20 +88,22 @@ impl<'e, L: Source + Sink + Send + Drop, Y: Dial<L>, P: Planner> Tools<'e, L, Y,
         made: Made,
         grabbed: Blank,
         reported: Blank,
-    ) -> Result<RunEnd, AllocError>
+    ) -> Result<(RunEnd, Y), AllocError>
         requires board { made.board.id ≡ N.board }
         requires settings { (self.settings.now ≡ N.settings) × (made.pool.settings ≡ N.settings) }
         requires grabbed { (grabbed.name ≡ N.grabs) × (grabbed.parts ≡ 2 ^ 40) }
         requires reported { (reported.name ≡ N.reports) × (reported.parts ≡ 2 ^ 40) }
-        ensures lines { IfOk result (λ ended. vec_len ended.lines ≡ made.lines.rounds) }
-        ensures told { IfOk result (λ ended. TellRun made.pool.settings [] ended.lines.items []) }
-        ensures counts { IfOk result (λ ended. CountAHistory made.pool.settings ended.totals) }
+        ensures lines { IfOk result (λ ended. vec_len ended.0.lines ≡ made.lines.rounds) }
+        ensures told { IfOk result (λ ended. TellRun made.pool.settings [] ended.0.lines.items []) }
+        ensures counts { IfOk result (λ ended. CountAHistory made.pool.settings ended.0.totals) }
+        ensures dials { IfOk result
+            (λ ended. Dials made.pool.settings [] ended.0.lines.items (Y.calls self.entry.dial) (Y.calls ended.1)) }
     {
         let Tools {
             settings,
             dial,
             planner,
-            links,
+            links: _,
         } = self;
         let Made {
             pool,
@@ -123,9 +126,8 @@ impl<'e, L: Source + Sink + Send + Drop, Y: Dial<L>, P: Planner> Tools<'e, L, Y,
             },
             dial,
             planner,
-            crew: Crew::<N>::new(lent.alloc, grabs, reports),
+            crew: Crew::<N, L>::new(lent.alloc, grabs, reports),
             seats,
-            links,
         };
         supervisor.run(lines)
     }
@@ -162,10 +164,11 @@ fn make(alloc: Global, settings: &Settings, rounds: u32) -> Result<Made, AllocEr
 }
 
 /// Runs a pool of these settings for so many attempts, with a session for each slot, and then ends all sessions. The watch is told
-/// of each attempt. The only error is that memory or a thread was refused.
+/// of each attempt. What dials is handed back with what the run came to, so that its calls are known. The only error is that memory or a
+/// thread was refused.
 pub fn run_pool<
     L: Source + Sink + Send + Drop,
-    Y: Dial<L>,
+    Y: Dial<L> + Drop,
     P: Planner,
     J: Jobs + Sync,
     C: Watch + Progress + Sync,
@@ -173,16 +176,17 @@ pub fn run_pool<
 >(
     rt: &R,
     alloc: Global,
-    dial: &Y,
+    dial: Y,
     watch: &C,
     planner: &P,
     jobs: &J,
     settings: Settings,
     rounds: u32,
-) -> Result<RunEnd, AllocError>
-    ensures lines { IfOk result (λ e. vec_len e.lines ≡ rounds) }
-    ensures told { IfOk result (λ e. TellRun settings [] e.lines.items []) }
-    ensures counts { IfOk result (λ e. CountAHistory settings e.totals) }
+) -> Result<(RunEnd, Y), AllocError>
+    ensures lines { IfOk result (λ e. vec_len e.0.lines ≡ rounds) }
+    ensures told { IfOk result (λ e. TellRun settings [] e.0.lines.items []) }
+    ensures counts { IfOk result (λ e. CountAHistory settings e.0.totals) }
+    ensures dials { IfOk result (λ e. Dials settings [] e.0.lines.items (Y.calls dial) (Y.calls e.1)) }
 {
     let made = make(alloc, &settings, rounds)?;
     let tools: Tools<'_, L, Y, P> = Tools {

@@ -4,7 +4,7 @@ ghost use Rattle.pool_settings.specs.Slots.{slots as slot_count};
 ghost use Rattle.worker_state.specs.Slots.{is_live};
 ghost use Rattle.worker_state.specs.declared.slot.Slot.TheVariants.{Empty};
 ghost use Rattle.pool_core.specs.Machine.{slot_in};
-ghost use Rattle.pool_core.specs.Calls.{Adopts, EndsChapter, Expires, Loads};
+ghost use Rattle.pool_core.specs.Calls.{Adopts, EndsChapter, Expires};
 ghost use Rattle.pool_supervisor.specs.Published.{ArePosted, round_order, stop_order};
 ghost use Rattle.pool_supervisor.specs.Reached.{IsReached, IsRoundOf};
 ghost use Rattle.pool_supervisor.specs.Steps.{IsChapterDue, IsLate, worker_of};
@@ -12,53 +12,10 @@ ghost use Rattle.pool_supervisor.specs.Steps.{IsChapterDue, IsLate, worker_of};
 use crate::booked::Booked;
 use crate::place::{Grabs, Reports, RunBoard, RunId};
 use crate::posting::{publish_by, stop_by};
-use gear_status::Load;
 use order_board::PublisherSeat;
 use plan_model::{Certified, SlotId};
-use pool_core::{AdoptError, Chapter, ChapterError, ExpireError, LoadError, Ran, histories_join};
-use std::marker::Model;
-use std::snapshot::Snapshot;
+use pool_core::{AdoptError, Chapter, ChapterError, ExpireError, Ran, histories_join};
 use worker_state::Slot;
-
-/// A call that gave a pool a load. It is made by that call alone, so whoever has one knows of the call though the lock is free again.
-///
-/// Contracts see the load and what the pool answered.
-#[derive(Drop)]
-pub struct LoadCall {
-    load: Snapshot<Load>,
-    answer: Result<(), LoadError>,
-}
-
-impl Model for LoadCall {
-    ghost use Rattle.std.specs.Prelude.{List, Result};
-    ghost use Rattle.gear_status.specs.Status.{Line};
-    ghost use Rattle.pool_core.specs.declared.error.LoadError.{LoadError};
-
-    ghost Value = { List Line × Result (Unit {0}) LoadError };
-
-    ghost view = { λ c. (c.load.value, c.answer) };
-}
-
-impl LoadCall {
-    /// Gives the pool a load.
-    pub fn make<N: RunId>(held: &mut Booked<Grabs<N>, Reports<N>>, load: Load) -> LoadCall
-        ensures pool { Loads load held.old held.new result.1 }
-        ensures load { result.0 ≡ load }
-    {
-        let given = Snapshot::of(&load);
-        LoadCall {
-            load: given,
-            answer: held.load(load),
-        }
-    }
-
-    /// What the pool answered.
-    pub fn answer(self) -> Result<(), LoadError>
-        ensures { result ≡ self.1 }
-    {
-        self.answer
-    }
-}
 
 impl<'e, N: RunId> RunBoard<'e, N> {
     /// Ends the chapter of the history if more than half of what the history may have is used, so that a long run does not run out of

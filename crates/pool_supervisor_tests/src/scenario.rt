@@ -7,7 +7,6 @@ use pool_settings::Settings;
 use pool_supervisor::{ArenaPlanner, RunEnd, attempt_line, run_pool};
 use std::alloc::{AllocError, Global};
 use std::sync::Wait;
-use std::sync::atomic::AtomicU64;
 use std::test::Fail;
 use std::thread::Threads;
 use std::time::Clock;
@@ -67,7 +66,7 @@ impl Scenario {
             tally,
             parts: self.parts,
             statuses: self.statuses,
-            failing_dials: AtomicU64::new(self.failing_dials),
+            failing_dials: self.failing_dials,
         };
         let stage = Stage::new(rt, tally, self.pauses);
         let planner = Waiting {
@@ -77,10 +76,10 @@ impl Scenario {
             waits: self.plan_waits,
         };
         let jobs = reverse_alone(rt, alloc, tally, self.job_waits)?;
-        let ended = run_pool(
+        let (ended, _server) = run_pool(
             rt,
             alloc,
-            &server,
+            server,
             &stage,
             &planner,
             &jobs,

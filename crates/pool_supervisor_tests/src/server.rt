@@ -6,7 +6,7 @@ use byte_io::{Device, DeviceFault, Sink, Source, Took};
 use gear_packets::{Request, decode};
 use pool_supervisor::Dial;
 use std::alloc::{AllocError, Global};
-use std::sync::atomic::{AtomicU64, Ordering};
+use std::snapshot::Snapshot;
 use std::thread;
 use std::time::{Clock, Duration};
 
@@ -56,7 +56,7 @@ pub struct Server<'a, R> {
     /// What it answers when it is asked for its status, the first time first. Behind them it tells of no function.
     pub statuses: &'static [&'static [u8]],
     /// So many dials fail before the first that does not.
-    pub failing_dials: AtomicU64,
+    pub failing_dials: u64,
 }
 
 /// Counts that the link of a worker was closed.
@@ -279,10 +279,17 @@ impl<R> Sink for Link<'_, R> {
 }
 
 impl<'a, R: Clock> Dial<Link<'a, R>> for Server<'a, R> {
-    fn dial(&self) -> Option<Link<'a, R>> {
-        let failing = self.failing_dials.load(Ordering::SeqCst);
-        if failing > 0 {
-            self.failing_dials.store(failing - 1, Ordering::SeqCst);
+    ghost use Rattle.std.specs.Prelude.{◌≡◌, None};
+
+    ghost calls = { λ _. None };
+
+    fn hung_up(&mut self, _link: Snapshot<Link<'a, R>>)
+        ensures { self.new ≡ self.old }
+    {}
+
+    fn dial(&mut self) -> Option<Link<'a, R>> {
+        if self.failing_dials > 0 {
+            self.failing_dials -= 1;
             return None;
         }
         Some(Link {

@@ -1,8 +1,11 @@
 //! What a run is lent by the machine that it is on.
-ghost use Rattle.std.specs.Prelude.{◌≡◌, IfSome};
+ghost use Rattle.std.specs.Prelude.{IfSome};
+ghost use Rattle.job_runner.specs.Run.{seen_link};
+ghost use Rattle.pool_supervisor.specs.Dials.{IsNew};
 
 use byte_io::{Sink, Source};
 use pool_supervisor::{Dial, Progress, Watch};
+use std::snapshot::Snapshot;
 use std::sync::Wait;
 use std::thread::Threads;
 
@@ -13,10 +16,9 @@ pub trait Host: Threads + Wait + Watch + Progress + Sync {
     type Link: Source + Sink + Send + Drop;
 
     /// A new link to the server, which is named as `host:port`, or none where it cannot be reached. A read of the link that gets nothing
-    /// for so many milliseconds is a lull. The link has counted no failure.
+    /// for so many milliseconds is a lull. The link has given and taken nothing, and has counted no failure.
     fn reach(&self, server: &str, lull_ms: u32) -> Option<Self::Link>
-        ensures { IfSome result
-            (λ link. ((Self.Link.output link).failures ≡ 0) × ((Self.Link.input link).failures ≡ 0)) };
+        ensures { IfSome result (λ link. IsNew (seen_link Self.Link.input Self.Link.output link)) };
 }
 
 /// Makes links from a host to one server.
@@ -31,7 +33,15 @@ pub struct Route<'e, H> {
 }
 
 impl<'e, H: Host> Dial<H::Link> for Route<'e, H> {
-    fn dial(&self) -> Option<H::Link> {
+    ghost use Rattle.std.specs.Prelude.{◌≡◌, None};
+
+    ghost calls = { λ _. None };
+
+    fn dial(&mut self) -> Option<H::Link> {
         self.host.reach(self.server.as_str(), self.lull_ms)
     }
+
+    fn hung_up(&mut self, _link: Snapshot<H::Link>)
+        ensures { self.new ≡ self.old }
+    {}
 }

@@ -32,7 +32,8 @@ fn run_stock<H: Host>(
         lull_ms: settings.lull_ms(),
     };
     let planner = ArenaPlanner::new(alloc);
-    run_pool(host, alloc, &route, host, &planner, &jobs, settings, rounds)
+    let (ended, _route) = run_pool(host, alloc, route, host, &planner, &jobs, settings, rounds)?;
+    Ok(ended)
 }
 
 /// What a run came to, and the text of it.

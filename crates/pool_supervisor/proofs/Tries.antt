@@ -1,0 +1,115 @@
+-- What attempts do with links, one after the other.
+use Rattle.std.proofs.Common.{◌≡◌, ◌+◌, ℕ, List, [], ◌∷◌, ◌++◌, Bool, true, false, length, map, refl, ap, sym, subst, ◌∙◌, arith, append_assoc, length-append, Option, Ok, Err}
+use Rattle.std.specs.Prelude.{Result, IfErr}
+use Rattle.std.specs.List.{flat_map, AllByRecursion}
+use Rattle.std.proofs.lemmas.List.{append-nil, map-append}
+use Rattle.worker_state.specs.Slots.{is_live}
+use Rattle.gear_status.specs.Status.{Line}
+use Rattle.pool_core.specs.Machine.{State, slot_in}
+use Rattle.pool_settings.specs.Settings.{Settings}
+use Rattle.pool_settings.specs.Slots.{slots}
+use Rattle.pool_supervisor.specs.declared.attempt.Attempt.{Attempt}
+use Rattle.pool_supervisor.specs.Asking.{Asks, IsNotTaken, Tells}
+use Rattle.job_runner.specs.Run.{Link}
+use Rattle.pool_supervisor.specs.Dials.{DialCall, closed, then_called}
+use Rattle.pool_supervisor.specs.Joined.{Joins}
+use Rattle.pool_supervisor.specs.Tries.{Look, dials_of, DialsOnce, FillsSlot, FillFrom, IsSeenAs, FillsOne, Fills, Try, calls_of, line_of, IsTry, Attempts, Dials}
+use Rattle.pool_supervisor.proofs.Called.{called_none, called_both, flat_map_both}
+
+-- ---- slots
+
+-- a slot in which a worker was live, for which nothing was dialled
+pub fills_none : (settings : Settings) (slot : ℕ) (before : Option (List DialCall)) → IsSeenAs settings slot true → FillsOne settings slot before before
+fills_none settings slot before seen = record {
+  look = record { state = seen.0; dials = [] };
+  calls = sym (called_none before);
+  fills = (seen.1, subst (λ (b : Bool). DialsOnce b []) seen.2 refl);
+}
+
+-- an empty slot, for which one dial was made
+pub fills_once : (settings : Settings) (slot : ℕ) (before now : Option (List DialCall)) (dials : List DialCall) → DialsOnce false dials → IsSeenAs settings slot false → now ≡ then_called before dials
+    → FillsOne settings slot before now
+fills_once settings slot before now dials one seen calls = record {
+  look = record { state = seen.0; dials = dials };
+  calls = calls;
+  fills = (seen.1, subst (λ (b : Bool). DialsOnce b dials) seen.2 one);
+}
+
+fill_one_more : (settings : Settings) (first slot : ℕ) (looks : List Look) (look : Look) → slot ≡ first + length looks → FillFrom settings first looks → FillsSlot settings slot look
+    → FillFrom settings first (looks ++ look ∷ [])
+fill_one_more settings first slot [] look at all fills = (subst (λ (k : ℕ). FillsSlot settings k look) (omega (arith, at)) fills, tt)
+fill_one_more settings first slot (l ∷ looks) look at all fills = (all.0, fill_one_more settings (first + 1) slot looks look (omega (arith, at)) all.1 fills)
+
+pub no_slots : (settings : Settings) (before : Option (List DialCall)) → Fills settings 0 before before
+no_slots settings before = record { looks = []; calls = sym (called_none before); all = refl; each = tt }
+
+pub one_slot_more : (settings : Settings) (count : ℕ) (before between now : Option (List DialCall)) → Fills settings count before between → FillsOne settings count between now
+    → Fills settings (count + 1) before now
+one_slot_more settings count before between now f one = record {
+  looks = f.looks ++ one.look ∷ [];
+  calls = called_both before between now (flat_map dials_of f.looks) one.look.dials f.calls one.calls
+      ∙ ap (λ l. then_called before l) (ap (λ l. flat_map dials_of f.looks ++ l) (sym (append-nil one.look.dials)) ∙ sym (flat_map_both dials_of f.looks (one.look ∷ [])));
+  all = omega (arith, length-append f.looks (one.look ∷ []), f.all);
+  each = fill_one_more settings 0 count f.looks one.look (omega (arith, f.all)) f.each one.fills;
+}
+
+-- ---- sessions
+
+pub no_joins : (before : Option (List DialCall)) → Joins before before
+no_joins before = record { links = []; calls = sym (called_none before) }
+
+-- one session was joined
+pub one_join : (before now : Option (List DialCall)) (link : Link) → now ≡ then_called before (closed link ∷ []) → Joins before now
+one_join before now link calls = record { links = link ∷ []; calls = calls }
+
+pub more_joins : (before between now : Option (List DialCall)) → Joins before between → Joins between now → Joins before now
+more_joins before between now first then = record {
+  links = first.links ++ then.links;
+  calls = called_both before between now (map closed first.links) (map closed then.links) first.calls then.calls
+      ∙ ap (λ l. then_called before l) (sym (map-append closed first.links then.links));
+}
+
+-- ---- lines
+
+-- the pool did not take the load
+pub tells_not_taken : (settings : Settings) (load : List Line) (line : Attempt) (before now : Option (List DialCall)) → Asks (Ok load) before now → IsNotTaken settings load line → Tells settings line before now
+tells_not_taken settings load line before now asks not_taken =
+    subst (λ (l : Attempt). Tells settings l before now) (sym not_taken.1)
+    (record { asked = asks.asked; calls = asks.calls; follows = (load, asks.answers, not_taken.2) })
+
+pub tells_if_not_taken : (settings : Settings) (load : List Line) (before now : Option (List DialCall)) (r : Result (Unit {0}) Attempt) → Asks (Ok load) before now
+    → IfErr r (IsNotTaken settings load) → IfErr r (λ line. Tells settings line before now)
+tells_if_not_taken settings load before now (Ok x) asks not_taken = tt
+tells_if_not_taken settings load before now (Err line) asks not_taken = tells_not_taken settings load line before now asks not_taken
+
+-- ---- attempts
+
+all_of_both : {A : Type 0} (P : A → Type 0) (xs ys : List A) → AllByRecursion P xs → AllByRecursion P ys → AllByRecursion P (xs ++ ys)
+all_of_both P [] ys all more = more
+all_of_both P (x ∷ xs) ys all more = (all.0, all_of_both P xs ys all.1 more)
+
+pub no_attempts : (settings : Settings) (lines : List Attempt) (before : Option (List DialCall)) → Attempts settings lines lines before before
+no_attempts settings lines before = record { tries = []; lines = sym (append-nil lines); calls = sym (called_none before); each = tt }
+
+pub one_attempt : (settings : Settings) (lines : List Attempt) (line : Attempt) (before joined filled now : Option (List DialCall)) → Joins before joined → Fills settings (slots settings) joined filled
+    → Tells settings line filled now → Attempts settings lines (lines ++ line ∷ []) before now
+one_attempt settings lines line before joined filled now joins fills tells =
+    let try : Try = record { joined = joins.links; looks = fills.looks; asked = tells.asked; line = line } in
+    let behind = called_both joined filled now (flat_map dials_of fills.looks) tells.asked fills.calls tells.calls in
+    let all = called_both before joined now (map closed joins.links) (flat_map dials_of fills.looks ++ tells.asked) joins.calls behind in
+    record {
+      tries = try ∷ [];
+      lines = refl;
+      calls = all ∙ ap (λ l. then_called before l) (sym (append-nil (calls_of try)));
+      each = ((fills.all, fills.each, tells.follows), tt);
+    }
+
+pub more_attempts : (settings : Settings) (old mid new : List Attempt) (before between now : Option (List DialCall)) → Attempts settings old mid before between → Attempts settings mid new between now
+    → Attempts settings old new before now
+more_attempts settings old mid new before between now first then = record {
+  tries = first.tries ++ then.tries;
+  lines = then.lines ∙ (ap (λ (l : List Attempt). l ++ map line_of then.tries) first.lines ∙ (append_assoc old (map line_of first.tries) (map line_of then.tries) ∙ ap (λ (l : List Attempt). old ++ l) (sym (map-append line_of first.tries then.tries))));
+  calls = called_both before between now (flat_map calls_of first.tries) (flat_map calls_of then.tries) first.calls then.calls
+      ∙ ap (λ l. then_called before l) (sym (flat_map_both calls_of first.tries then.tries));
+  each = all_of_both (IsTry settings) first.tries then.tries first.each then.each;
+}

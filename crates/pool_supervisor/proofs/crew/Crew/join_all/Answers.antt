@@ -1,0 +1,6 @@
+use Rattle.std.proofs.Common.{rules}
+use Rattle.pool_supervisor.proofs.Tries.{more_joins}
+use Rattle.pool_supervisor.proofs.crew.Crew.join_all.Goals as goal
+
+pub loop-self-preserved : goal.loop-self-preserved
+loop-self-preserved g c = (search rules, more_joins _ _ _ c.loop-self.invariant.1 c.take_back.ensures.joins)

@@ -1,0 +1,83 @@
+-- The attempts of a run, by the calls of what dials.
+use Rattle.std.specs.Prelude.{◌≡◌, ◌⊎◌, ◌+◌, ℕ, List, [], ◌∷◌, ◌++◌, Bool, true, false, length, map, Option, ⊤}
+use Rattle.std.specs.List.{flat_map, AllByRecursion}
+use Rattle.worker_state.specs.Slots.{is_live}
+use Rattle.job_runner.specs.Run.{Link}
+use Rattle.pool_core.specs.Machine.{State, slot_in}
+use Rattle.pool_settings.specs.Settings.{Settings}
+use Rattle.pool_settings.specs.Slots.{slots}
+use Rattle.pool_supervisor.specs.declared.attempt.Attempt.{Attempt}
+use Rattle.pool_supervisor.specs.Asking.{Follows}
+use Rattle.pool_supervisor.specs.Dials.{DialCall, failed, opened, closed, then_called}
+use Rattle.pool_supervisor.specs.Joined.{Joins}
+use Rattle.pool_supervisor.specs.Reached.{IsReached}
+
+-- a look at a slot: the pool as it stood then, and the dials that were made for the slot
+pub record Look : Type 0 where
+  pub state : State
+  pub dials : List DialCall
+
+abbrev pub dials_of : Look → List DialCall
+dials_of look = look.dials
+
+-- one dial, opened or failed, unless a worker is live in the slot
+abbrev pub DialsOnce : Bool → List DialCall → Type 0
+DialsOnce true dials = dials ≡ []
+DialsOnce false dials = (dials ≡ opened ∷ []) ⊎ (dials ≡ failed ∷ [])
+
+-- the pool was in a state that a history leads to, and the slot was dialled for once if it was empty
+abbrev pub FillsSlot : Settings → ℕ → Look → Type 0
+FillsSlot settings slot look = IsReached settings look.state × DialsOnce (is_live (slot_in look.state.slots slot)) look.dials
+
+-- the same of slots in order, of which the first has this number
+abbrev pub FillFrom : Settings → ℕ → List Look → Type 0
+FillFrom settings slot [] = ⊤
+FillFrom settings slot (look ∷ looks) = FillsSlot settings slot look × FillFrom settings (slot + 1) looks
+
+-- when the slot was looked at, a history had led to a state in which a worker was live in it, or not
+abbrev pub IsSeenAs : Settings → ℕ → Bool → Type 0
+IsSeenAs settings slot live = (state : State) × IsReached settings state × (live ≡ is_live (slot_in state.slots slot))
+
+-- one slot was looked at
+pub record FillsOne (settings : Settings) (slot : ℕ) (before now : Option (List DialCall)) : Type 0 where
+  pub look : Look
+  pub calls : now ≡ then_called before look.dials
+  pub fills : FillsSlot settings slot look
+
+-- the slots up to this one were looked at, each once and in order
+pub record Fills (settings : Settings) (count : ℕ) (before now : Option (List DialCall)) : Type 0 where
+  pub looks : List Look
+  pub calls : now ≡ then_called before (flat_map dials_of looks)
+  pub all : length looks ≡ count
+  pub each : FillFrom settings 0 looks
+
+-- An attempt: the links of the sessions that it joined, its looks at the slots, its calls for the load, and its line.
+pub record Try : Type 0 where
+  pub joined : List Link
+  pub looks : List Look
+  pub asked : List DialCall
+  pub line : Attempt
+
+abbrev pub calls_of : Try → List DialCall
+calls_of try = map closed try.joined ++ (flat_map dials_of try.looks ++ try.asked)
+
+abbrev pub line_of : Try → Attempt
+line_of try = try.line
+
+-- Every slot was looked at, each once and in order, and the line follows from the calls for the load.
+abbrev pub IsTry : Settings → Try → Type 0
+IsTry settings try =
+    (length try.looks ≡ slots settings) × FillFrom settings 0 try.looks × Follows settings try.asked try.line
+
+-- attempts were made one after the other: their lines were added, and these calls were made
+pub record Attempts (settings : Settings) (old new : List Attempt) (before now : Option (List DialCall)) : Type 0 where
+  pub tries : List Try
+  pub lines : new ≡ old ++ map line_of tries
+  pub calls : now ≡ then_called before (flat_map calls_of tries)
+  pub each : AllByRecursion (IsTry settings) tries
+
+-- What a run does with links: attempts, one after the other, and then the sessions that are left are joined.
+pub record Dials (settings : Settings) (old new : List Attempt) (before now : Option (List DialCall)) : Type 0 where
+  pub between : Option (List DialCall)
+  pub attempts : Attempts settings old new before between
+  pub last : Joins between now
