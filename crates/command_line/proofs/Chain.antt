@@ -41,6 +41,26 @@ three_distinct a b c ab ac bc (suc (suc zero)) (suc (suc zero)) d e h k s = refl
 three_distinct a b c ab ac bc (suc (suc (suc j))) k d e h l s = absurd (omega arith)
 three_distinct a b c ab ac bc j (suc (suc (suc k))) d e h l s = absurd (omega arith)
 
+pub four_distinct : (a b c e : Arg) → Differ a b → Differ a c → Differ a e → Differ b c → Differ b e → Differ c e → HasDistinctIds (a ∷ b ∷ c ∷ e ∷ [])
+four_distinct a b c e ab ac ae bc be ce zero zero d h k l s = refl
+four_distinct a b c e ab ac ae bc be ce zero (suc zero) d h k l s = absurd (false≢true (sym ab.0 ∙ s))
+four_distinct a b c e ab ac ae bc be ce zero (suc (suc zero)) d h k l s = absurd (false≢true (sym ac.0 ∙ s))
+four_distinct a b c e ab ac ae bc be ce zero (suc (suc (suc zero))) d h k l s = absurd (false≢true (sym ae.0 ∙ s))
+four_distinct a b c e ab ac ae bc be ce (suc zero) zero d h k l s = absurd (false≢true (sym ab.1 ∙ s))
+four_distinct a b c e ab ac ae bc be ce (suc zero) (suc zero) d h k l s = refl
+four_distinct a b c e ab ac ae bc be ce (suc zero) (suc (suc zero)) d h k l s = absurd (false≢true (sym bc.0 ∙ s))
+four_distinct a b c e ab ac ae bc be ce (suc zero) (suc (suc (suc zero))) d h k l s = absurd (false≢true (sym be.0 ∙ s))
+four_distinct a b c e ab ac ae bc be ce (suc (suc zero)) zero d h k l s = absurd (false≢true (sym ac.1 ∙ s))
+four_distinct a b c e ab ac ae bc be ce (suc (suc zero)) (suc zero) d h k l s = absurd (false≢true (sym bc.1 ∙ s))
+four_distinct a b c e ab ac ae bc be ce (suc (suc zero)) (suc (suc zero)) d h k l s = refl
+four_distinct a b c e ab ac ae bc be ce (suc (suc zero)) (suc (suc (suc zero))) d h k l s = absurd (false≢true (sym ce.0 ∙ s))
+four_distinct a b c e ab ac ae bc be ce (suc (suc (suc zero))) zero d h k l s = absurd (false≢true (sym ae.1 ∙ s))
+four_distinct a b c e ab ac ae bc be ce (suc (suc (suc zero))) (suc zero) d h k l s = absurd (false≢true (sym be.1 ∙ s))
+four_distinct a b c e ab ac ae bc be ce (suc (suc (suc zero))) (suc (suc zero)) d h k l s = absurd (false≢true (sym ce.1 ∙ s))
+four_distinct a b c e ab ac ae bc be ce (suc (suc (suc zero))) (suc (suc (suc zero))) d h k l s = refl
+four_distinct a b c e ab ac ae bc be ce (suc (suc (suc (suc i)))) j d h k l s = absurd (omega arith)
+four_distinct a b c e ab ac ae bc be ce i (suc (suc (suc (suc j)))) d h k l s = absurd (omega arith)
+
 -- an argument whose id begins neither as `help` nor as `version`, and is there
 pub fits : (a : Arg) (first : ℕ) (name : List ℕ) → IsPlainArg a → a.global ≡ false → a.id.now ≡ name → slice_index name 0 ≡ first
     → (first ≡ 104 → ⊥) × (first ≡ 118 → ⊥) → 0 < first → FitsChain a
@@ -80,6 +100,13 @@ pub three_in_turn : (old one two new : Command) (a b c : Arg) → AddsArg old a 
     → AddsInTurn AddsArg old (a ∷ b ∷ c ∷ []) new
 three_in_turn old one two new a b c first second third = (one, first, (two, second, (new, third, refl)))
 
+pub four_fit : (a b c e : Arg) → FitsChain a → FitsChain b → FitsChain c → FitsChain e → All FitsChain (a ∷ b ∷ c ∷ e ∷ [])
+four_fit a b c e fa fb fc fe = All-from_recursion FitsChain (a ∷ b ∷ c ∷ e ∷ []) (fa, (fb, (fc, (fe, tt))))
+
+pub four_in_turn : (old one two three new : Command) (a b c e : Arg) → AddsArg old a one → AddsArg one b two → AddsArg two c three → AddsArg three e new
+    → AddsInTurn AddsArg old (a ∷ b ∷ c ∷ e ∷ []) new
+four_in_turn old one two three new a b c e first second third last = (one, first, (two, second, (three, third, (new, last, refl))))
+
 -- one argument
 pub one_distinct : (a : Arg) → HasDistinctIds (a ∷ [])
 one_distinct a zero zero d e h k s = refl
@@ -111,6 +138,15 @@ pub app_of_three : (start one two cmd : Command) (a b c : Arg) → AddsArg start
 app_of_three start one two cmd a b c first second third a_fits b_fits c_fits whole a_rule b_rule c_rule =
     rw (← whole, ← a_rule, ← b_rule, ← c_rule)
     (app_of_chain start cmd (a ∷ b ∷ c ∷ []) (three_in_turn start one two cmd a b c first second third) (all_fit a b c a_fits b_fits c_fits))
+
+-- and four
+pub app_of_four : (start one two three cmd : Command) (a b c e : Arg) → AddsArg start a one → AddsArg one b two → AddsArg two c three → AddsArg three e cmd
+    → FitsChain a → FitsChain b → FitsChain c → FitsChain e
+    → {app : App} → app_of start ≡ app → {r s t u : Rule} → rule_of a ≡ r → rule_of b ≡ s → rule_of c ≡ t → rule_of e ≡ u
+    → app_of cmd ≡ with_rules app (r ∷ s ∷ t ∷ u ∷ [])
+app_of_four start one two three cmd a b c e first second third last a_fits b_fits c_fits e_fits whole a_rule b_rule c_rule e_rule =
+    rw (← whole, ← a_rule, ← b_rule, ← c_rule, ← e_rule)
+    (app_of_chain start cmd (a ∷ b ∷ c ∷ e ∷ []) (four_in_turn start one two three cmd a b c e first second third last) (four_fit a b c e a_fits b_fits c_fits e_fits))
 
 -- an error of the first list is one of either
 pub in_first : (first second : Kinds) (error : Error) → HasKind first error → HasKind (or_else first second) error

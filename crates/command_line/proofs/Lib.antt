@@ -2,3 +2,4 @@ pub mod Rows
 pub mod Chain
 pub mod Number
 pub mod Required
+pub mod Levels

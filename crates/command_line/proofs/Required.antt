@@ -1,7 +1,7 @@
 -- Operands that have to be there are, in each parse.
 use Rattle.std.proofs.Common.{◌≡◌, Result, Ok, Err, List, [], ◌∷◌, false, ap, subst, arith}
 use Rattle.std.specs.Prelude.{IfOk, ℕ, Some, pos}
-use Rattle.clap.specs.Built.{AddsArg, FitsChain, TakesValue}
+use Rattle.clap.specs.Built.{AddsArg, FitsChain, HasDistinctIds, TakesValue}
 use Rattle.clap.specs.Facts.{args_of, groups_of}
 use Rattle.clap.specs.Lexer.{without_minus}
 use Rattle.clap.specs.Matches.{found_of, one_text}
@@ -14,6 +14,7 @@ use Rattle.clap.proofs.CallerLemmas.{required_in_chain}
 use Rattle.command_line.specs.Required.{Requires, RequiresNumber}
 use Rattle.command_line.specs.Words.{number}
 use Rattle.command_line.proofs.Chain.{Differ, all_fit, both_fit, in_turn, one_distinct, one_fits, one_in_turn, three_distinct, three_in_turn, two_distinct}
+use Rattle.command_line.proofs.Chain.{four_distinct, four_fit, four_in_turn}
 use Rattle.command_line.proofs.Number.{second_reads}
 
 -- a command without operands
@@ -60,3 +61,24 @@ module _ {E : Type 0} (start : Command) (bare : IsBare start) where
         rw is at (required_in_chain start cmd (a ∷ b ∷ c ∷ []) 1 a m (three_in_turn start mid late cmd a b c one two three)
         bare.0 bare.1 bare.2 bare.3 (all_fit a b c a_fits b_fits c_fits) (three_distinct a b c ab ac bc) (omega arith) value parsed)
     second_of_three (Err e) three value is = tt
+
+  module _ (one two three : Command) (a b c e : Arg) (first : AddsArg start a one) (second : AddsArg one b two) (third : AddsArg two c three)
+      (a_fits : FitsChain a) (b_fits : FitsChain b) (c_fits : FitsChain c) (e_fits : FitsChain e)
+      (distinct : HasDistinctIds (a ∷ b ∷ c ∷ e ∷ [])) where
+    pub first_of_four : (id : Text) (result : Result Command E) → IfOk result (AddsArg three e) → TakesValue a → a.id.now ≡ id → IfOk result (Requires id)
+    first_of_four id (Ok cmd) last value is = λ m parsed.
+        rw is at (required_in_chain start cmd (a ∷ b ∷ c ∷ e ∷ []) 0 a m (four_in_turn start one two three cmd a b c e first second third last)
+        bare.0 bare.1 bare.2 bare.3 (four_fit a b c e a_fits b_fits c_fits e_fits) distinct (omega arith) value parsed)
+    first_of_four id (Err x) last value is = tt
+
+    pub second_of_four : (id : Text) (result : Result Command E) → IfOk result (AddsArg three e) → TakesValue b → b.id.now ≡ id → IfOk result (Requires id)
+    second_of_four id (Ok cmd) last value is = λ m parsed.
+        rw is at (required_in_chain start cmd (a ∷ b ∷ c ∷ e ∷ []) 1 a m (four_in_turn start one two three cmd a b c e first second third last)
+        bare.0 bare.1 bare.2 bare.3 (four_fit a b c e a_fits b_fits c_fits e_fits) distinct (omega arith) value parsed)
+    second_of_four id (Err x) last value is = tt
+
+    pub third_of_four : (id : Text) (result : Result Command E) → IfOk result (AddsArg three e) → TakesValue c → c.id.now ≡ id → IfOk result (Requires id)
+    third_of_four id (Ok cmd) last value is = λ m parsed.
+        rw is at (required_in_chain start cmd (a ∷ b ∷ c ∷ e ∷ []) 2 a m (four_in_turn start one two three cmd a b c e first second third last)
+        bare.0 bare.1 bare.2 bare.3 (four_fit a b c e a_fits b_fits c_fits e_fits) distinct (omega arith) value parsed)
+    third_of_four id (Err x) last value is = tt

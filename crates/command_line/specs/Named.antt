@@ -1,17 +1,22 @@
 -- A command of the code, as its texts and numbers.
-use Rattle.std.specs.Prelude.{◌≡◌, ◌≢◌, ◌≤◌, map}
+use Rattle.std.specs.Prelude.{◌≡◌, ◌≢◌, ◌≤◌, map, option_map}
+use Rattle.std.specs.Int.NonZero.{non_zero_u32_get}
 use Rattle.clap.specs.Words.{IsAmong, Kinds, kind_of}
 use Rattle.clap.specs.declared.error.Error.{Error}
 use Rattle.clap.specs.declared.error.kind.ErrorKind.TheVariants.{OutOfMemory}
-use Rattle.command_line.specs.Words.{Named, plan, check, replay, show_settings, run, least_rounds, most_rounds}
+use Rattle.command_line.specs.Words.{Named, plan, check, size, check_size, replay, show_settings, run}
+use Rattle.command_line.specs.Words.{least_rounds, most_rounds}
 use Rattle.command_line.specs.declared.command.Command.{Command}
-use Rattle.command_line.specs.declared.command.Command.TheVariants.{Plan, Check, Replay, Settings, Run}
+use Rattle.command_line.specs.declared.command.Command.TheVariants.{Plan, Check, Size, CheckSize, Replay, Settings, Run}
 use Rattle.command_line.specs.declared.command.CommandError.{CommandError}
 use Rattle.command_line.specs.declared.command.CommandError.TheVariants.{Usage, Memory}
 
 abbrev pub named : Command → Named
 named (Plan settings lost) = plan settings.now (map (λ w. w.now) lost.items)
 named (Check settings status lost) = check settings.now status.now (map (λ w. w.now) lost.items)
+named (Size settings level lost) = size settings.now (option_map non_zero_u32_get level) (map (λ w. w.now) lost.items)
+named (CheckSize settings status level lost) =
+    check_size settings.now status.now (option_map non_zero_u32_get level) (map (λ w. w.now) lost.items)
 named (Replay settings) = replay settings.now
 named (Settings settings) = show_settings settings.now
 named (Run settings rounds) = run settings.now rounds

@@ -1,5 +1,5 @@
 -- The program's command line: the words that each command takes, and the command that they ask for.
-use Rattle.std.specs.Prelude.{List, [], ◌∷◌, drop, slice_get, true, codes, if◌then◌else◌, ℕ, pos}
+use Rattle.std.specs.Prelude.{List, [], ◌∷◌, ◌^◌, drop, slice_get, nat_lt, is_some, true, codes, if◌then◌else◌, ℕ, pos}
 use Rattle.std.specs.Prelude.{Option, Some, None, option_map, option_and_then, unwrap_or}
 use Rattle.std.specs.Option.{option_map_or}
 use Rattle.std.specs.Str.{bytes_eq}
@@ -11,7 +11,8 @@ use Rattle.clap.specs.Words.{Kinds, fault_of}
 use Rattle.clap.specs.Simple.{App, matches_of, new_app, new_rule, on_top, with_rule, with_subcommand}
 use Rattle.clap.specs.declared.builder.action.ArgAction.TheVariants.{Set, Append}
 use Rattle.clap.specs.declared.builder.value_parser.ValueParser.TheVariants.{Signed}
-use Rattle.clap.specs.declared.error.kind.ErrorKind.TheVariants.{MissingSubcommand}
+use Rattle.clap.specs.declared.error.kind.ErrorKind.TheVariants.{MissingSubcommand, ValueValidation}
+use Rattle.text_pieces.specs.Numbers.{plain_number_below}
 
 -- a word that has to be there
 abbrev pub operand : Text → Rule
@@ -40,6 +41,9 @@ lost = codes "LOST"
 abbrev pub rounds : Text
 rounds = codes "ROUNDS"
 
+abbrev pub backlog : Text
+backlog = codes "BACKLOG"
+
 -- how many rounds a run may have, at least and at most
 abbrev pub least_rounds : ℕ
 least_rounds = 1
@@ -60,6 +64,15 @@ plan_app = with_rules (new_app (codes "plan")) (operand settings ∷ operands lo
 abbrev pub check_app : App
 check_app = with_rules (new_app (codes "check")) (operand settings ∷ operand status ∷ operands lost ∷ [])
 
+-- `size SETTINGS BACKLOG [LOST]...`
+abbrev pub size_app : App
+size_app = with_rules (new_app (codes "size")) (operand settings ∷ operand backlog ∷ operands lost ∷ [])
+
+-- `check-size SETTINGS STATUS BACKLOG [LOST]...`
+abbrev pub check_size_app : App
+check_size_app =
+    with_rules (new_app (codes "check-size")) (operand settings ∷ operand status ∷ operand backlog ∷ operands lost ∷ [])
+
 -- a command whose one operand is its settings
 abbrev pub settings_alone : Text → App
 settings_alone name = with_rules (new_app name) (operand settings ∷ [])
@@ -76,10 +89,12 @@ settings_app = settings_alone (codes "settings")
 abbrev pub run_app : App
 run_app = with_rules (new_app (codes "run")) (operand settings ∷ number rounds least_rounds most_rounds ∷ [])
 
--- a command with its texts, and a run with its number of rounds
+-- a command with its texts, a size with the level that is asked for, and a run with its number of rounds
 pub data Named : Type 0 where
   plan : Text → List Text → Named
   check : Text → Text → List Text → Named
+  size : Text → Option ℕ → List Text → Named
+  check_size : Text → Text → Option ℕ → List Text → Named
   replay : Text → Named
   show_settings : Text → Named
   run : Text → ℕ → Named
@@ -95,6 +110,36 @@ check_of rows s = option_map (λ t. check s t (lost_in rows)) (first_of status r
 
 abbrev pub check_in : List Row → Option Named
 check_in rows = option_and_then (check_of rows) (first_of settings rows)
+
+abbrev pub if_above_0 : ℕ → Option (Option ℕ)
+if_above_0 n = if nat_lt 0 n then Some (Some n) else None
+
+-- the level that a text says: a number from 1 to 4294967295 without leading zeros, or `-` for none
+abbrev pub level_of : Text → Option (Option ℕ)
+level_of text = if bytes_eq text (codes "-") then Some None else option_and_then if_above_0 (plain_number_below (2 ^ 32) text)
+
+abbrev pub level_in : List Row → Option (Option ℕ)
+level_in rows = option_and_then level_of (first_of backlog rows)
+
+abbrev pub size_of : List Row → Text → Option Named
+size_of rows s = option_map (λ level. size s level (lost_in rows)) (level_in rows)
+
+abbrev pub size_in : List Row → Option Named
+size_in rows = option_and_then (size_of rows) (first_of settings rows)
+
+abbrev pub check_size_with : List Row → Text → Text → Option Named
+check_size_with rows s t = option_map (λ level. check_size s t level (lost_in rows)) (level_in rows)
+
+abbrev pub check_size_of : List Row → Text → Option Named
+check_size_of rows s = option_and_then (check_size_with rows s) (first_of status rows)
+
+abbrev pub check_size_in : List Row → Option Named
+check_size_in rows = option_and_then (check_size_of rows) (first_of settings rows)
+
+-- what is wrong with the words of a command that has a level: the kinds of `clap`'s first fault, and else that the level is none
+abbrev pub level_faults : App → List Text → Kinds
+level_faults app words =
+    or_else (fault_of app words) (if is_some (level_in (matches_of app words)) then [] else ValueValidation ∷ [])
 
 abbrev pub replay_in : List Row → Option Named
 replay_in rows = option_map replay (first_of settings rows)
@@ -123,24 +168,35 @@ named_without_input name words =
     else (if bytes_eq name (codes "run") then run_in (matches_of run_app words)
     else None)
 
+-- the same of a command about sizes too
+abbrev pub named_of_sizes : Text → List Text → Option Named
+named_of_sizes name words =
+    if bytes_eq name (codes "size") then size_in (matches_of size_app words)
+    else (if bytes_eq name (codes "check-size") then check_size_in (matches_of check_size_app words)
+    else named_without_input name words)
+
 -- the command of a name, from its own words, of which the name is the first: each command is a command line of its own
 abbrev pub command_named : Text → List Text → Option Named
 command_named name words =
     if bytes_eq name (codes "plan") then plan_in (matches_of plan_app words)
     else (if bytes_eq name (codes "check") then check_in (matches_of check_app words)
     else (if bytes_eq name (codes "replay") then replay_in (matches_of replay_app words)
-    else named_without_input name words))
+    else named_of_sizes name words))
 
 -- the command that the words ask for, the first of them being the program's name and the second the command's
 abbrev pub command_in : List Text → Option Named
 command_in words = option_and_then (λ name. command_named name (drop 1 words)) (slice_get words 1)
 
--- the command line that wants one of five commands, each with its operands, by which words that name none are answered
+-- the program without its commands
+abbrev pub bare_app : App
+bare_app = on_top (λ top. record top { subcommand_required = true; has_version = true }) (new_app (codes "poolman"))
+
+-- the command line that wants one of seven commands, each with its operands, by which words that name none are answered
 abbrev pub overview_app : App
 overview_app =
-    with_subcommand (with_subcommand (with_subcommand (with_subcommand (with_subcommand
-    (on_top (λ top. record top { subcommand_required = true; has_version = true }) (new_app (codes "poolman")))
-    plan_app.top) check_app.top) replay_app.top) settings_app.top) run_app.top
+    with_subcommand (with_subcommand (with_subcommand (with_subcommand (with_subcommand (with_subcommand (with_subcommand
+    bare_app
+    plan_app.top) check_app.top) size_app.top) check_size_app.top) replay_app.top) settings_app.top) run_app.top
 
 -- what is wrong with words that name no command: the kinds of `clap`'s first fault, and else that a command is missing
 abbrev pub overview_faults : List Text → Kinds
@@ -153,6 +209,13 @@ faults_without_input words name =
     else (if bytes_eq name (codes "run") then fault_of run_app (drop 1 words)
     else overview_faults words)
 
+-- The same of a command about sizes too.
+abbrev pub faults_of_sizes : List Text → Text → Kinds
+faults_of_sizes words name =
+    if bytes_eq name (codes "size") then level_faults size_app (drop 1 words)
+    else (if bytes_eq name (codes "check-size") then level_faults check_size_app (drop 1 words)
+    else faults_without_input words name)
+
 -- What is wrong with words that have this name of a command: the kinds of the first fault that `clap` finds in them from the name on,
 -- and nothing where they are taken.
 abbrev pub faults_as : List Text → Text → Kinds
@@ -160,7 +223,7 @@ faults_as words name =
     if bytes_eq name (codes "plan") then fault_of plan_app (drop 1 words)
     else (if bytes_eq name (codes "check") then fault_of check_app (drop 1 words)
     else (if bytes_eq name (codes "replay") then fault_of replay_app (drop 1 words)
-    else faults_without_input words name))
+    else faults_of_sizes words name))
 
 -- the same, of which the first word is the program's name and the second the command's
 abbrev pub faults_in : List Text → Kinds

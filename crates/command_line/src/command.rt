@@ -6,11 +6,15 @@ ghost use Rattle.clap.specs.Words.{fault_of};
 ghost use Rattle.command_line.specs.Named.{HasRoundsInRange, IsOfKinds, Tells, named};
 ghost use Rattle.command_line.specs.Words as spec;
 
-use crate::operands::{check_words, overview, plan_words, replay_words, run_words, settings_words};
+use crate::operands::{
+    check_size_words, check_words, overview, plan_words, replay_words, run_words, settings_words,
+    size_words,
+};
 use clap::Error;
 use clap::error::ErrorKind;
 use std::alloc::{AllocError, Global};
 use std::convert::AsStr;
+use std::num::NonZeroU32;
 
 /// What the words ask for, with the texts that they give.
 #[derive(Drop)]
@@ -24,6 +28,20 @@ pub enum Command<'a> {
     Check {
         settings: &'a str,
         status: &'a str,
+        lost: Vec<&'a str>,
+    },
+    /// `size SETTINGS BACKLOG [LOST]...`: how many workers are missing for the status text on standard input. The level is how many jobs
+    /// may wait for each worker of a function; without one any plan will do.
+    Size {
+        settings: &'a str,
+        level: Option<NonZeroU32>,
+        lost: Vec<&'a str>,
+    },
+    /// `check-size SETTINGS STATUS BACKLOG [LOST]...`: whether the size on standard input is shown.
+    CheckSize {
+        settings: &'a str,
+        status: &'a str,
+        level: Option<NonZeroU32>,
         lost: Vec<&'a str>,
     },
     /// `replay SETTINGS`: what the command lines on standard input answer.
@@ -98,6 +116,37 @@ fn check_of<'a, W: AsStr>(alloc: Global, words: &'a [W]) -> Result<Command<'a>, 
     }
 }
 
+fn size_of<'a, W: AsStr>(alloc: Global, words: &'a [W]) -> Result<Command<'a>, CommandError>
+    ensures ok { IfOk result (λ c. spec.size_in (matches_of spec.size_app (map W.text words.now)) ≡ Some (named c)) }
+    ensures taken { IfOk result (λ _. spec.level_faults spec.size_app (map W.text words.now) ≡ []) }
+    ensures usage { IfErr result (IsOfKinds (spec.level_faults spec.size_app (map W.text words.now))) }
+{
+    match size_words(alloc, words) {
+        Ok((settings, level, lost)) => Ok(Command::Size {
+            settings,
+            level,
+            lost,
+        }),
+        Err(error) => Err(refused(error)),
+    }
+}
+
+fn check_size_of<'a, W: AsStr>(alloc: Global, words: &'a [W]) -> Result<Command<'a>, CommandError>
+    ensures ok { IfOk result (λ c. spec.check_size_in (matches_of spec.check_size_app (map W.text words.now)) ≡ Some (named c)) }
+    ensures taken { IfOk result (λ _. spec.level_faults spec.check_size_app (map W.text words.now) ≡ []) }
+    ensures usage { IfErr result (IsOfKinds (spec.level_faults spec.check_size_app (map W.text words.now))) }
+{
+    match check_size_words(alloc, words) {
+        Ok((settings, status, level, lost)) => Ok(Command::CheckSize {
+            settings,
+            status,
+            level,
+            lost,
+        }),
+        Err(error) => Err(refused(error)),
+    }
+}
+
 fn replay_of<'a, W: AsStr>(alloc: Global, words: &'a [W]) -> Result<Command<'a>, CommandError>
     ensures ok { IfOk result (λ c. spec.replay_in (matches_of spec.replay_app (map W.text words.now)) ≡ Some (named c)) }
     ensures taken { IfOk result (λ _. fault_of spec.replay_app (map W.text words.now) ≡ []) }
@@ -153,6 +202,28 @@ fn command_without_input<'a, W: AsStr>(
     }
 }
 
+/// The command of this name, from words of which it is the second, where it is one about sizes, or one that takes nothing from standard
+/// input.
+fn command_of_sizes<'a, W: AsStr>(
+    alloc: Global,
+    name: &str,
+    words: &'a [W],
+) -> Result<Command<'a>, CommandError>
+    requires { 1 ≤ length words.now }
+    ensures ok { IfOk result (λ c. spec.named_of_sizes name.now (drop 1 (map W.text words.now)) ≡ Some (named c)) }
+    ensures taken { IfOk result (λ _. spec.faults_of_sizes (map W.text words.now) name.now ≡ []) }
+    ensures rounds { IfOk result HasRoundsInRange }
+    ensures usage { IfErr result (IsOfKinds (spec.faults_of_sizes (map W.text words.now) name.now)) }
+{
+    if name == "size" {
+        size_of(alloc, &words[1..])
+    } else if name == "check-size" {
+        check_size_of(alloc, &words[1..])
+    } else {
+        command_without_input(alloc, name, words)
+    }
+}
+
 /// The command of this name, from words of which it is the second.
 fn command_named<'a, W: AsStr>(
     alloc: Global,
@@ -172,7 +243,7 @@ fn command_named<'a, W: AsStr>(
     } else if name == "replay" {
         replay_of(alloc, &words[1..])
     } else {
-        command_without_input(alloc, name, words)
+        command_of_sizes(alloc, name, words)
     }
 }
 
@@ -180,7 +251,8 @@ fn command_named<'a, W: AsStr>(
 /// command's. `Usage` comes only where `clap` finds a fault in the words, help that they ask for included: it
 /// is of the kind of the first one, and holds the text to print. So it is where ROUNDS is no whole number from
 /// 1 to 65,536 in decimal, of which a `+` may stand in front: of the kind `ValueValidation`, or
-/// `UnknownArgument` where the word is read as an option, since a `-` stands in front.
+/// `UnknownArgument` where the word is read as an option, since a `-` stands in front. Where BACKLOG is neither `-` nor a number from 1 to
+/// 4,294,967,295 in decimal without leading zeros, the fault is of the kind `ValueValidation`; it comes only where `clap` finds no other.
 pub fn command_of<'a, W: AsStr>(alloc: Global, words: &'a [W]) -> Result<Command<'a>, CommandError>
     ensures ok { IfOk result (λ c. spec.command_in (map W.text words.now) ≡ Some (named c)) }
     ensures taken { IfOk result (λ _. spec.faults_in (map W.text words.now) ≡ []) }

@@ -1,12 +1,15 @@
 //! The command line of each command, as a command of `clap` of its own.
 
-ghost use Rattle.std.specs.Prelude.{◌≡◌, ◌<◌, ◌≤◌, IfOk, IsSomeAnd, Some, [], false, is_some, length, map, true};
+ghost use Rattle.std.specs.Prelude.{◌≡◌, ◌<◌, ◌≤◌, IfOk, IsSomeAnd, Some, [], false, is_some, length, map, option_map, true};
+ghost use Rattle.std.specs.Int.NonZero.{non_zero_u32_get};
 ghost use Rattle.clap.specs.Built.{FitsChain, TakesValue};
-ghost use Rattle.clap.specs.Words.{FailsBy, HasKind, IsPlainArg, app_of, args_of, fault_of, found_of, groups_of, rows_of, rule_of};
+ghost use Rattle.clap.specs.Words.{FailsBy, HasKind, IsPlainArg, app_of, args_of, fault_of, found_of, groups_of, kind_of, rows_of};
+ghost use Rattle.clap.specs.Words.{rule_of};
 ghost use Rattle.clap.specs.Matches.{first_value};
 ghost use Rattle.clap.specs.Simple.{matches_of, new_app};
 ghost use Rattle.clap.specs.Walk.{first_of};
 ghost use Rattle.clap.specs.declared.builder.command.Command.TheViews.{out-Command as fields_of};
+ghost use Rattle.clap.specs.declared.error.kind.ErrorKind.TheVariants.{ValueValidation};
 ghost use Rattle.command_line.specs.Required.{Requires, RequiresNumber};
 ghost use Rattle.command_line.specs.Words as spec;
 
@@ -14,6 +17,8 @@ use clap::error::ErrorKind;
 use clap::{Arg, ArgAction, ArgMatches, Command, Error, value_parser};
 use std::alloc::{AllocError, Global};
 use std::convert::AsStr;
+use std::num::NonZeroU32;
+use text_pieces::plain_number_u32;
 
 /// What the help of a command says beside its operands.
 #[derive(Clone, Copy)]
@@ -33,6 +38,18 @@ const CHECK: Help = Help {
     about: "Reads a report and says whether it is shown, by the settings and the status text alone",
     usage: "poolman check SETTINGS STATUS [LOST]... < REPORT",
     example: "Example: poolman check settings.toml status.txt b/0 < report.txt",
+};
+
+const SIZE: Help = Help {
+    about: "Reads a status text and prints how many workers have to be added, and where, with what shows it",
+    usage: "poolman size SETTINGS BACKLOG [LOST]... < STATUS",
+    example: "Example: poolman size settings.toml 4 < status.txt",
+};
+
+const CHECK_SIZE: Help = Help {
+    about: "Reads a size and says whether it is shown, by the settings and the status text alone",
+    usage: "poolman check-size SETTINGS STATUS BACKLOG [LOST]... < SIZE",
+    example: "Example: poolman check-size settings.toml status.txt 4 < size.txt",
 };
 
 const REPLAY: Help = Help {
@@ -132,6 +149,20 @@ fn lost<'a>(alloc: Global) -> Arg<'a>
     )
 }
 
+fn backlog<'a>(alloc: Global) -> Arg<'a>
+    ensures rule { rule_of result ≡ spec.operand spec.backlog }
+    ensures id { result.id.now ≡ spec.backlog }
+    ensures explained { IsSomeAnd result.help (λ help. 0 < length help.now) }
+    ensures fits { FitsChain result }
+    ensures value { TakesValue result }
+{
+    operand(
+        alloc,
+        "BACKLOG",
+        "How many jobs may wait for each worker of a function, from 1 to 4294967295; - for any plan at all",
+    )
+}
+
 fn rounds<'a>(alloc: Global) -> Arg<'a>
     ensures rule { rule_of result ≡ spec.number spec.rounds spec.least_rounds spec.most_rounds }
     ensures id { result.id.now ≡ spec.rounds }
@@ -185,6 +216,34 @@ fn check<'a>(alloc: Global) -> Result<Command<'a>, AllocError>
     command(alloc, "check", CHECK)
         .arg(settings(alloc))?
         .arg(status(alloc))?
+        .arg(lost(alloc))
+}
+
+/// `size` with its operands.
+fn size<'a>(alloc: Global) -> Result<Command<'a>, AllocError>
+    ensures app { IfOk result (λ c. app_of c ≡ spec.size_app) }
+    ensures local { IfOk result (λ c. (fields_of c).has_globals ≡ false) }
+    ensures settings { IfOk result (Requires spec.settings) }
+    ensures backlog { IfOk result (Requires spec.backlog) }
+{
+    command(alloc, "size", SIZE)
+        .arg(settings(alloc))?
+        .arg(backlog(alloc))?
+        .arg(lost(alloc))
+}
+
+/// `check-size` with its operands.
+fn check_size<'a>(alloc: Global) -> Result<Command<'a>, AllocError>
+    ensures app { IfOk result (λ c. app_of c ≡ spec.check_size_app) }
+    ensures local { IfOk result (λ c. (fields_of c).has_globals ≡ false) }
+    ensures settings { IfOk result (Requires spec.settings) }
+    ensures status { IfOk result (Requires spec.status) }
+    ensures backlog { IfOk result (Requires spec.backlog) }
+{
+    command(alloc, "check-size", CHECK_SIZE)
+        .arg(settings(alloc))?
+        .arg(status(alloc))?
+        .arg(backlog(alloc))?
         .arg(lost(alloc))
 }
 
@@ -281,6 +340,75 @@ pub fn check_words<'a, W: AsStr>(
     Ok((settings, status, lost))
 }
 
+/// The level that a text says: a number from 1 to 4,294,967,295, or `-` for none.
+fn level_of(text: &str) -> Option<Option<NonZeroU32>>
+    ensures { option_map (option_map non_zero_u32_get) result ≡ spec.level_of text.now }
+{
+    if text == "-" {
+        return Some(None);
+    }
+    let number = plain_number_u32(text.as_bytes())?;
+    let level = NonZeroU32::new(number)?;
+    Some(Some(level))
+}
+
+/// What is wrong with a level that is none.
+fn no_level<'a>(command: Result<Command<'a>, AllocError>) -> Result<Error, AllocError>
+    ensures { IfOk result (λ e. kind_of e ≡ ValueValidation) }
+{
+    let mut command = command?;
+    command.error(
+        ErrorKind::ValueValidation,
+        "BACKLOG is a whole number from 1 to 4294967295, or -",
+    )
+}
+
+/// What the words of `size` give: its settings, its level and who is lost.
+pub fn size_words<'a, W: AsStr>(
+    alloc: Global,
+    words: &'a [W],
+) -> Result<(&'a str, Option<NonZeroU32>, Vec<&'a str>), Error>
+    ensures settings { IfOk result (λ m. first_of spec.settings (matches_of spec.size_app (map W.text words.now)) ≡ Some m.0.now) }
+    ensures level { IfOk result
+        (λ m. spec.level_in (matches_of spec.size_app (map W.text words.now)) ≡ Some (option_map non_zero_u32_get m.1)) }
+    ensures lost { IfOk result (λ m. map (λ w. w.now) m.2.items ≡ spec.lost_in (matches_of spec.size_app (map W.text words.now))) }
+    ensures kinds { FailsBy (spec.level_faults spec.size_app (map W.text words.now)) result }
+{
+    let command = size(alloc)?;
+    let matches = command.try_get_matches_from(words)?;
+    let lost = lost_in(alloc, &matches)?;
+    let settings = text_of(&matches, "SETTINGS");
+    let backlog = text_of(&matches, "BACKLOG");
+    match level_of(backlog) {
+        Some(level) => Ok((settings, level, lost)),
+        None => Err(no_level(size(alloc))?),
+    }
+}
+
+/// What the words of `check-size` give: its settings, its status text, its level and who is lost.
+pub fn check_size_words<'a, W: AsStr>(
+    alloc: Global,
+    words: &'a [W],
+) -> Result<(&'a str, &'a str, Option<NonZeroU32>, Vec<&'a str>), Error>
+    ensures settings { IfOk result (λ m. first_of spec.settings (matches_of spec.check_size_app (map W.text words.now)) ≡ Some m.0.now) }
+    ensures status { IfOk result (λ m. first_of spec.status (matches_of spec.check_size_app (map W.text words.now)) ≡ Some m.1.now) }
+    ensures level { IfOk result
+        (λ m. spec.level_in (matches_of spec.check_size_app (map W.text words.now)) ≡ Some (option_map non_zero_u32_get m.2)) }
+    ensures lost { IfOk result (λ m. map (λ w. w.now) m.3.items ≡ spec.lost_in (matches_of spec.check_size_app (map W.text words.now))) }
+    ensures kinds { FailsBy (spec.level_faults spec.check_size_app (map W.text words.now)) result }
+{
+    let command = check_size(alloc)?;
+    let matches = command.try_get_matches_from(words)?;
+    let lost = lost_in(alloc, &matches)?;
+    let settings = text_of(&matches, "SETTINGS");
+    let status = text_of(&matches, "STATUS");
+    let backlog = text_of(&matches, "BACKLOG");
+    match level_of(backlog) {
+        Some(level) => Ok((settings, status, level, lost)),
+        None => Err(no_level(check_size(alloc))?),
+    }
+}
+
 /// The text of the word of `replay`: its settings.
 pub fn replay_words<'a, W: AsStr>(alloc: Global, words: &'a [W]) -> Result<&'a str, Error>
     ensures settings { IfOk result (λ m. first_of spec.settings (matches_of spec.replay_app (map W.text words.now)) ≡ Some m.now) }
@@ -316,15 +444,24 @@ pub fn run_words<'a, W: AsStr>(alloc: Global, words: &'a [W]) -> Result<(&'a str
     Ok((text_of(&matches, "SETTINGS"), rounds))
 }
 
-/// The command line of words that name no command.
-fn program<'a>(alloc: Global) -> Result<Command<'a>, AllocError>
-    ensures app { IfOk result (λ p. app_of p ≡ spec.overview_app) }
+/// The program without its commands.
+fn bare_program<'a>(alloc: Global) -> Command<'a>
+    ensures app { app_of result ≡ spec.bare_app }
 {
     command(alloc, "poolman", PROGRAM)
         .version(VERSION)
         .subcommand_required(true)
+}
+
+/// The command line of words that name no command.
+fn program<'a>(alloc: Global) -> Result<Command<'a>, AllocError>
+    ensures app { IfOk result (λ p. app_of p ≡ spec.overview_app) }
+{
+    bare_program(alloc)
         .subcommand(plan(alloc)?)?
         .subcommand(check(alloc)?)?
+        .subcommand(size(alloc)?)?
+        .subcommand(check_size(alloc)?)?
         .subcommand(replay(alloc)?)?
         .subcommand(show_settings(alloc)?)?
         .subcommand(run(alloc)?)

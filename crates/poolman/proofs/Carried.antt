@@ -1,6 +1,7 @@
 -- Commands by their files.
+use Rattle.std.specs.Prelude.{Option}
 use Rattle.std.proofs.Common.{◌≡◌, ℕ, List, inl, inr, refl}
-use Rattle.command_line.specs.Words.{Named, plan}
+use Rattle.command_line.specs.Words.{Named, plan, size, check_size}
 use Rattle.devices.specs.Folder.{IsReadFile, Known}
 use Rattle.byte_io.specs.Sides.{Input, Meets, Met, Output}
 use Rattle.plan_commands.proofs.Posing.{meets_nothing, nothing_from}
@@ -8,6 +9,9 @@ use Rattle.plan_commands.specs.Fault.{refused}
 use Rattle.plan_commands.specs.Plan.{Plans}
 use Rattle.plan_commands.specs.declared.ending.Exit.{Exit}
 use Rattle.plan_commands.specs.declared.fault.Fault.{Fault}
+use Rattle.plan_commands.specs.Problem.{load_of}
+use Rattle.size_command.specs.CheckSizes.{ChecksSizeText}
+use Rattle.size_command.specs.Sizes.{Sizes}
 use Rattle.poolman.specs.Carrying.{CarriesOut, IsUnreadIn}
 
 -- nothing was taken and nothing written
@@ -21,3 +25,14 @@ unread file command side out fault exit ends not_read =
 pub planned : (file : List ℕ → Known) (s : List ℕ) (lost : List (List ℕ)) (text : List ℕ) (met : Met) (old new : Output) (exit : Exit)
     → IsReadFile (file s) text → Plans text lost met old new exit → CarriesOut file (plan s lost) met old new exit
 planned file s lost text met old new exit read plans = inl (text, read, plans)
+
+-- the settings were read, and the size was found
+pub sized : (file : List ℕ → Known) (s : List ℕ) (level : Option ℕ) (lost : List (List ℕ)) (text : List ℕ) (met : Met) (old new : Output) (exit : Exit)
+    → IsReadFile (file s) text → Sizes text lost level met old new exit → CarriesOut file (size s level lost) met old new exit
+sized file s level lost text met old new exit read sizes = inl (text, read, sizes)
+
+-- the settings and the status text were read, and the size was checked
+pub size_checked : (file : List ℕ → Known) (s t : List ℕ) (level : Option ℕ) (lost : List (List ℕ)) (text status_text : List ℕ) (met : Met)
+    (old new : Output) (exit : Exit) → IsReadFile (file s) text → IsReadFile (file t) status_text
+    → ChecksSizeText text level lost (load_of status_text) met old new exit → CarriesOut file (check_size s t level lost) met old new exit
+size_checked file s t level lost text status_text met old new exit read read_status checks = inl (text, status_text, read, read_status, checks)

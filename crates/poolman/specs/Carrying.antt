@@ -1,6 +1,6 @@
 -- What a command does, by the files that it names.
 use Rattle.std.specs.Prelude.{◌≡◌, ◌⊎◌, ℕ, List}
-use Rattle.command_line.specs.Words.{Named, plan, check, replay, show_settings, run}
+use Rattle.command_line.specs.Words.{Named, plan, check, size, check_size, replay, show_settings, run}
 use Rattle.devices.specs.Folder.{IsReadFile, IsUnreadFile, Known}
 use Rattle.devices.specs.Whole.{IsUntouched}
 use Rattle.devices.specs.declared.error.InputError.{InputError}
@@ -17,6 +17,8 @@ use Rattle.plan_commands.specs.declared.fault.NamedFile.TheVariants.{Settings, S
 use Rattle.replay_command.specs.Replay.{Replays}
 use Rattle.run_command.specs.Run.{Supervises}
 use Rattle.settings_command.specs.Told.{TellsSettings}
+use Rattle.size_command.specs.CheckSizes.{ChecksSizeText}
+use Rattle.size_command.specs.Sizes.{Sizes}
 
 -- The file of which this is known is not read whole, and the fault says which file it is and why.
 abbrev pub IsUnreadBy : NamedFile → Known → Fault → Type 0
@@ -32,6 +34,8 @@ IsUnreadBoth file s t fault =
 abbrev pub IsUnreadIn : (List ℕ → Known) → Named → Fault → Type 0
 IsUnreadIn file (plan s lost) fault = IsUnreadBy Settings (file s) fault
 IsUnreadIn file (check s t lost) fault = IsUnreadBoth file s t fault
+IsUnreadIn file (size s level lost) fault = IsUnreadBy Settings (file s) fault
+IsUnreadIn file (check_size s t level lost) fault = IsUnreadBoth file s t fault
 IsUnreadIn file (replay s) fault = IsUnreadBy Settings (file s) fault
 IsUnreadIn file (show_settings s) fault = IsUnreadBy Settings (file s) fault
 IsUnreadIn file (run s rounds) fault = IsUnreadBy Settings (file s) fault
@@ -44,6 +48,11 @@ ActsOnFiles file (plan s lost) met old new exit =
 ActsOnFiles file (check s t lost) met old new exit =
     (settings_text : List ℕ) × (status_text : List ℕ) × IsReadFile (file s) settings_text × IsReadFile (file t) status_text
     × ChecksText settings_text lost (load_of status_text) met old new exit
+ActsOnFiles file (size s level lost) met old new exit =
+    (settings_text : List ℕ) × IsReadFile (file s) settings_text × Sizes settings_text lost level met old new exit
+ActsOnFiles file (check_size s t level lost) met old new exit =
+    (settings_text : List ℕ) × (status_text : List ℕ) × IsReadFile (file s) settings_text × IsReadFile (file t) status_text
+    × ChecksSizeText settings_text level lost (load_of status_text) met old new exit
 ActsOnFiles file (replay s) met old new exit =
     (settings_text : List ℕ) × IsReadFile (file s) settings_text × Replays settings_text met old new exit
 ActsOnFiles file (show_settings s) met old new exit =

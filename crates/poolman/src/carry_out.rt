@@ -14,11 +14,12 @@ use plan_commands::{Exit, Fault, NamedFile, check_text, plan_text};
 use replay_command::run_commands;
 use run_command::{Host, run_rounds};
 use settings_command::settings_text;
+use size_command::{Asked, check_size_text, size_of_texts};
 use std::alloc::Global;
 
-/// Carries out a command: reads its files, and then does what `plan_text`, `check_text`, `run_commands`, `settings_text` or
-/// `run_rounds` says of them. A file that cannot be read is told before any fault of a text, and nothing is taken from the source or
-/// written then. `settings` and a run take nothing from the source.
+/// Carries out a command: reads its files, and then does what `plan_text`, `check_text`, `size_of_texts`, `check_size_text`,
+/// `run_commands`, `settings_text` or `run_rounds` says of them. A file that cannot be read is told before any fault of a text, and
+/// nothing is taken from the source or written then. `settings` and a run take nothing from the source.
 pub fn carry_out<F: Folder, H: Host, R: Source, S: Sink>(
     lent: Lent<'_, F, H>,
     command: &Command<'_>,
@@ -54,6 +55,31 @@ pub fn carry_out<F: Folder, H: Host, R: Source, S: Sink>(
         },
         Command::Run { settings, rounds } => match read_settings(lent, settings) {
             Ok(text) => run_rounds(lent.host, alloc, &text, *rounds, sink),
+            Err(fault) => Exit::refused(fault),
+        },
+        Command::Size {
+            settings,
+            level,
+            lost,
+        } => match read_settings(lent, settings) {
+            Ok(text) => size_of_texts(alloc, &text, *level, lost, source, sink),
+            Err(fault) => Exit::refused(fault),
+        },
+        Command::CheckSize {
+            settings,
+            status,
+            level,
+            lost,
+        } => match read_both(lent, settings, status) {
+            Ok((settings_text, status_text)) => {
+                let asked = Asked {
+                    settings: &settings_text,
+                    status: &status_text,
+                    level: *level,
+                    lost,
+                };
+                check_size_text(alloc, asked, source, sink)
+            }
             Err(fault) => Exit::refused(fault),
         },
     }

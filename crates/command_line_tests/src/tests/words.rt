@@ -3,6 +3,7 @@
 use clap::error::ErrorKind;
 use command_line::{Command, CommandError, command_of};
 use std::alloc::Global;
+use std::num::NonZeroU32;
 use std::test::Fail;
 
 /// The settings, the status text and the number of lost workers of a command, if the words name one.
@@ -13,6 +14,13 @@ fn texts_of<'a>(alloc: Global, words: &'a [&'a str]) -> Option<(&'a str, Option<
             settings,
             status,
             lost,
+        } => Some((settings, Some(status), lost.len())),
+        Command::Size { settings, lost, .. } => Some((settings, None, lost.len())),
+        Command::CheckSize {
+            settings,
+            status,
+            lost,
+            ..
         } => Some((settings, Some(status), lost.len())),
         Command::Replay { settings } | Command::Settings { settings } => {
             Some((settings, None, 0))
@@ -32,6 +40,14 @@ fn run_of<'a>(alloc: Global, words: &'a [&'a str]) -> Option<(&'a str, u32)> {
 /// The rounds that `run s.toml` has with this word for ROUNDS, if it is taken.
 fn rounds_of(alloc: Global, word: &str) -> Option<u32> {
     Some(run_of(alloc, &["poolman", "run", "s.toml", word])?.1)
+}
+
+/// The level that `size s.toml` has with this word for BACKLOG, 0 where it has none, if the word is taken.
+fn level_of(alloc: Global, word: &str) -> Option<u32> {
+    match command_of(alloc, &["poolman", "size", "s.toml", word]).ok()? {
+        Command::Size { level, .. } => Some(level.map_or(0, NonZeroU32::get)),
+        _ => None,
+    }
 }
 
 /// What is wrong with the words, and the exit status that `clap` has for it, if they are no command's.
@@ -63,6 +79,27 @@ fn commands_of_words(rt: HostRuntime) {
     assert!(rt; texts_of(alloc, &replay) == Some(("s.toml", None, 0)));
     let settings = ["poolman", "settings", "s.toml"];
     assert!(rt; texts_of(alloc, &settings) == Some(("s.toml", None, 0)));
+}
+
+#[test]
+fn commands_about_sizes(rt: HostRuntime) {
+    let alloc = rt.alloc();
+    let size = ["poolman", "size", "s.toml", "4", "a/0"];
+    assert!(rt; texts_of(alloc, &size) == Some(("s.toml", None, 1)));
+    let check = ["poolman", "check-size", "s.toml", "status.txt", "-", "a/0"];
+    assert!(rt; texts_of(alloc, &check) == Some(("s.toml", Some("status.txt"), 1)));
+    assert!(rt; level_of(alloc, "1") == Some(1));
+    assert!(rt; level_of(alloc, "4294967295") == Some(4294967295));
+    assert!(rt; level_of(alloc, "-") == Some(0));
+    for word in ["0", "01", "+1", "4294967296", "x", "", "--"] {
+        assert!(rt; level_of(alloc, word) == None);
+    }
+    let refused = Some((ErrorKind::ValueValidation, 2));
+    assert!(rt; usage_of(alloc, &["poolman", "size", "s.toml", "0"]) == refused);
+    assert!(rt; usage_of(alloc, &["poolman", "check-size", "s.toml", "t", "0"]) == refused);
+    let missing = Some((ErrorKind::MissingRequiredArgument, 2));
+    assert!(rt; usage_of(alloc, &["poolman", "size", "s.toml"]) == missing);
+    assert!(rt; usage_of(alloc, &["poolman", "check-size", "s.toml", "4"]) == missing);
 }
 
 #[test]
@@ -159,6 +196,15 @@ fn help_lists_the_operands_either_way(rt: HostRuntime) {
     let check = ["<SETTINGS>  ", "<STATUS>  ", "[LOST]...   "];
     assert!(rt; helps(alloc, &["poolman", "check", "--help"], &check));
     assert!(rt; helps(alloc, &["poolman", "help", "check"], &check));
+    let size = ["<SETTINGS>  ", "<BACKLOG>  ", "[LOST]...   "];
+    assert!(rt; helps(alloc, &["poolman", "size", "--help"], &size));
+    assert!(rt;
+        helps(
+            alloc,
+            &["poolman", "help", "check-size"],
+            &["<STATUS>  ", "<BACKLOG>  "]
+        )
+    );
     let run = ["<SETTINGS>  ", "<ROUNDS>  "];
     assert!(rt; helps(alloc, &["poolman", "run", "--help"], &run));
     assert!(rt; helps(alloc, &["poolman", "help", "run"], &run));

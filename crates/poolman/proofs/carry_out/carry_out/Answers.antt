@@ -1,10 +1,15 @@
+use Rattle.std.specs.Int.NonZero.{non_zero_u32_get}
+use Rattle.std.specs.Prelude.{option_map}
 use Rattle.std.proofs.Common.{inl, map, refl, subst, sym}
 use Rattle.plan_commands.proofs.Posing.{meets_nothing, nothing_from}
 use Rattle.command_line.specs.Named.{named}
 use Rattle.devices.specs.Folder.{IsReadFile}
 use Rattle.plan_commands.specs.Plan.{Plans}
+use Rattle.plan_commands.specs.Problem.{load_of}
+use Rattle.size_command.specs.CheckSizes.{ChecksSizeText}
+use Rattle.size_command.specs.Sizes.{Sizes}
 use Rattle.poolman.specs.Carrying.{CarriesOut}
-use Rattle.poolman.proofs.Carried.{planned, unread}
+use Rattle.poolman.proofs.Carried.{planned, sized, size_checked, unread}
 use Rattle.poolman.proofs.carry_out.carry_out.Goals as goal
 
 pub returns-in-Err : goal.returns-in-Err
@@ -122,5 +127,61 @@ returns-in-Ok-read_settings-3 g c =
           (refl, refl, refl),
           c.run_rounds.ensures.supervises,
         )),
+      );
+    }
+
+pub returns-in-Err-read_settings-4 : goal.returns-in-Err-read_settings-4
+returns-in-Err-read_settings-4 g c = record {
+  carries_out = unread (g.F.Folder.file c.args.lent.files.now) (named c.args.command.now) (g.R.Device.input c.args.source.now)
+      (g.S.Device.output c.args.sink.now) c.in-Err-read_settings-4.fault c.refused-in-Err-read_settings-4.result
+      c.refused-in-Err-read_settings-4.ensures (rw c.in-Size.is c.in-Err-read_settings-4.ensures.err);
+}
+
+pub returns-in-Err-read_both-2 : goal.returns-in-Err-read_both-2
+returns-in-Err-read_both-2 g c = record {
+  carries_out = unread (g.F.Folder.file c.args.lent.files.now) (named c.args.command.now) (g.R.Device.input c.args.source.now)
+      (g.S.Device.output c.args.sink.now) c.in-Err-read_both-2.fault c.refused-in-Err-read_both-2.result
+      c.refused-in-Err-read_both-2.ensures (rw c.in-CheckSize.is c.in-Err-read_both-2.ensures.err);
+}
+
+pub returns-in-Ok-read_settings-4 : goal.returns-in-Ok-read_settings-4
+returns-in-Ok-read_settings-4 g c =
+    let told = c.size_of_texts.ensures.sizes in
+    let file = g.F.Folder.file c.args.lent.files.now in
+    let old = g.S.Device.output c.args.sink.now in
+    let new = g.S.Device.output c.size_of_texts.new.sink in
+    let level = option_map non_zero_u32_get c.in-Size.level in
+    let read = subst (IsReadFile (file c.in-Size.settings.now)) (sym c.deref-in-Ok-read_settings-4.ensures.value) c.in-Ok-read_settings-4.ensures.whole in
+    let sizes = subst (λ lost. Sizes c.deref-in-Ok-read_settings-4.result.now (map (λ w. w.now) lost) level told.0 old new c.size_of_texts.result)
+    c.deref-in-Ok-read_settings-4-2.ensures.value told.2 in record {
+      carries_out = (
+        told.0,
+        told.1,
+        subst (λ command. CarriesOut file (named command) told.0 old new c.size_of_texts.result) (sym c.in-Size.is)
+            (sized file c.in-Size.settings.now level (map (λ w. w.now) c.in-Size.lost.items) c.deref-in-Ok-read_settings-4.result.now told.0 old new
+            c.size_of_texts.result read sizes),
+      );
+    }
+
+pub returns-in-Ok-read_both-2 : goal.returns-in-Ok-read_both-2
+returns-in-Ok-read_both-2 g c =
+    let told = c.check_size_text.ensures.checks in
+    let read = c.in-Ok-read_both-2 in
+    let file = g.F.Folder.file c.args.lent.files.now in
+    let old = g.S.Device.output c.args.sink.now in
+    let new = g.S.Device.output c.check_size_text.new.sink in
+    let level = option_map non_zero_u32_get c.in-CheckSize.level in
+    let text = c.deref-in-Ok-read_both-2-2.result.now in
+    let status_text = c.deref-in-Ok-read_both-2-3.result.now in
+    let of_settings = subst (IsReadFile (file c.in-CheckSize.settings.now)) (sym c.deref-in-Ok-read_both-2-2.ensures.value) read.ensures.settings in
+    let of_status = subst (IsReadFile (file c.in-CheckSize.status.now)) (sym c.deref-in-Ok-read_both-2-3.ensures.value) read.ensures.status in
+    let checks = subst (λ lost. ChecksSizeText text level (map (λ w. w.now) lost) (load_of status_text) told.0 old new c.check_size_text.result)
+    c.deref-in-Ok-read_both-2-4.ensures.value told.2 in record {
+      carries_out = (
+        told.0,
+        told.1,
+        subst (λ command. CarriesOut file (named command) told.0 old new c.check_size_text.result) (sym c.in-CheckSize.is)
+            (size_checked file c.in-CheckSize.settings.now c.in-CheckSize.status.now level (map (λ w. w.now) c.in-CheckSize.lost.items) text status_text
+            told.0 old new c.check_size_text.result of_settings of_status checks),
       );
     }
