@@ -8,11 +8,13 @@ use Rattle.std.specs.Result.{result_map_both}
 use Rattle.std.specs.declared.io.ErrorKind.{ErrorKind}
 use Rattle.std.specs.declared.io.ErrorKind.TheVariants.{OutOfMemory}
 use Rattle.clap.specs.Words.{Kinds}
-use Rattle.command_line.specs.Words.{Named, command_in, faults_in}
+use Rattle.command_line.specs.Words.{Named, plan, check, size, check_size, replay, show_settings, run, command_in, faults_in}
+use Rattle.fault_detail.specs.Complaint.{Complains, SaysLine, Tells}
+use Rattle.fault_detail.specs.Detail.{Names}
+use Rattle.fault_detail.specs.declared.complaint.Reader.{Reader}
 use Rattle.devices.specs.Folder.{Known}
 use Rattle.devices.specs.Whole.{IsUntouched}
-use Rattle.byte_io.specs.Sides.{HasFront, HasText, Met, Output}
-use Rattle.plan_commands.specs.Fault.{fault_line}
+use Rattle.byte_io.specs.Sides.{Met, Output}
 use Rattle.plan_commands.specs.declared.ending.Exit.{Exit}
 use Rattle.plan_commands.specs.declared.fault.Fault.{Fault}
 use Rattle.plan_commands.specs.declared.fault.Fault.TheVariants.{Memory}
@@ -23,22 +25,24 @@ pub record Streams : Type 0 where
   pub output : Output
   pub errors : Output
 
--- A sink has the text, or a front of it where a write failed.
-abbrev pub SaysLine : List ℕ → Output → Output → Type 0
-SaysLine text old new = HasText old text new ⊎ ((count : ℕ) × HasFront old text count new)
+-- what a command is given, by its words
+abbrev pub names_in : Named → Names
+names_in (plan s lost) = record { settings = s; status = None; lost = lost }
+names_in (check s t lost) = record { settings = s; status = Some t; lost = lost }
+names_in (size s level lost) = record { settings = s; status = None; lost = lost }
+names_in (check_size s t level lost) = record { settings = s; status = Some t; lost = lost }
+names_in (replay s) = record { settings = s; status = None; lost = [] }
+names_in (show_settings s) = record { settings = s; status = None; lost = [] }
+names_in (run s rounds) = record { settings = s; status = None; lost = [] }
 
--- the line of a fault, as error output shows it
-abbrev pub fault_text : Fault → List ℕ
-fault_text fault = codes "poolman: " ++ fault_line fault ++ 10 ∷ []
-
--- Error output has the line of the fault, where there is one; or that of want of memory, where there is none for that line.
-abbrev pub Complains : Option Fault → Output → Output → Type 0
-Complains None old new = new ≡ old
-Complains (Some fault) old new = SaysLine (fault_text fault) old new ⊎ SaysLine (fault_text Memory) old new
+-- Error output has what is told of the fault of a command, where there is one.
+abbrev pub TellsEnd : Reader → Named → Option Fault → Output → Output → Type 0
+TellsEnd who command None old new = new ≡ old
+TellsEnd who command (Some fault) old new = Tells who (names_in command) fault old new
 
 -- There is no memory, which is told.
 abbrev pub Lacks : Output → Output → ℕ → Type 0
-Lacks old new status = Complains (Some Memory) old new × (status ≡ 4)
+Lacks old new status = Complains Memory old new × (status ≡ 4)
 
 -- Some text on error output says what is wrong with the words, or is the help that they ask for. Or there is no memory for it.
 abbrev pub Advises : Output → Output → ℕ → Type 0
@@ -55,15 +59,15 @@ words_in words = result_map_both (λ list. map (λ w. string_bytes w) list.items
 
 -- The words ask for a command, which is carried out, and its fault is told. Or they ask for none, which is told, or memory is refused,
 -- and then nothing is read and nothing is written to the output.
-abbrev pub Obeys : (List ℕ → Known) → List (List ℕ) → Met → Streams → Streams → ℕ → Type 0
-Obeys file words met old new status =
+abbrev pub Obeys : Reader → (List ℕ → Known) → List (List ℕ) → Met → Streams → Streams → ℕ → Type 0
+Obeys who file words met old new status =
     ((command : Named) × (exit : Exit) × (command_in words ≡ Some command) × CarriesOut file command met old.output new.output exit
-    × Complains exit.fault old.errors new.errors × (status ≡ exit.status))
+    × TellsEnd who command exit.fault old.errors new.errors × (status ≡ exit.status))
     ⊎ (IsUntouched met × (new.output ≡ old.output)
     × (((faults_in words ≢ []) × Advises old.errors new.errors status) ⊎ Lacks old.errors new.errors status))
 
 -- The same of the words that the system gives, where it gives any.
-abbrev pub Program : (List ℕ → Known) → Result (List (List ℕ)) ErrorKind → Met → Streams → Streams → ℕ → Type 0
-Program file (Ok words) met old new status = Obeys file words met old new status
-Program file (Err kind) met old new status =
+abbrev pub Program : Reader → (List ℕ → Known) → Result (List (List ℕ)) ErrorKind → Met → Streams → Streams → ℕ → Type 0
+Program who file (Ok words) met old new status = Obeys who file words met old new status
+Program who file (Err kind) met old new status =
     IsUntouched met × (new.output ≡ old.output) × HasNoWords kind old.errors new.errors status

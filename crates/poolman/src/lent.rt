@@ -1,8 +1,9 @@
 //! What the program is lent.
 
+use fault_detail::Reader;
 use std::alloc::{AllocError, Global};
 
-/// What the program is lent: the files that it may open, the host of a run, and where memory comes from.
+/// What the program is lent: the files that it may open, the host of a run, where memory comes from, and who reads error output.
 pub struct Lent<'w, F, H> {
     /// The files.
     pub files: &'w F,
@@ -10,6 +11,8 @@ pub struct Lent<'w, F, H> {
     pub host: &'w H,
     /// Where memory comes from.
     pub alloc: Global,
+    /// Who reads error output.
+    pub reader: Reader,
 }
 
 impl<'w, F, H> Clone for Lent<'w, F, H> {

@@ -6,11 +6,12 @@ mod lent;
 mod program;
 
 use devices::{InputSource, OutputSink};
+use fault_detail::Reader;
 use lent::Lent;
 use program::program;
 use run_command::System;
 use std::process::ExitCode;
-use std::{env, io};
+use std::{env, fs, io};
 
 /// The words of the command line, the program's name first.
 fn words(rt: &HostRuntime) -> io::Result<Vec<String>> {
@@ -21,11 +22,25 @@ fn words(rt: &HostRuntime) -> io::Result<Vec<String>> {
     Ok(words)
 }
 
+/// Who reads standard error: a person where it is a terminal, which the system's table of open files tells by its name.
+fn reader_of(rt: &HostRuntime) -> Reader {
+    match fs::read_link(rt, "/proc/self/fd/2") {
+        Ok(path) if is_terminal(path.as_str()) => Reader::Person,
+        _ => Reader::Program,
+    }
+}
+
+/// Whether a device of this name is a terminal.
+fn is_terminal(name: &str) -> bool {
+    name.starts_with("/dev/pts/") || name.starts_with("/dev/tty") || name == "/dev/console"
+}
+
 fn main(rt: HostRuntime) -> ExitCode {
     let lent = Lent {
         files: &rt,
         host: &System::new(&rt),
         alloc: rt.alloc(),
+        reader: reader_of(&rt),
     };
     ExitCode::from(program(
         lent,

@@ -1,15 +1,18 @@
 //! The whole program, over words, files, input, output and error output.
 
-ghost use Rattle.std.specs.Prelude.{◌≡◌, ◌-◌, ◌^◌, ◌<◌, Some, map, string_bytes};
+ghost use Rattle.std.specs.Prelude.{◌≡◌, ◌-◌, ◌^◌, ◌<◌, map, string_bytes};
 ghost use Rattle.byte_io.specs.Sides.{Meets, Met};
+ghost use Rattle.command_line.specs.Named.{named};
+ghost use Rattle.fault_detail.specs.Detail.{names_of};
 ghost use Rattle.poolman.specs.Program as spec;
 
 use crate::carry_out::carry_out;
 use crate::lent::Lent;
-use byte_io::{Sink, Source, give_all};
+use byte_io::{Sink, Source};
 use clap::Error;
-use command_line::{CommandError, command_of};
+use command_line::{Command, CommandError, command_of};
 use devices::Folder;
+use fault_detail::{Given, complain, say, tell};
 use plan_commands::{Exit, Fault};
 use run_command::Host;
 use std::alloc::Global;
@@ -20,7 +23,8 @@ use std::io::ErrorKind;
 const USAGE: u8 = 2;
 
 /// The program: carries out the command that the words ask for, on the files that they name, from the input to the
-/// output, and prints on error output its fault, in a line that begins with `poolman: `. Gives the exit status: 0 where
+/// output, and prints on error output its fault, in a line that begins with `poolman: `, and below it what the fault is about where a
+/// person reads error output. Gives the exit status: 0 where
 /// the command is done; 1 where there is no plan, in a round of a run too, or the report is not shown; 2 where the words
 /// are no command's or ask for help, and then what `clap` says of them is on error output; 3 where input is refused, and
 /// 4 where memory or a device failed.
@@ -38,7 +42,7 @@ pub fn program<F: Folder, H: Host, R: Source, W: Sink, E: Sink>(
     requires output { (W.output output.old).failures < 2 ^ 64 - 1 }
     requires errors { (E.output errors.old).failures < 2 ^ 64 - 1 }
     ensures program { (met : Met) × Meets (R.input input.old) met (R.input input.new)
-        × spec.Program (F.file lent.entry.files.now) (spec.words_in words) met
+        × spec.Program lent.entry.reader (F.file lent.entry.files.now) (spec.words_in words) met
         (record { output = W.output output.old; errors = E.output errors.old })
         (record { output = W.output output.new; errors = E.output errors.new }) result }
 {
@@ -60,17 +64,17 @@ fn obey<F: Folder, H: Host, R: Source, W: Sink, E: Sink>(
     requires output { (W.output output.old).failures < 2 ^ 64 - 1 }
     requires errors { (E.output errors.old).failures < 2 ^ 64 - 1 }
     ensures obeys { (met : Met) × Meets (R.input input.old) met (R.input input.new)
-        × spec.Obeys (F.file lent.entry.files.now) (map (λ w. string_bytes w) words.now) met
+        × spec.Obeys lent.entry.reader (F.file lent.entry.files.now) (map (λ w. string_bytes w) words.now) met
         (record { output = W.output output.old; errors = E.output errors.old })
         (record { output = W.output output.new; errors = E.output errors.new }) result }
 {
     match command_of(lent.alloc, words) {
         Ok(command) => {
             let exit = carry_out(lent, &command, input, output);
-            end(lent.alloc, exit, errors)
+            end_command(lent, &command, exit, errors)
         }
         Err(CommandError::Usage(error)) => advise(lent.alloc, &error, errors),
-        Err(CommandError::Memory) => end(lent.alloc, Exit::refused(Fault::Memory), errors),
+        Err(CommandError::Memory) => end_lacking(lent.alloc, errors),
     }
 }
 
@@ -84,7 +88,7 @@ fn advise<E: Sink>(alloc: Global, error: &Error, errors: &mut E) -> u8
             say(errors, text.as_bytes());
             USAGE
         }
-        Err(_) => end(alloc, Exit::refused(Fault::Memory), errors),
+        Err(_) => end_lacking(alloc, errors),
     }
 }
 
@@ -94,7 +98,7 @@ fn no_words<E: Sink>(alloc: Global, kind: ErrorKind, errors: &mut E) -> u8
     ensures { spec.HasNoWords kind (E.output errors.old) (E.output errors.new) result }
 {
     match kind {
-        ErrorKind::OutOfMemory => end(alloc, Exit::refused(Fault::Memory), errors),
+        ErrorKind::OutOfMemory => end_lacking(alloc, errors),
         _ => {
             say(errors, b"poolman: the command line is not UTF-8\n");
             USAGE
@@ -102,33 +106,63 @@ fn no_words<E: Sink>(alloc: Global, kind: ErrorKind, errors: &mut E) -> u8
     }
 }
 
-/// Prints the fault line, if there is a fault, and gives the status.
-fn end<E: Sink>(alloc: Global, exit: Exit, errors: &mut E) -> u8
+/// What a command is given, by its words.
+fn given_of<'a>(command: &'a Command<'a>) -> Given<'a>
+    ensures { names_of result ≡ spec.names_in (named command.now) }
+{
+    match command {
+        Command::Plan { settings, lost } | Command::Size { settings, lost, .. } => Given {
+            settings,
+            status: None,
+            lost: lost.as_slice(),
+        },
+        Command::Check {
+            settings,
+            status,
+            lost,
+        }
+        | Command::CheckSize {
+            settings,
+            status,
+            lost,
+            ..
+        } => Given {
+            settings,
+            status: Some(*status),
+            lost: lost.as_slice(),
+        },
+        Command::Replay { settings }
+        | Command::Settings { settings }
+        | Command::Run { settings, .. } => Given {
+            settings,
+            status: None,
+            lost: &[],
+        },
+    }
+}
+
+/// Ends a command: prints the fault line, if there is a fault, and for a person what the fault is about. Gives the status.
+fn end_command<F, H, E: Sink>(
+    lent: Lent<'_, F, H>,
+    command: &Command<'_>,
+    exit: Exit,
+    errors: &mut E,
+) -> u8
     requires { (E.output errors.old).failures < 2 ^ 64 - 1 }
-    ensures complains { spec.Complains exit.fault (E.output errors.old) (E.output errors.new) }
+    ensures tells { spec.TellsEnd lent.entry.reader (named command.now) exit.fault (E.output errors.old) (E.output errors.new) }
     ensures status { result ≡ exit.status }
 {
-    if let Some(fault) = exit.fault {
-        complain(alloc, fault, errors);
+    if let Some(fault) = &exit.fault {
+        tell(lent.reader, lent.alloc, &given_of(command), fault, errors);
     }
     exit.status
 }
 
-/// Prints the line of a fault; where there is no memory for it, that there is none.
-fn complain<E: Sink>(alloc: Global, fault: Fault, errors: &mut E)
+/// Prints that there is no memory, and gives the status.
+fn end_lacking<E: Sink>(alloc: Global, errors: &mut E) -> u8
     requires { (E.output errors.old).failures < 2 ^ 64 - 1 }
-    ensures { spec.Complains (Some fault) (E.output errors.old) (E.output errors.new) }
+    ensures { spec.Lacks (E.output errors.old) (E.output errors.new) result }
 {
-    match format!(in alloc; "poolman: {fault}\n") {
-        Ok(line) => say(errors, line.as_bytes()),
-        Err(_) => say(errors, b"poolman: memory\n"),
-    }
-}
-
-/// Writes a text, or a front of it where a write fails, which nobody can be told of.
-fn say<E: Sink>(errors: &mut E, text: &[u8])
-    requires { (E.output errors.old).failures < 2 ^ 64 - 1 }
-    ensures { spec.SaysLine text.now (E.output errors.old) (E.output errors.new) }
-{
-    let _ = give_all(errors, text);
+    complain(alloc, &Fault::Memory, errors);
+    Fault::Memory.status()
 }

@@ -7,6 +7,7 @@ use crate::lent::Lent;
 use byte_io::{SliceSource, VecSink};
 use command_line::Command;
 use devices::{Folder, InputError};
+use fault_detail::Reader;
 use plan_commands::{Exit, Fault, Mistake, NamedFile};
 use pool_settings::{Place, SettingsError};
 use run_command::Host;
@@ -61,6 +62,7 @@ fn carries_out<H: Host>(
         files: &files,
         host,
         alloc,
+        reader: Reader::Program,
     };
     carry_out(lent, command, &mut source, &mut sink) == exit && sink.bytes() == output
 }
@@ -160,6 +162,7 @@ fn check_ends<H: Host>(
         files: &files,
         host,
         alloc,
+        reader: Reader::Program,
     };
     carry_out(lent, &command, &mut source, &mut sink)
 }

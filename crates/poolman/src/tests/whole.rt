@@ -9,6 +9,7 @@ use crate::lent::Lent;
 use crate::program::program;
 use byte_io::doubles::Script;
 use byte_io::{SliceSource, VecSink};
+use fault_detail::Reader;
 use run_command::Host;
 use std::alloc::{AllocError, Global};
 use std::io;
@@ -30,10 +31,11 @@ impl Left {
     }
 }
 
-/// Runs the program on these words and this input, into an output.
+/// Runs the program on these words and this input, into an output, with this reader of its error output.
 fn run_into<H: Host>(
     host: &H,
     alloc: Global,
+    reader: Reader,
     words: &[&str],
     input: &[u8],
     mut output: Script,
@@ -56,6 +58,7 @@ fn run_into<H: Host>(
             files: &files,
             host,
             alloc,
+            reader,
         },
         words,
         &mut source,
@@ -70,7 +73,8 @@ fn run_into<H: Host>(
 }
 
 fn run<H: Host>(host: &H, alloc: Global, words: &[&str], input: &[u8]) -> Result<Left, AllocError> {
-    run_into(host, alloc, words, input, Script::new(alloc))
+    let output = Script::new(alloc);
+    run_into(host, alloc, Reader::Program, words, input, output)
 }
 
 #[test]
@@ -146,6 +150,43 @@ fn faults_are_on_error_output(rt: HostRuntime) -> Result<(), AllocError> {
     Ok(())
 }
 
+/// Whether the program, with a person at its error output, ends so.
+fn tells_a_person<H: Host>(
+    host: &H,
+    alloc: Global,
+    words: &[&str],
+    status: u8,
+    errors: &[u8],
+) -> Result<bool, AllocError> {
+    let output = Script::new(alloc);
+    let left = run_into(host, alloc, Reader::Person, words, STATUS, output)?;
+    Ok(left.status == status && left.errors.as_slice() == errors)
+}
+
+#[test]
+fn people_are_told_more(rt: HostRuntime) -> Result<(), AllocError> {
+    let alloc = rt.alloc();
+    let host = Away { rt: &rt };
+    let lost = ["poolman", "plan", "settings.toml", "b/0"];
+    let lines = b"poolman: lost 1 UnknownWorker
+poolman: b/0: the settings have no such worker
+";
+    assert!(rt; tells_a_person(&host, alloc, &lost, 3, lines)?);
+    let none = ["poolman", "check", "settings.toml", "none"];
+    let lines = b"poolman: device 3 NoFile
+poolman: none: there is no such file, or it may not be opened
+";
+    assert!(rt; tells_a_person(&host, alloc, &none, 4, lines)?);
+    let swapped = ["poolman", "plan", "status.txt"];
+    let lines = b"poolman: settings 1 Text
+poolman: status.txt: the file is not TOML at line 1 column 3
+";
+    assert!(rt; tells_a_person(&host, alloc, &swapped, 3, lines)?);
+    let plan = ["poolman", "plan", "settings.toml"];
+    assert!(rt; tells_a_person(&host, alloc, &plan, 0, b"")?);
+    Ok(())
+}
+
 #[test]
 fn an_output_that_fails_is_told(rt: HostRuntime) -> Result<(), AllocError> {
     let alloc = rt.alloc();
@@ -156,6 +197,7 @@ fn an_output_that_fails_is_told(rt: HostRuntime) -> Result<(), AllocError> {
     let left = run_into(
         &host,
         alloc,
+        Reader::Program,
         &["poolman", "plan", "settings.toml"],
         STATUS,
         output,
@@ -190,6 +232,7 @@ fn without_words<H: Host>(host: &H, alloc: Global, kind: ErrorKind) -> Result<Le
             files: &files,
             host,
             alloc,
+            reader: Reader::Program,
         },
         words,
         &mut source,

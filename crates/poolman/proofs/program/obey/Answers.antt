@@ -33,7 +33,7 @@ returns-in-Err-Memory g c =
         inr (
           (refl, refl, refl),
           refl,
-          inr (rw c.refused.ensures at c.end-in-Err-Memory.ensures.complains, rw c.refused.ensures at c.end-in-Err-Memory.ensures.status),
+          inr c.end_lacking.ensures,
         ),
       );
     }

@@ -12,8 +12,8 @@ returns-in-Ok g c =
       program = (
         told.0,
         told.1,
-        subst (λ words. Program file (words_in words) told.0 old new c.obey.result) (sym c.in-Ok.is)
-            (subst (λ words. Obeys file (map (λ w. string_bytes w) words) told.0 old new c.obey.result) c.deref.ensures.value told.2),
+        subst (λ words. Program c.args.lent.reader file (words_in words) told.0 old new c.obey.result) (sym c.in-Ok.is)
+            (subst (λ words. Obeys c.args.lent.reader file (map (λ w. string_bytes w) words) told.0 old new c.obey.result) c.deref.ensures.value told.2),
       );
     }
 
@@ -26,7 +26,7 @@ returns-in-Err g c =
       program = (
         nothing_from side,
         meets_nothing side,
-        subst (λ words. Program file (words_in words) (nothing_from side) old new c.no_words.result) (sym c.in-Err.is)
+        subst (λ words. Program c.args.lent.reader file (words_in words) (nothing_from side) old new c.no_words.result) (sym c.in-Err.is)
             ((refl, refl, refl), refl, rw c.kind.ensures at c.no_words.ensures),
       );
     }
