@@ -111,7 +111,7 @@ fn defaults_and_given_values(rt: HostRuntime) {
 fn refuses(alloc: Global, settings: &[u8], error: SettingsError, place: &[u8]) -> bool {
     let mut sink = VecSink::new(alloc);
     let exit = settings_text(alloc, settings, &mut sink);
-    let is_refused = match exit.fault {
+    let is_refused = match &exit.fault {
         Some(Fault::Settings(mistake)) => mistake.error == error,
         _ => false,
     };
