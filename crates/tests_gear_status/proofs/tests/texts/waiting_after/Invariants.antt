@@ -1,0 +1,6 @@
+use Rattle.std.proofs.Common.{◌≡◌}
+use Rattle.tests_gear_status.proofs.tests.texts.waiting_after.Given as goal
+
+-- the script has not failed
+abbrev pub invariant-loop : goal.invariant-loop
+invariant-loop l = l.script.take_failures ≡ 0
