@@ -115,7 +115,7 @@ fn idle_of(tables: &Tables, need: &[u32], m: u32, looks: &mut u64) -> Option<u32
     None
 }
 
-// An idle worker who may do function `f`. Where there is none nobody counts as looked at: then no machine is known to have one.
+// An idle worker who may do function `f`. If there is none nobody counts as looked at: then no machine is known to have one.
 fn idle_for(tables: &Tables, need: &[u32], f: u32, idle: &mut Idle, looks: &mut u64) -> Option<u32>
     requires fits { IsSearchable tables.now need.now }
     requires known { f < length need.now }

@@ -1,4 +1,4 @@
-//! The search that goes on where it gets stuck: it serves as many of the needs as can be.
+//! The search that goes on when it gets stuck: it serves as many of the needs as can be.
 
 ghost use Rattle.std.specs.Prelude.{◌≡◌, ℕ, ◌+◌, ◌^◌, ◌<◌, ◌≤◌, IsTrue, length, slice_index, IfOk, OnErr};
 ghost use Rattle.std.specs.Bool.{OnTrue, OnFalse};
@@ -92,8 +92,8 @@ fn mark_reached(short: &mut [usize], tree: &Tree)
     }
 }
 
-// Gives the function workers up to its need. Where it is left short it is marked, and with it all functions that the workers who may do a
-// marked one are on. Where all who may do it are on marked functions, nothing is to be looked for.
+// Gives the function workers up to its need. If it is left short it is marked, and with it all functions that the workers who may do a
+// marked one are on. If all who may do it are on marked functions, nothing is searched for.
 fn serve_or_mark(
     tables: &mut Tables,
     need: &[u32],
@@ -162,11 +162,11 @@ fn marked_functions<'a>(short: &[usize], set: &'a mut [FuncId]) -> &'a [FuncId]
     &set[..n]
 }
 
-/// Moves workers until as many needs are met as can be, where no function has more workers than it needs, and gives the set that shows it:
+/// Moves workers until as many needs are met as can be, if no function has more workers than it needs, and gives the set that shows it:
 /// its needs are so many more than the workers who may do any of its functions as needs are left in all (Hall's theorem, with
 /// demands, in its form for what is left over). No function gets more workers than it needs.
 ///
-/// The needs are within the greatest numbers. Where a search gets stuck, its functions and their workers are left alone from then
+/// The needs are within the greatest numbers. If a search gets stuck, its functions and their workers are left alone from then
 /// on: each worker who may do one of them is on one of them, and no later search can come there.
 ///
 /// The only error is that a growth of the arena was refused. All growths are made first, so then the

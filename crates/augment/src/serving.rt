@@ -70,7 +70,7 @@ pub fn serve_one(
 }
 
 // Moves workers until each function has its need, in the order of the tables, and says whether that was
-// reached. Where it was not, the functions marked in the tree are short of workers. The pairs that it
+// reached. If it was not, the functions marked in the tree are short of workers. The pairs that it
 // looks at are counted in `looks`, and not in the tables.
 fn serve_all(
     tables: &mut Tables,
@@ -111,7 +111,7 @@ fn serve_all(
     true
 }
 
-/// Writes the marked functions to the front of `set`, in order, and gives their number.
+/// Writes the marked functions to the start of `set`, in order, and gives their number.
 pub fn collect(place: &[usize], set: &mut [FuncId]) -> usize
     requires room { length set.old ≡ length place.now }
     requires functions { length place.now < 2 ^ 32 }
@@ -134,7 +134,7 @@ pub fn collect(place: &[usize], set: &mut [FuncId]) -> usize
 /// one.
 ///
 /// The condition on the needs is that each is at most the function's greatest number of workers, or above
-/// the number of workers. Where one is above the number of workers, the set is its function alone, nothing
+/// the number of workers. If one is above the number of workers, the set is its function alone, nothing
 /// is looked at and nobody moves.
 ///
 /// No function falls below the smaller of its need and its number before, nor rises above the larger. None

@@ -9,7 +9,7 @@ use thiserror::Error;
 /// What one read gave.
 #[derive(Clone, Copy, Debug, PartialEq, Eq)]
 pub enum Took {
-    /// So many bytes, at least one, at the front of the buffer.
+    /// So many bytes, at least one, at the start of the buffer.
     Bytes(usize),
     /// Nothing in the time of one read. More may come.
     Lull,
@@ -24,7 +24,7 @@ pub struct DeviceFault;
 
 /// What bytes come from, or go to, or both: a socket, a file, memory.
 ///
-/// A device tells of its two sides. A side that it does not have stays as it was at first. Bytes and lulls are told where that
+/// A device reports on its two sides. A side that it does not have stays as it was at first. Bytes and timeouts are reported if that
 /// can be, as over memory; of a socket nothing is claimed, and it says None. Failures are counted always.
 pub trait Device {
     /// What was read from it.
@@ -36,9 +36,9 @@ pub trait Device {
 
 /// What bytes are read from.
 ///
-/// A source stores and tells how often it has failed, and whether its last read found the end.
+/// A source stores and reports how often it has failed, and whether its last read found the end.
 pub trait Source: Device {
-    /// Reads into the front of the buffer. After a failure nothing is known of the buffer.
+    /// Reads into the start of the buffer. After a failure nothing is known of the buffer.
     fn take(&mut self, buffer: &mut [u8]) -> Result<Took, DeviceFault>
         requires room { 0 < length buffer.old }
         requires count { (Self.input self.old).failures < 2 ^ 64 - 1 }
@@ -52,9 +52,9 @@ pub trait Source: Device {
 
 /// What bytes are written to.
 ///
-/// A sink stores and tells how often it has failed.
+/// A sink stores and reports how often it has failed.
 pub trait Sink: Device {
-    /// Writes the bytes, or a front of them, and says how many it took: at least one. After a failure it took none.
+    /// Writes the bytes, or a prefix of them, and says how many it took: at least one. After a failure it took none.
     fn give(&mut self, bytes: &[u8]) -> Result<usize, DeviceFault>
         requires some { 0 < length bytes.now }
         requires count { (Self.output self.old).failures < 2 ^ 64 - 1 }
@@ -64,7 +64,7 @@ pub trait Sink: Device {
         ensures input { Self.input self.new ≡ Self.input self.old };
 }
 
-/// The sink failed after it took so many bytes, a front of the text.
+/// The sink failed after it took so many bytes, a prefix of the text.
 #[derive(Clone, Copy, Debug, PartialEq, Eq, Error)]
 #[error("the device failed after {count} bytes")]
 pub struct Given {
@@ -72,7 +72,7 @@ pub struct Given {
     pub count: usize,
 }
 
-/// Writes all the bytes, in as many writes as the sink wants. Where a write fails, a front of them has gone out, and
+/// Writes all the bytes, in as many writes as the sink needs. If a write fails, a prefix of them has gone out, and
 /// nothing is written after it.
 pub fn give_all<S: Sink>(sink: &mut S, bytes: &[u8]) -> Result<(), Given>
     requires count { (S.output sink.old).failures < 2 ^ 64 - 1 }

@@ -8,7 +8,7 @@ use std::alloc::{AllocError, Global};
 use std::marker::Model;
 
 /// A source and a sink for tests. It gives its pieces one by one, over as many reads as the buffers need, and then ends; a piece
-/// without bytes is a lull. It takes so many bytes at a write. Each side may fail at one stated call, which reads or writes nothing.
+/// without bytes is a timeout. It takes so many bytes at a write. Each side may fail at one stated call, which reads or writes nothing.
 #[derive(Drop)]
 pub struct Script {
     pieces: Vec<Vec<u8>>,
@@ -56,7 +56,7 @@ impl Script {
         }
     }
 
-    /// Lists a piece of input. One without bytes is a lull. Where there is no memory for it, the script stays as it was.
+    /// Lists a piece of input. One without bytes is a timeout. If there is no memory for it, the script stays as it was.
     pub fn piece(&mut self, bytes: &[u8]) -> Result<(), AllocError>
         ensures ok { OnOk result (self.new ≡ record self.old { pieces = self.old.pieces ++ bytes.now ∷ [] }) }
         ensures err { OnErr result (self.new ≡ self.old) }
@@ -66,7 +66,7 @@ impl Script {
         Ok(())
     }
 
-    /// Lists a lull. Where there is no memory for it, the script stays as it was.
+    /// Lists a timeout. If there is no memory for it, the script stays as it was.
     pub fn lull(&mut self) -> Result<(), AllocError>
         ensures ok { OnOk result (self.new ≡ record self.old { pieces = self.old.pieces ++ [] ∷ [] }) }
         ensures err { OnErr result (self.new ≡ self.old) }
@@ -142,7 +142,7 @@ impl Script {
         Ok(Took::Bytes(count))
     }
 
-    /// One write: what it takes is what the script says, or nothing where it is to fail or the growth of its output is refused.
+    /// One write: what it takes is what the script says, or nothing if it is to fail or the growth of its output is refused.
     fn write(&mut self, bytes: &[u8]) -> Result<usize, DeviceFault>
         requires some { 0 < length bytes.now }
         requires count { self.old.give_failures < 2 ^ 64 - 1 }

@@ -1,4 +1,4 @@
-//! Devices over memory, which tell their bytes.
+//! Devices over memory, which report their bytes.
 
 ghost use Rattle.std.specs.Prelude.{◌≡◌, ◌<◌, ◌≤◌, ◌^◌, ◌+◌, ◌-◌, ◌++◌, [], IfOk, OnErr, false, length};
 ghost use Rattle.byte_io.specs.Memory.{ReadsText};
@@ -7,7 +7,7 @@ use crate::device::{Device, DeviceFault, Sink, Source, Took};
 use std::alloc::Global;
 use std::marker::Model;
 
-/// Reads from a slice, as many bytes at a time as there is room for. It never lulls and never fails.
+/// Reads from a slice, as many bytes at a time as there is room for. It never times out and never fails.
 #[derive(Drop)]
 pub struct SliceSource<'s> {
     all: &'s [u8],
@@ -46,7 +46,7 @@ impl Device for SliceSource<'_> {
 }
 
 impl SliceSource<'_> {
-    /// One read: all that is left and has room, or the end behind it.
+    /// One read: all that is left and has room, or the end after it.
     fn read(&mut self, buffer: &mut [u8]) -> Result<Took, DeviceFault>
         requires room { 0 < length buffer.old }
         ensures reads { ReadsText self.old buffer.new result self.new }
@@ -112,7 +112,7 @@ impl Device for VecSink {
 }
 
 impl VecSink {
-    /// One write: it takes all the bytes, or none where memory is refused.
+    /// One write: it takes all the bytes, or none if memory is refused.
     fn write(&mut self, bytes: &[u8]) -> Result<usize, DeviceFault>
         requires count { self.old.failures < 2 ^ 64 - 1 }
         ensures all { IfOk result (λ n. (n ≡ length bytes.now) × (self.new ≡ record self.old { bytes = self.old.bytes ++ bytes.now })) }

@@ -34,10 +34,10 @@ impl Patience {
         Patience { timeouts: 0 }
     }
 
-    /// Reads the next piece of a source into the front of the buffer, and waits out timeouts. Answers how many bytes it has, at
-    /// least one, or None where the input has ended.
+    /// Reads the next piece of a source into the start of the buffer, and waits out timeouts. Answers how many bytes it has, at
+    /// least one, or None if the input has ended.
     ///
-    /// Fails where the source does, and at the 65th timeout of the call.
+    /// Fails if the source does, and at the 65th timeout of the call.
     pub fn read<S: Source>(
         &mut self,
         source: &mut S,

@@ -79,7 +79,7 @@ impl From<AllocError> for CommandError {
     }
 }
 
-/// Tells want of memory from words that are not taken.
+/// Distinguishes out of memory from words that are not taken.
 fn refused(error: Error) -> CommandError
     ensures { Tells error result }
 {
@@ -181,7 +181,7 @@ fn run_of<'a, W: AsStr>(alloc: Global, words: &'a [W]) -> Result<Command<'a>, Co
     }
 }
 
-/// The command of this name, from words of which it is the second, where it is one that takes nothing from standard input.
+/// The command of this name, from words of which it is the second, if it is one that takes nothing from standard input.
 fn command_without_input<'a, W: AsStr>(
     alloc: Global,
     name: &str,
@@ -202,7 +202,7 @@ fn command_without_input<'a, W: AsStr>(
     }
 }
 
-/// The command of this name, from words of which it is the second, where it is one about sizes, or one that takes nothing from standard
+/// The command of this name, from words of which it is the second, if it is one about sizes, or one that takes nothing from standard
 /// input.
 fn command_of_sizes<'a, W: AsStr>(
     alloc: Global,
@@ -248,11 +248,11 @@ fn command_named<'a, W: AsStr>(
 }
 
 /// The command that the words ask for. The first word is the program's name and the second the
-/// command's. `Usage` comes only where `clap` finds a fault in the words, help that they ask for included: it
-/// is of the kind of the first one, and holds the text to print. So it is where ROUNDS is no whole number from
-/// 1 to 65,536 in decimal, of which a `+` may stand in front: of the kind `ValueValidation`, or
-/// `UnknownArgument` where the word is read as an option, since a `-` stands in front. Where BACKLOG is neither `-` nor a number from 1 to
-/// 4,294,967,295 in decimal without leading zeros, the fault is of the kind `ValueValidation`; it comes only where `clap` finds no other.
+/// command's. `Usage` comes only if `clap` finds a fault in the words, help that they ask for included: it
+/// is of the kind of the first one, and holds the text to print. So it is if ROUNDS is no whole number from
+/// 1 to 65,536 in decimal, of which a `+` may come first: of the kind `ValueValidation`, or
+/// `UnknownArgument` if the word is read as an option, since it begins with `-`. If BACKLOG is neither `-` nor a number from 1 to
+/// 4,294,967,295 in decimal without leading zeros, the fault is of the kind `ValueValidation`; it comes only if `clap` finds no other.
 pub fn command_of<'a, W: AsStr>(alloc: Global, words: &'a [W]) -> Result<Command<'a>, CommandError>
     ensures ok { IfOk result (λ c. spec.command_in (map W.text words.now) ≡ Some (named c)) }
     ensures taken { IfOk result (λ _. spec.faults_in (map W.text words.now) ≡ []) }

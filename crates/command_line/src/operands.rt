@@ -467,7 +467,7 @@ fn program<'a>(alloc: Global) -> Result<Command<'a>, AllocError>
         .subcommand(run(alloc)?)
 }
 
-/// What to print where the words name no command: the help that they ask for, or what is wrong.
+/// What to print if the words name no command: the help that they ask for, or what is wrong.
 pub fn overview<W: AsStr>(alloc: Global, words: &[W]) -> Result<Error, AllocError>
     ensures kinds { IfOk result (HasKind (spec.overview_faults (map W.text words.now))) }
 {

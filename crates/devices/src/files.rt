@@ -44,8 +44,8 @@ impl Folder for HostRuntime {
 
 /// A file's bytes. A file that is longer than `LIMIT` is not held whole.
 ///
-/// `NoFile` where the file is not there or may not be opened, `ReadFault` where a read of it fails, `TooLong` above the limit,
-/// `Memory` where memory is refused.
+/// `NoFile` if the file is not there or may not be opened, `ReadFault` if a read of it fails, `TooLong` above the limit,
+/// `Memory` if memory is refused.
 pub fn read_file<F: Folder>(files: &F, alloc: Global, name: &str) -> Result<Vec<u8>, InputError>
     ensures whole { IfOk result (λ bytes. IsReadFile (F.file files.now name.now) bytes.items) }
     ensures err { IfErr result (IsUnreadFile (F.file files.now name.now)) }
@@ -56,7 +56,7 @@ pub fn read_file<F: Folder>(files: &F, alloc: Global, name: &str) -> Result<Vec<
     }
 }
 
-/// All that a reader has left, where that is no more than `LIMIT` bytes.
+/// All that a reader has left, if that is no more than `LIMIT` bytes.
 fn read_within<R: Read + Drop>(alloc: Global, reader: R) -> Result<Vec<u8>, InputError>
     ensures within { IfOk result (λ bytes. length bytes.items ≤ limit) }
     ensures whole { IfOk result (λ bytes. IsTextOf (known_of (R.remaining reader)) bytes.items) }

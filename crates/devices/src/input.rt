@@ -13,7 +13,7 @@ pub const LIMIT: u64 = 16_777_216;
 
 /// All bytes of a source, up to its end and no more than `LIMIT`.
 ///
-/// `TooLong` where another byte comes, `ReadFault` if the source fails or times out for the 65th time, `Memory` where memory is
+/// `TooLong` if another byte comes, `ReadFault` if the source fails or times out for the 65th time, `Memory` if memory is
 /// refused. At most 4,096 bytes are taken at a time, so no more than these are taken above the limit.
 pub fn read_whole<R: Source>(alloc: Global, source: &mut R) -> Result<Vec<u8>, InputError>
     requires count { (R.input source.old).failures < 2 ^ 64 - 1 }

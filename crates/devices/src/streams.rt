@@ -10,8 +10,8 @@ use std::io::{Read, Write};
 use std::marker::Model;
 use std::snapshot::Snapshot;
 
-/// A reader as a source. It counts its failures and its lulls, and tells what it gave where the reader tells what it has
-/// left. It has no time limit, so that it lulls only where a signal interrupts a read.
+/// A reader as a source. It counts its failures and its timeouts, and reports what it gave if the reader reports what it has
+/// left. It has no time limit, so that it times out only if a signal interrupts a read.
 #[derive(Drop)]
 pub struct InputSource<R: Read> {
     reader: R,
@@ -67,7 +67,7 @@ impl<R: Read + Drop> Source for InputSource<R> {
     }
 }
 
-/// A writer as a sink. It counts its failures, and tells what the writer holds where the writer tells it. A write that takes
+/// A writer as a sink. It counts its failures, and reports what the writer holds if the writer does. A write that takes
 /// nothing is a failure.
 #[derive(Drop)]
 pub struct OutputSink<W: Write> {

@@ -16,8 +16,8 @@ const PATIENCE: u64 = MAX_TIMEOUTS as u64 + 1;
 
 /// A TCP stream to the job server, as a source and a sink with one descriptor.
 ///
-/// A read that takes longer than its time limit is a lull. A write that takes longer than 65 of them is a failure, so a server that
-/// stops reading holds a session no longer than that. It tells contracts how often it failed and whether its input has ended, and no
+/// A read that takes longer than its time limit is a timeout. A write that takes longer than 65 of them is a failure, so a server that
+/// stops reading holds a session no longer than that. It reports to contracts how often it failed and whether its input has ended, and no
 /// bytes: nothing can be proved of what a socket carries.
 #[derive(Drop)]
 pub struct TcpLink {
@@ -38,7 +38,7 @@ impl Device for TcpLink {
 impl TcpLink {
     /// A link over a connected stream, that has not failed and has not found its end. It sets the two time limits, and turns Nagle's
     /// algorithm off (TCP_NODELAY): an answer and the next request for a job are two writes with no read between, of which the second
-    /// would else wait for the server's delayed acknowledgement, some 40 milliseconds a job. The error is the system's, where one of
+    /// would else wait for the server's delayed acknowledgement, some 40 milliseconds a job. The error is the system's, if one of
     /// them cannot be set.
     pub fn new(stream: TcpStream, lull_ms: u32) -> io::Result<TcpLink>
         ensures input { IfOk result (λ link. ⟦<TcpLink as Device>⟧.input link ≡ no_input) }
@@ -54,7 +54,7 @@ impl TcpLink {
         })
     }
 
-    /// Dials `host:port`, each address of the host in turn, for 65 lulls at most each. The error is the system's answer to the last
+    /// Dials `host:port`, each address of the host in turn, for 65 timeouts at most each. The error is the system's answer to the last
     /// address, or says that there is none.
     pub fn dial<R: Net<Stream = TcpStream>>(
         net: &R,

@@ -13,7 +13,7 @@ use std::alloc::Global;
 /// Who reads what the program writes to error output.
 #[derive(Clone, Copy, Debug, PartialEq, Eq)]
 pub enum Reader {
-    /// A person at a terminal, who is told in a second line what a fault is about.
+    /// A person at a terminal, who gets a second line that says what a fault is about.
     Person,
     /// A program or a file, which gets the fault line alone.
     Program,
@@ -49,7 +49,7 @@ fn tell_person<E: Sink>(alloc: Global, given: &Given<'_>, fault: &Fault, errors:
     }
 }
 
-/// Writes what a fault is about; where there is no memory for that line, nothing.
+/// Writes what a fault is about; if there is no memory for that line, nothing.
 fn tell_more<E: Sink>(alloc: Global, given: &Given<'_>, fault: &Fault, errors: &mut E)
     requires { (E.output errors.old).failures < 2 ^ 64 - 1 }
     ensures { spec.TellsMore (names_of given.now) fault.now (E.output errors.old) (E.output errors.new) }
@@ -59,7 +59,7 @@ fn tell_more<E: Sink>(alloc: Global, given: &Given<'_>, fault: &Fault, errors: &
     }
 }
 
-/// Writes the line of a fault; where there is no memory for it, that there is none. Tells whether the line went out whole.
+/// Writes the line of a fault; if there is no memory for it, that there is none. Returns whether the line went out whole.
 pub fn complain<E: Sink>(alloc: Global, fault: &Fault, errors: &mut E) -> bool
     requires { (E.output errors.old).failures < 2 ^ 64 - 1 }
     ensures complains { spec.Complains fault.now (E.output errors.old) (E.output errors.new) }
@@ -71,7 +71,7 @@ pub fn complain<E: Sink>(alloc: Global, fault: &Fault, errors: &mut E) -> bool
     }
 }
 
-/// Writes a text, or a front of it where a write fails, which nobody can be told of. Tells whether the text went out whole.
+/// Writes a text, or a prefix of it if a write fails, which cannot be reported. Returns whether the text went out whole.
 pub fn say<E: Sink>(errors: &mut E, text: &[u8]) -> bool
     requires { (E.output errors.old).failures < 2 ^ 64 - 1 }
     ensures says { spec.SaysLine text.now (E.output errors.old) (E.output errors.new) }

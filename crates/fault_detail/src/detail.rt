@@ -1,4 +1,4 @@
-//! The line that tells people what a fault is about.
+//! The line for people that says what a fault is about.
 
 ghost use Rattle.std.specs.Prelude.{◌≡◌, ◌++◌, IfOk, OnOk, string_bytes};
 ghost use Rattle.fault_detail.specs.Detail as spec;
@@ -28,7 +28,7 @@ fn push_end(alloc: Global, out: &mut String, fault: &Fault) -> Result<(), AllocE
     }
 }
 
-/// The line that tells people what a fault is about: `poolman: `, the name of the file, the worker or the stream that it is about, the
+/// The line for people that says what a fault is about: `poolman: `, the name of the file, the worker or the stream that it is about, the
 /// sentence of the refusal and, for a mistake in the settings, where in the file that is, with each key and each name as TOML writes a
 /// key. The only error is out of memory.
 pub fn detail_line(alloc: Global, given: &Given<'_>, fault: &Fault) -> Result<String, AllocError>

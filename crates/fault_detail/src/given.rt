@@ -42,7 +42,7 @@ impl<'a> Given<'a> {
         }
     }
 
-    /// The name of the lost worker at this place, and the empty text behind the last.
+    /// The name of the lost worker at this place, and the empty text after the last.
     fn lost_name(&self, place: usize) -> &'a str
         ensures { result.now ≡ get_or (spec.names_of self.now).lost place [] }
     {

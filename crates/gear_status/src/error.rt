@@ -56,7 +56,7 @@ impl Labelled for StatusError {
 }
 
 impl StatusError {
-    /// The line that is refused, counted from 1, where it is one line.
+    /// The line that is refused, counted from 1, if it is one line.
     pub fn line(self) -> Option<u32>
         ensures line { result ≡ spec.status_line_of self }
     {

@@ -46,7 +46,7 @@ impl Load {
     }
 
     /// Sets the counts of a name, which may be any bytes. A name that is there keeps its place, and a new one goes last.
-    /// Where there is no memory for it, the load stays as it was.
+    /// If there is no memory for it, the load stays as it was.
     pub fn set(
         &mut self,
         name: &[u8],
@@ -75,7 +75,7 @@ impl Load {
         Ok(())
     }
 
-    /// How many jobs of a name wait for a worker: the queue less those that run, and 0 where more run or the name is not
+    /// How many jobs of a name wait for a worker: the queue less those that run, and 0 if more run or the name is not
     /// there. It looks the name up by its hash.
     pub fn waiting(&self, name: &[u8]) -> u32
         ensures jobs { result ≡ waiting self.now name.now }
@@ -86,7 +86,7 @@ impl Load {
         }
     }
 
-    /// An equal load: the same lines in the same order. The only error is want of memory.
+    /// An equal load: the same lines in the same order. The only error is out of memory.
     pub fn copy(&self) -> Result<Load, AllocError>
         ensures { IfOk result (λ load. load ≡ self.now) }
     {

@@ -23,8 +23,8 @@ const PIECE: usize = 4096;
 /// lines before the period line, so the load and one line bound the memory.
 ///
 /// The source's pieces do not matter. At most 4,096 bytes are taken at a time. No read is made once the period line or a fault
-/// has come, and what was read behind it is not looked at. `ReadFault` is answered exactly where the source failed in this call,
-/// or lulled for the 65th time in it, before its bytes decided: after the first failure nothing is read.
+/// has come, and what was read after it is not looked at. `ReadFault` is answered exactly if the source failed in this call,
+/// or timed out for the 65th time in it, before its bytes decided: after the first failure nothing is read.
 pub fn read_status<S: Source>(alloc: Global, source: &mut S) -> Result<Load, StatusError>
     requires count { (S.input source.old).failures < 2 ^ 64 - 1 }
     ensures answers { (met : Met) × Meets (S.input source.old) met (S.input source.new) × AnswersStatus met result }
@@ -40,7 +40,7 @@ pub fn read_status<S: Source>(alloc: Global, source: &mut S) -> Result<Load, Sta
     Err(StatusError::Truncated)
 }
 
-/// As `read_status`, from no more than `limit` bytes. None where so many hold neither a fault nor the line feed of the period
+/// As `read_status`, from no more than `limit` bytes. None if so many hold neither a fault nor the line feed of the period
 /// line, and another byte comes.
 pub fn read_status_within<S: Source>(
     alloc: Global,
@@ -80,7 +80,7 @@ pub fn load_of(alloc: Global, text: &[u8]) -> Result<Load, StatusError>
     }
 }
 
-/// Reads a piece of no more than so many bytes, or of one where none are left: whether it comes tells a text that ends at a limit
+/// Reads a piece of no more than so many bytes, or of one if none are left: whether it comes tells a text that ends at a limit
 /// from a longer one.
 fn read_up_to<S: Source>(
     left: u64,

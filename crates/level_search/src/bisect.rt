@@ -16,7 +16,7 @@ use std::alloc::AllocError;
 /// What the bisection of levels gives.
 #[derive(Drop)]
 pub enum Found<'a> {
-    /// The tables serve the level. Where it is above 0, the functions are short one level below.
+    /// The tables serve the level. If it is above 0, the functions are short one level below.
     Level(u64, &'a [FuncId]),
     /// The functions are short at the top level.
     Nothing(&'a [FuncId]),

@@ -1,4 +1,4 @@
-//! The plan of the round before, kept where it still serves.
+//! The plan of the round before, kept if it still serves.
 
 ghost use Rattle.std.specs.Prelude.{◌≡◌, ℕ, ◌≤◌, ◌<◌, ◌↔◌, IsTrue, length, slice_index, IfOk};
 ghost use Rattle.round_arena.specs.Plan.{IsCounted};
@@ -65,7 +65,7 @@ fn serves(seed: &Seed, input: &Input, found: &Found) -> bool
     }
 }
 
-/// Puts the workers back on what they did before, where that serves the level that was found: a search that
+/// Puts the workers back on what they did before, if that serves the level that was found: a search that
 /// got stuck may have moved them for nothing.
 pub fn put_back(tables: &mut Tables, seed: &Seed, input: &Input, found: &Found) -> Origin
     requires sound { IsConsistent (length input.now.least) tables.old }

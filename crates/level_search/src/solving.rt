@@ -45,7 +45,7 @@ fn copy_set(alloc: Global, functions: &[FuncId]) -> Result<FuncSet, AllocError>
     Ok(FuncSet::of_rising(Vec::from_slice(alloc, functions)?))
 }
 
-// The set that stands beside a backlog: none beside 0.
+// The set beside a backlog: none beside 0.
 fn copy_evidence(
     alloc: Global,
     level: u64,
@@ -93,7 +93,7 @@ fn answer<'a>(
     requires looks { tables.old.looks + 2 * pair_total tables.old.pairs < 2 ^ 64 }
     ensures shown { IfOk result (Shown input.now) }
 
-    // Where nobody is idle for nothing, and the tables hold the plan before, the answer's plan is theirs.
+    // If nobody is idle for nothing, and the tables hold the plan before, the answer's plan is theirs.
     ensures kept { IfOk result (λ answer. origin ≡ Previous → Serves input.now tables.old.owner.now found.entry
         → IsTrue (is_full input.now (assigned (plan_of tables.old))) → HasPlan (plan_of tables.old) answer) }
     ensures looks { IfOk result (Fills found.entry (pair_total tables.old.pairs) tables.old.looks tables.new.looks) }
@@ -120,7 +120,7 @@ fn answer<'a>(
 /// the backlog is the least of all such plans, or says that there is no such plan.
 ///
 /// The answer is shown by a set of functions that is short of workers (Hall's theorem, with demands):
-/// one level below the backlog, or at the top level where there is no plan. A backlog of 0 needs no
+/// one level below the backlog, or at the top level if there is no plan. A backlog of 0 needs no
 /// set. The levels are bisected (bottleneck assignment by thresholds), and each is tried by searching
 /// alternating paths.
 ///

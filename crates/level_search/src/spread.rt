@@ -91,7 +91,7 @@ fn is_spare(input: &Input, tables: &Tables, level: u64, function: u32) -> bool
         && (count < tables.most[function as usize] || tables.count[input.functions()] == 0)
 }
 
-// Where the worker is spare, and some function that he may do has twice the waiting jobs for each worker, he goes there.
+// If the worker is spare, and some function that he may do has twice the waiting jobs for each worker, he goes there.
 fn move_worker(tables: &mut Tables, input: &Input, level: u64, w: usize)
     requires settled { IsSettled input.now level tables.old }
     requires instance { IsInstance input.now }
@@ -117,7 +117,7 @@ fn move_worker(tables: &mut Tables, input: &Input, level: u64, w: usize)
 }
 
 /// Moves workers whom no need holds at the level to the function that they may do, below its greatest number, with the most waiting
-/// jobs for each worker, where that has at least twice as many as the one they leave.
+/// jobs for each worker, if that has at least twice as many as the one they leave.
 ///
 /// One worker after the other, by rising slot. It looks at each permitted pair at most once. The tables still serve the level, and
 /// still leave nobody idle for nothing.
@@ -135,7 +135,7 @@ pub fn spread(tables: &mut Tables, input: &Input, level: u64)
     }
 }
 
-/// Gives idle workers something to do. Where that moves nobody from the plan before, it stays as it is; else spare workers are sent where
+/// Gives idle workers something to do. If that moves nobody from the plan before, it stays as it is; else spare workers are sent where
 /// they help.
 ///
 /// At the top level nobody is moved: there some function with the greatest number of waiting jobs has no worker at all.

@@ -21,16 +21,16 @@ use std::fmt::Write;
 /// What a report is found to be.
 #[derive(Clone, Copy, Debug, PartialEq, Eq)]
 pub enum Verdict {
-    /// It tells an answer that is shown, and is the report of that answer.
+    /// It gives an answer that is shown, and is the report of that answer.
     Shown,
-    /// It tells an answer that is shown, and is not the report of that answer.
+    /// It gives an answer that is shown, and is not the report of that answer.
     OtherText,
-    /// It tells an answer that is not shown. This is the first reason why not.
+    /// It gives an answer that is not shown. This is the first reason why not.
     NotShown(Reason),
 }
 
 impl Verdict {
-    /// The exit status: 0 where the report is shown, else 1.
+    /// The exit status: 0 if the report is shown, else 1.
     pub fn status(self) -> u8
         ensures { result ≡ spec.verdict_status self }
     {
@@ -73,7 +73,7 @@ fn judge(alloc: Global, problem: &Problem, given_text: &[u8]) -> Result<Verdict,
     }
 }
 
-/// The line that tells a verdict.
+/// The line of a verdict.
 fn verdict_line(alloc: Global, verdict: Verdict) -> Result<String, AllocError>
     ensures { IfOk result (λ line. string_bytes line ≡ spec.verdict_line verdict) }
 {
@@ -89,7 +89,7 @@ fn verdict_line(alloc: Global, verdict: Verdict) -> Result<String, AllocError>
     Ok(line)
 }
 
-/// Writes the line that tells a verdict.
+/// Writes the line of a verdict.
 fn pronounce<S: Sink>(alloc: Global, verdict: Verdict, sink: &mut S) -> Exit
     requires { (S.output sink.old).failures < 2 ^ 64 - 1 }
     ensures { spec.Pronounces verdict (S.output sink.old) (S.output sink.new) result }
@@ -119,15 +119,15 @@ fn examine<R: Source>(
 }
 
 /// Says whether the report that the source gives is shown, by the settings, the lost workers and the
-/// status text alone: writes `shown` where it tells an answer that is shown and is the report of that
-/// answer, `not shown 7 Text` where only the latter fails, and else `not shown` with the number and
+/// status text alone: writes `shown` if it gives an answer that is shown and is the report of that
+/// answer, `not shown 7 Text` if only the latter fails, and else `not shown` with the number and
 /// the name of the first reason why the answer is not shown. The exit status is 0 with `shown` and 1
 /// without.
 ///
 /// Faults are looked for in the settings, then in the names of the lost workers, in the status text, in
-/// the source, which gives at most 16,777,216 bytes, and in the report. The source is read only where the
-/// first three are right, and up to its end; where it failed or lulled for the 65th time the fault is
-/// `ReadFault`. After a `WriteFault`, which comes only where the sink failed, a front of the line was
+/// the source, which gives at most 16,777,216 bytes, and in the report. The source is read only if the
+/// first three are right, and up to its end; if it failed or timed out for the 65th time the fault is
+/// `ReadFault`. After a `WriteFault`, which comes only if the sink failed, a prefix of the line was
 /// written and not all of it, and after any other fault nothing.
 pub fn check_text<R: Source, S: Sink>(
     alloc: Global,

@@ -10,7 +10,7 @@ use byte_io::{Sink, give_all};
 /// How a command ended: its exit status, and the fault that kept it from an answer, if one did.
 #[derive(Debug, PartialEq, Eq, Drop)]
 pub struct Exit {
-    /// 0 where it is done, 1 where there is no plan or the report is not shown, 3 and 4 with a fault. The
+    /// 0 if it is done, 1 if there is no plan or the report is not shown, 3 and 4 with a fault. The
     /// command line alone ends with 2.
     pub status: u8,
     pub fault: Option<Fault>,
@@ -38,7 +38,7 @@ impl Exit {
     }
 }
 
-/// Writes the text, and ends the command as it would, or by `WriteFault` where a write fails.
+/// Writes the text, and ends the command as it would, or by `WriteFault` if a write fails.
 pub fn deliver<S: Sink>(sink: &mut S, text: &[u8], done: Exit) -> Exit
     requires count { (S.output sink.old).failures < 2 ^ 64 - 1 }
     ensures delivers { Delivers text.now done (S.output sink.old) (S.output sink.new) result }

@@ -60,7 +60,7 @@ impl Fault {
         }
     }
 
-    /// The exit status of a command that ends with this fault: 3 where input is refused, and 4 where
+    /// The exit status of a command that ends with this fault: 3 if input is refused, and 4 if
     /// memory or a device failed.
     pub fn status(&self) -> u8
         ensures { result ≡ spec.status_of self.now }

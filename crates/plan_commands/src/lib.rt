@@ -1,5 +1,5 @@
 //! The commands `plan` and `check` as calls over texts and devices, and what each command of the program ends with: an exit
-//! status, and a fault where it was not answered.
+//! status, and a fault if it was not answered.
 #![tactic(auto)]
 
 mod check;

@@ -52,15 +52,15 @@ fn report<S: Sink>(alloc: Global, problem: &Problem, sink: &mut S) -> Exit
 
 /// Plans for these settings, with all workers live but the lost ones, and for the status text that the
 /// source gives, and writes the report of the answer to the sink. The exit status is 0 with a plan and
-/// 1 where there is none.
+/// 1 if there is none.
 ///
 /// Faults are looked for in the settings, then in the names of the lost workers, and then in the
-/// status text. The source is read only where the first two are right, and no further than the piece
+/// status text. The source is read only if the first two are right, and no further than the piece
 /// with its period line or its first fault; of a text that is too long, one byte above 16,777,216
-/// bytes is taken. Where the source failed or lulled for the 65th time the fault is `ReadFault`.
+/// bytes is taken. If the source failed or timed out for the 65th time the fault is `ReadFault`.
 ///
 /// The report is made whole before its first byte goes out: after a `WriteFault`, which comes only
-/// where the sink failed, a front of it was written and not all of it, and after any other fault nothing.
+/// if the sink failed, a prefix of it was written and not all of it, and after any other fault nothing.
 pub fn plan_text<R: Source, S: Sink>(
     alloc: Global,
     settings_text: &[u8],

@@ -66,7 +66,7 @@ fn input_of(
 }
 
 /// The problem that the settings, the lost workers and the status text of the source pose. Faults are
-/// looked for in this order, and the source is read only where the first two are right.
+/// looked for in this order, and the source is read only if the first two are right.
 pub fn pose<S: Source>(
     alloc: Global,
     settings_text: &[u8],

@@ -8,7 +8,7 @@ use pool_settings::{Settings, SettingsFault, SettingsFile};
 use std::alloc::Global;
 
 impl Fault {
-    /// The fault of a settings file that is not taken, with its place; or `Memory`, where there is none for the names of the place.
+    /// The fault of a settings file that is not taken, with its place; or `Memory`, if there is none for the names of the place.
     pub fn of_settings(alloc: Global, fault: &SettingsFault<'_>) -> Fault
         ensures { spec.Keeps fault.now result }
     {

@@ -20,8 +20,8 @@ use plan_model::{
 
 /// Whether the size is shown, which anybody can test without a search. Else the first [`Flaw`] that is true of it.
 ///
-/// An addition is shown where the grown farm is within 4,096 workers, its plan gives workers only permitted functions, each function what
-/// it needs and none more than its greatest number, and where a set of functions needs just so many workers more than may do any of them
+/// An addition is shown if the grown farm is within 4,096 workers, its plan gives workers only permitted functions, each function what
+/// it needs and none more than its greatest number, and if a set of functions needs just so many workers more than may do any of them
 /// now. Each added worker meets at most one of these needs, so no smaller addition serves: this is the counting half of Hall's theorem. It
 /// takes no memory.
 pub fn check_size(farm: &Farm, size: &Size) -> Result<(), Flaw>

@@ -17,7 +17,7 @@ pub fn workers(farm: &Farm, added: &[MachineId]) -> u32
     farm.input().workers() + added.len() as u32
 }
 
-/// The worker at a place of the grown farm, the added ones behind the live ones, as slot and machine.
+/// The worker at a place of the grown farm, the added ones after the live ones, as slot and machine.
 pub fn worker_at(farm: &Farm, added: &[MachineId], place: u32) -> (SlotId, MachineId)
     requires few { farm.now.slots + length added.now ≤ 4096 }
     requires place { place < length (grown farm.now added.now).live }

@@ -83,7 +83,7 @@ impl Farm {
         self.level
     }
 
-    /// The need of a function: the fewest workers that meet its least number and bring all that waits for it to the level, also where
+    /// The need of a function: the fewest workers that meet its least number and bring all that waits for it to the level, even if
     /// no live worker may do it. It does not depend on an addition. The condition is a function of the farm.
     pub fn need(&self, function: FuncId) -> u32
         requires { function < length self.now.problem.least }
@@ -96,7 +96,7 @@ impl Farm {
     }
 }
 
-/// How many workers the waiting jobs want at the level.
+/// How many workers the waiting jobs need at the level.
 fn wanted(level: Option<u32>, waiting: u32) -> u32
     requires { IfSome level (λ level. 0 < level) }
     ensures { result ≡ meant.wanted level waiting }

@@ -10,8 +10,8 @@ use std::alloc::{AllocError, Global};
 /// An added worker, by its machine and its function.
 pub type Hire = (MachineId, FuncId);
 
-/// The workers that are added where each function lacks so many, those of lower machines first. Each is of a machine that may do its
-/// function, and of those of one that may do the most of the functions that lack workers. The only error is want of memory.
+/// The workers that are added if each function lacks so many, those of lower machines first. Each is of a machine that may do its
+/// function, and of those of one that may do the most of the functions that lack workers. The only error is out of memory.
 pub fn hires_of(alloc: Global, input: &Input, lacks: &[u32]) -> Result<Vec<Hire>, AllocError>
     requires few { length lacks.now ≤ 1024 }
     requires known { AreKnown input.now lacks.now }

@@ -6,8 +6,8 @@ ghost use Rattle.plan_sizing.specs.Sizing.{NeedsAreFewest};
 use crate::farm::Farm;
 use crate::size::Size;
 
-/// The law of the checker: an addition that is shown has a plan that serves, and no smaller one has; where the size says that no addition
-/// serves, none does, and where it says that too many workers have to be added, each addition that serves has so many at least. It does
+/// The law of the checker: an addition that is shown has a plan that serves, and no smaller one has; if the size says that no addition
+/// serves, none does, and if it says that too many workers have to be added, each addition that serves has so many at least. It does
 /// nothing when it runs.
 pub fn shown_is_right(farm: &Farm, size: &Size)
     requires { Shown farm.now size.now }

@@ -8,7 +8,7 @@ use crate::size::Obstacle;
 use plan_model::{FuncId, Input, MachineId};
 
 /// What the lowest function shows that shows that no addition serves: it needs more workers than its greatest number, or else it needs
-/// workers and no machine may do it. None where no function shows it: then some addition serves, if not within 4,096 workers.
+/// workers and no machine may do it. None if no function shows it: then some addition serves, if not within 4,096 workers.
 pub fn first_obstacle(farm: &Farm) -> Option<Obstacle>
     ensures { result ≡ first_obstacle farm.now }
 {

@@ -87,7 +87,7 @@ fn size_by(alloc: Global, farm: &Farm, left: Left) -> Result<Size, AllocError>
     Ok(Size::Enough { added, plan, short })
 }
 
-/// The set that stands beside an addition of so many: none beside one of nobody.
+/// The set beside an addition of so many: none beside one of nobody.
 fn evidence(many: u64, short: FuncSet) -> Option<FuncSet>
     ensures { result ≡ evidence many short }
 {
@@ -128,7 +128,7 @@ fn total(lacks: &[u32]) -> u64
     total
 }
 
-/// The plan with the added workers behind it.
+/// The plan with the added workers after it.
 fn grow_plan(alloc: Global, farm: &Farm, plan: &Plan, hires: &[Hire]) -> Result<Plan, AllocError>
     requires slots { All (λ entry. entry.0 < farm.now.slots) plan.now }
     requires few { farm.now.slots + length hires.now ≤ 4096 }

@@ -15,7 +15,7 @@ pub struct MachineOrder;
 
 /// Workers that are added to a farm, each given by its machine, those of lower machines first. Contracts see the list of machines.
 ///
-/// The first of them has the slot behind the farm's last worker, which is [`Farm::slots`](crate::Farm::slots), and each other the next
+/// The first of them has the slot after the farm's last worker, which is [`Farm::slots`](crate::Farm::slots), and each other the next
 /// one. The workers of one machine lie side by side, so the first of them is the next worker of its machine.
 #[derive(Debug, Drop)]
 pub struct Addition {
@@ -113,7 +113,7 @@ pub enum Size {
         /// A plan of the farm that has grown: which worker serves which function, the added ones by their new slots. Workers that it does
         /// not list have no function.
         plan: Plan,
-        /// Functions whose needs are so many more than the workers that may do any of them; none where nobody is added.
+        /// Functions whose needs are so many more than the workers that may do any of them; none if nobody is added.
         short: Option<FuncSet>,
     },
     /// No addition serves, as this function shows, the lowest that shows it.
@@ -143,7 +143,7 @@ pub enum Flaw {
     /// A function has more workers than its greatest number.
     #[error("a function has more workers than its greatest number")]
     AboveMost,
-    /// The set is not short by just so many workers, holds a number that is no function, or stands beside an addition of nobody.
+    /// The set is not short by just so many workers, holds a number that is no function, or is beside an addition of nobody.
     #[error("the set is not short by just so many workers")]
     NotShort,
     /// Workers are added, and no set shows that fewer will not do.

@@ -1,4 +1,4 @@
-//! What the lines of a report have told so far.
+//! What the lines of a report have said so far.
 
 ghost use Rattle.std.specs.Prelude.{◌≡◌, ◌≢◌, [], OnOk, IfErr, IfOk, Ok, Err, Some, false, nat_lt, ◌<◌};
 ghost use Rattle.pool_report.specs.Reading as spec;
@@ -12,7 +12,7 @@ use pool_settings::Settings;
 use std::alloc::Global;
 use std::marker::Model;
 
-/// What the lines of a report have told so far.
+/// What the lines of a report have said so far.
 #[derive(Drop)]
 pub struct Draft {
     stage: Stage,
@@ -261,7 +261,7 @@ impl Draft {
         }
     }
 
-    /// The answer that was told.
+    /// The answer that was given.
     pub fn into_answer(self) -> Answer
         ensures { result ≡ spec.answer_of self }
     {

@@ -10,8 +10,8 @@ use thiserror::Error;
 /// faulty line decides.
 #[derive(Clone, Copy, Debug, PartialEq, Eq, Error)]
 pub enum ReadError {
-    /// This line has not the shape of a line of a report, stands out of its place or order, or stands
-    /// behind `end`. A machine or function of a name that no settings can have, as one of 65 bytes, is a wrong
+    /// This line has not the shape of a line of a report, is out of its place or order, or comes
+    /// after `end`. A machine or function of a name that no settings can have, as one of 65 bytes, is a wrong
     /// shape; a worker or function that is not above the one before it is out of order.
     #[error("line {0} is no line of a report, or out of its place")]
     BadLine(u64),
@@ -43,7 +43,7 @@ impl Labelled for ReadError {
 }
 
 impl ReadError {
-    /// The line that is refused, counted from 1, where it is one line.
+    /// The line that is refused, counted from 1, if it is one line.
     pub fn line(self) -> Option<u64>
         ensures { result ≡ spec.report_line_of self }
     {
@@ -57,7 +57,7 @@ impl ReadError {
 /// Why a report is not written, or not whole.
 #[derive(Clone, Copy, Debug, PartialEq, Eq, Error)]
 pub enum WriteError {
-    /// The sink failed when so many bytes of the report had gone out, and those are a front of it, not all of it.
+    /// The sink failed when so many bytes of the report had gone out, and those are a prefix of it, not all of it.
     #[error("the sink failed after {0} bytes")]
     WriteFault(usize),
     /// Memory for the report was refused, and nothing of it has gone out.

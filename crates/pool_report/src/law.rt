@@ -11,13 +11,13 @@ use plan_model::{Answer, Input};
 use pool_settings::Settings;
 
 /// The law of the lines, which does nothing when it runs: each line that a report may have is read as what it
-/// tells.
+/// says.
 pub fn lines_read_back()
     ensures { AreLinesRead }
 {}
 
-/// The law of the spelling, which does nothing when it runs: a line tells something only where it is spelled as that
-/// is, by its words, its names and its numbers without zeros in front. [`lines_read_back`] is the other way round.
+/// The law of writing, which does nothing when it runs: a line says something only if it is written as that
+/// is, by its words, its names and its numbers without leading zeros. [`lines_read_back`] is the other way round.
 pub fn lines_are_spelled()
     ensures { AreLinesSpelled }
 {}
@@ -30,7 +30,7 @@ pub fn names_read_back(settings: &Settings)
     settings.facts();
 }
 
-/// The law of the whole text, which does nothing that is seen: a text means an answer exactly where it is a report that tells it,
+/// The law of the whole text, which does nothing that is seen: a text means an answer exactly if it is a report of it,
 /// line by line, by the names of the settings and in rising order.
 pub fn texts_are_reports(settings: &Settings)
     ensures { AreTextsReports settings.now }

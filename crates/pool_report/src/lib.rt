@@ -1,8 +1,8 @@
-//! A report: the text that tells an answer with its evidence, and the reading of such a text.
+//! A report: the text that gives an answer with its evidence, and the reading of such a text.
 //!
 //! [`write`] gives the report of an answer that is shown to a [`Sink`](byte_io::Sink), and [`report_text`]
 //! makes its text. [`read`] takes exactly the texts of this shape whose workers and functions the settings
-//! have, and gives the answer that they tell, for [`check`](plan_model::check) to hold against its input. So
+//! have, and gives the answer that they state, for [`check`](plan_model::check) to hold against its input. So
 //! a report is evidence that anybody can carry and anybody can test.
 //!
 //! ```text
@@ -17,10 +17,10 @@
 //! ```
 //!
 //! Each line ends with a line feed, its words are separated by one space, and its numbers are decimal without
-//! leading zeros. The lines stand in this order:
+//! leading zeros. The lines are in this order:
 //!
 //! 1. `report 1`.
-//! 2. `backlog K` for a backlog below 2^32, `unserved W` for the backlog 2^32 + W, where W is at least 1, or
+//! 2. `backlog K` for a backlog below 2^32, `unserved W` for the backlog 2^32 + W, with W at least 1, or
 //!    `noplan`.
 //! 3. With a plan, for each live worker in the order of slots `work MACHINE/NUMBER FUNCTION`, or `idle
 //!    MACHINE/NUMBER` for a worker without a function.

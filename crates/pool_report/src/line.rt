@@ -8,7 +8,7 @@ use plan_model::UNSERVED;
 use pool_settings::{is_machine_name, is_name};
 use text_pieces::{cut_last, is_plain, plain_number_u32, plain_number_u64};
 
-/// What a line tells, less the numbers that an answer does not hold. Names are those that some settings could have.
+/// What a line says, less the numbers that an answer does not hold. Names are those that some settings could have.
 #[derive(Clone, Copy)]
 pub enum Line<'t> {
     /// `report 1`.
@@ -29,7 +29,7 @@ pub enum Line<'t> {
     Last,
 }
 
-/// What stands behind a word at the start of a line.
+/// What comes after a word at the start of a line.
 pub fn after_word<'t>(word: &[u8], line: &'t [u8]) -> Option<&'t [u8]>
     ensures { option_map (λ t. t.now) result ≡ spec.after_word word.now line.now }
 {
@@ -157,7 +157,7 @@ fn keyed(line: &[u8]) -> Option<Line<'_>>
     None
 }
 
-/// What a line tells, if it has the shape of one.
+/// What a line says, if it has the shape of one.
 pub fn read_line(line: &[u8]) -> Option<Line<'_>>
     ensures { option_map line_view result ≡ spec.line_of line.now }
 {

@@ -1,4 +1,4 @@
-//! The answer that a report's text tells.
+//! The answer that a report's text gives.
 
 ghost use Rattle.std.specs.Prelude.{◌≡◌, ◌≢◌, ◌∷◌, ◌+◌, ◌<◌, [], IfOk, IfErr, MatchOption, Ok, Err, length};
 ghost use Rattle.std.specs.List.{slice_split};
@@ -13,7 +13,7 @@ use pool_settings::Settings;
 use std::alloc::Global;
 use text_pieces::cut_first;
 
-/// The text before and behind the first line feed.
+/// The text before and after the first line feed.
 pub fn cut_line(text: &[u8]) -> Option<(&[u8], &[u8])>
     ensures { MatchOption result (slice_split is_line_feed text.now ≡ text.now ∷ [])
         (λ p. (slice_split is_line_feed text.now ≡ p.0.now ∷ slice_split is_line_feed p.1.now)
@@ -22,7 +22,7 @@ pub fn cut_line(text: &[u8]) -> Option<(&[u8], &[u8])>
     cut_first(b'\n', text)
 }
 
-/// The answer that a report's text tells, under these settings.
+/// The answer that a report's text gives, under these settings.
 ///
 /// Taken is exactly a text of a report's shape, as [the crate's page](crate) gives it, whose workers and
 /// functions the settings have, in rising order: a plan with any backlog, or none, and with or without a set
@@ -30,10 +30,10 @@ pub fn cut_line(text: &[u8]) -> Option<(&[u8], &[u8])>
 /// are below 2^64, the others below 2^32, and a worker's number has any length.
 ///
 /// An answer holds neither what a set needs and has nor the stranded functions, so the reading drops them, and
-/// says nothing of whether the answer is right: that is what [`check`](plan_model::check) tells. A text that is
-/// read and is not its answer's very report can be told by [`report_text`](crate::report_text).
+/// says nothing of whether the answer is right: that is what [`check`](plan_model::check) says. A text that is
+/// read and is not its answer's very report can be recognised by [`report_text`](crate::report_text).
 ///
-/// The first faulty line decides. `BadLine` and `UnknownName` give its number, `BadLine` where both are true of
+/// The first faulty line decides. `BadLine` and `UnknownName` give its number, `BadLine` if both are true of
 /// it; `Truncated` is a text whose lines are all right and of which the end is missing. What is kept of a text
 /// is bounded by the settings, at most 4,096 workers and 1,024 functions, however long the text is.
 pub fn read(alloc: Global, settings: &Settings, text: &[u8]) -> Result<Answer, ReadError>

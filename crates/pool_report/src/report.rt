@@ -204,7 +204,7 @@ pub fn report_text(
 /// [`report_text`], byte by byte.
 ///
 /// The text is made whole before its first byte goes out. After `WriteFault` so many bytes of it have
-/// gone out, which are its front and never all of it, and after `Memory` none. A sink that fails is not tried
+/// gone out, which are a prefix and never all of it, and after `Memory` none. A sink that fails is not tried
 /// again.
 pub fn write<S: Sink>(
     alloc: Global,

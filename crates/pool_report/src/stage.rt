@@ -17,7 +17,7 @@ pub enum Stage {
 /// Why a line is not taken.
 #[derive(Clone, Copy, Debug, PartialEq, Eq)]
 pub enum Misread {
-    /// It has not the shape of a line, or stands out of its place or order.
+    /// It has not the shape of a line, or is out of its place or order.
     Bad,
     /// It is in its place, and its worker, machine or function is none of the settings.
     Unknown,

@@ -24,7 +24,7 @@ pub enum SettingsError {
     /// A function or a machine has a name that is not 1 to 64 bytes from `!` to `~`, or a machine's holds `/` or `#`.
     #[error("a function or a machine has a bad name")]
     BadName,
-    /// A value has another type than its key wants, or is out of range.
+    /// A value has another type than its key needs, or is out of range.
     #[error("a value has the wrong type or is out of range")]
     BadValue,
     /// A machine lists a function that `functions` does not have.

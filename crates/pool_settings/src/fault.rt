@@ -42,7 +42,7 @@ impl From<AllocError> for SettingsFault<'_> {
     }
 }
 
-/// The fault of a text that is no TOML from behind these bytes on.
+/// The fault of a text that is no TOML after these bytes.
 pub fn text_fault<'f>(before: &[u8]) -> SettingsFault<'f>
     ensures { spec.fault_of result ≡ Some (spec.text_fault before.now) }
 {
@@ -79,7 +79,7 @@ fn begins_character(byte: u8) -> bool
     byte < 0x80 || byte >= 0xC0
 }
 
-/// What stands behind the last line feed.
+/// What comes after the last line feed.
 fn last_line(text: &[u8]) -> &[u8]
     ensures { result.now ≡ spec.last_line text.now }
 {

@@ -23,7 +23,7 @@ pub struct SettingsFile {
 
 impl SettingsFile {
     /// Reads the text of a settings file, whether its settings are good or not. The errors are `Text`, with its place, and `Memory`. A
-    /// text that is not UTF-8 is at fault behind its last character.
+    /// text that is not UTF-8 is at fault after its last character.
     pub fn read(alloc: Global, text: &[u8]) -> Result<SettingsFile, SettingsFault<'_>>
         ensures ok { IfOk result (λ file. spec.tree_of text.now ≡ Some (table_view file.tree)) }
         ensures refused { IfErr result (RefusesText text.now) }
@@ -41,7 +41,7 @@ impl SettingsFile {
     }
 
     /// What the file means, or its first fault. The place is the first in the order of `SettingsError`: the top table before `functions`,
-    /// and that before `machines`, keys and names in byte order. `Memory` comes only where the file has no fault.
+    /// and that before `machines`, keys and names in byte order. `Memory` comes only if the file has no fault.
     pub fn settings(&self, alloc: Global) -> Result<Settings, SettingsFault<'_>>
         ensures ok { IfOk result (λ settings. spec.read_tree (table_view self.now.tree) ≡ Ok settings) }
         ensures refused { IfErr result (RefusesTree (table_view self.now.tree)) }
@@ -51,7 +51,7 @@ impl SettingsFile {
         Ok(settings)
     }
 
-    /// The version of the file, where it is 1 or 2.
+    /// The version of the file, if it is 1 or 2.
     pub fn version(&self) -> Option<u32>
         ensures { result ≡ spec.version_in (table_view self.now.tree) }
     {

@@ -11,7 +11,7 @@ use crate::place::Place;
 use crate::tree::{number_between, text_between, value_at};
 use toml::Table;
 
-/// The number from `low` to `high` at a key, or the default where the key is not there. None where its value is anything else.
+/// The number from `low` to `high` at a key, or the default if the key is not there. None if its value is anything else.
 fn number_or(tree: &Table, key: &str, low: u32, high: u32, default: u32) -> Option<u32>
     ensures { result ≡ spec.number_or key.now low high default (table_view tree.now) }
 {

@@ -65,7 +65,7 @@ impl Names {
         }
     }
 
-    /// The name at a number, and the empty text behind the last.
+    /// The name at a number, and the empty text after the last.
     pub fn at(&self, number: u32) -> &str
         ensures { result.now ≡ name_at self.now number }
     {

@@ -110,7 +110,7 @@ impl Settings {
     /// A name has 1 to 64 bytes from `!` to `~`, and a machine's holds no `/` and no `#`. A function that a machine lists twice is
     /// permitted once. The file is checked in the order of `SettingsError`, each check over the whole file before the next, and the
     /// first that fails is answered; `SettingsError` says what each is. What should be a table and is not has no keys and lacks
-    /// none: it is `BadValue`. `Memory` comes only where a growth was refused, and may come in the place of a later refusal; a file
+    /// none: it is `BadValue`. `Memory` comes only if a growth was refused, and may come in the place of a later refusal; a file
     /// with nothing but white space and comments is `Version`, whatever memory there is.
     pub fn read(alloc: Global, settings_text: &[u8]) -> Result<Settings, SettingsError>
         ensures ok { IfOk result (λ settings. spec.reading settings_text.now ≡ Ok settings) }
@@ -127,7 +127,7 @@ impl Settings {
         }
     }
 
-    /// Equal settings. The only error is want of memory.
+    /// Equal settings. The only error is out of memory.
     pub fn copy(&self, alloc: Global) -> Result<Settings, AllocError>
         ensures equal { IfOk result (λ s. s ≡ self.now) }
     {
@@ -184,7 +184,7 @@ impl Settings {
         self.round_ms
     }
 
-    /// How long a read waits before it counts as a lull, in milliseconds: from 1 to 3,600,000.
+    /// How long a read waits before it counts as a timeout, in milliseconds: from 1 to 3,600,000.
     pub fn lull_ms(&self) -> u32
         ensures all { result ≡ self.now.lull_ms }
         ensures some { 1 ≤ result }
@@ -232,7 +232,7 @@ impl Settings {
         Some(FuncId::new(place))
     }
 
-    /// The name of a function, and the empty text behind the last function.
+    /// The name of a function, and the empty text after the last function.
     pub fn function_name(&self, function: FuncId) -> &str
         ensures name { result.now ≡ names.name_at self.now.functions function }
     {
@@ -248,7 +248,7 @@ impl Settings {
         Some(MachineId::new(place))
     }
 
-    /// The name of a machine, and the empty text behind the last machine.
+    /// The name of a machine, and the empty text after the last machine.
     pub fn machine_name(&self, machine: MachineId) -> &str
         ensures name { result.now ≡ names.name_at self.now.machines machine }
     {
@@ -264,7 +264,7 @@ impl Settings {
         self.least[function.number() as usize]
     }
 
-    /// The greatest number of workers that a function may have, at most 4,096: the number of all workers where the file gives
+    /// The greatest number of workers that a function may have, at most 4,096: the number of all workers if the file gives
     /// none. It may be below the least number; then there is no plan.
     pub fn most(&self, function: FuncId) -> u32
         requires { function < length self.now.functions }
@@ -366,7 +366,7 @@ impl Settings {
     }
 
     /// The text that names a slot's worker in one of its lives: its name, a hash sign and the generation in decimal, as `a/0#1`. The
-    /// only error is want of memory.
+    /// only error is out of memory.
     pub fn worker_text(
         &self,
         alloc: Global,
@@ -412,7 +412,7 @@ impl Settings {
 
 /// What there is to plan for.
 impl Settings {
-    /// The jobs that wait for each function, by its number. The only error is want of memory.
+    /// The jobs that wait for each function, by its number. The only error is out of memory.
     pub fn waiting_jobs(&self, alloc: Global, load: &Load) -> Result<Vec<u32>, AllocError>
         ensures waiting { IfOk result (λ waiting. waiting.items ≡ waiting_of self.now load.now) }
     {
@@ -424,9 +424,9 @@ impl Settings {
         Ok(waiting)
     }
 
-    /// The planning problem where the slots that are marked are live, and these jobs wait for each function, by its number. A slot
-    /// without a mark, behind the last of `live`, is not live, and a mark behind the last slot counts for nothing. The only error
-    /// is want of memory.
+    /// The planning problem if the slots that are marked are live, and these jobs wait for each function, by its number. A slot
+    /// without a mark, after the last of `live`, is not live, and a mark after the last slot counts for nothing. The only error
+    /// is out of memory.
     pub fn input(&self, alloc: Global, live: &[bool], waiting: &[u32]) -> Result<Input, AllocError>
         requires { length waiting.now ≡ length self.now.functions }
         ensures problem { IfOk result (λ input. input ≡ instance_of self.now live.now waiting.now) }

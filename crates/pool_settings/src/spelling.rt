@@ -1,4 +1,4 @@
-//! How the names of functions and machines are spelled.
+//! How the names of functions and machines are written.
 
 ghost use Rattle.std.specs.Prelude.{◌≡◌};
 ghost use Rattle.std.specs.List.{list_all};

@@ -18,7 +18,7 @@ use size_command::{Asked, check_size_text, size_of_texts};
 use std::alloc::Global;
 
 /// Carries out a command: reads its files, and then does what `plan_text`, `check_text`, `size_of_texts`, `check_size_text`,
-/// `run_commands`, `settings_text` or `run_rounds` says of them. A file that cannot be read is told before any fault of a text, and
+/// `run_commands`, `settings_text` or `run_rounds` says of them. A file that cannot be read is reported before any fault of a text, and
 /// nothing is taken from the source or written then. `settings` and a run take nothing from the source.
 pub fn carry_out<F: Folder, H: Host, R: Source, S: Sink>(
     lent: Lent<'_, F, H>,

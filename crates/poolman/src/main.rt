@@ -22,7 +22,7 @@ fn words(rt: &HostRuntime) -> io::Result<Vec<String>> {
     Ok(words)
 }
 
-/// Who reads standard error: a person where it is a terminal, which the system's table of open files tells by its name.
+/// Who reads standard error: a person if it is a terminal, which the system's table of open files shows by its name.
 fn reader_of(rt: &HostRuntime) -> Reader {
     match fs::read_link(rt, "/proc/self/fd/2") {
         Ok(path) if is_terminal(path.as_str()) => Reader::Person,

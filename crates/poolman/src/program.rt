@@ -23,11 +23,11 @@ use std::io::ErrorKind;
 const USAGE: u8 = 2;
 
 /// The program: carries out the command that the words ask for, on the files that they name, from the input to the
-/// output, and prints on error output its fault, in a line that begins with `poolman: `, and below it what the fault is about where a
-/// person reads error output. Gives the exit status: 0 where
-/// the command is done; 1 where there is no plan, in a round of a run too, or the report is not shown; 2 where the words
-/// are no command's or ask for help, and then what `clap` says of them is on error output; 3 where input is refused, and
-/// 4 where memory or a device failed.
+/// output, and prints on error output its fault, in a line that begins with `poolman: `, and below it what the fault is about if a
+/// person reads error output. Gives the exit status: 0 if
+/// the command is done; 1 if there is no plan, in a round of a run too, or the report is not shown; 2 if the words
+/// are no command's or ask for help, and then what `clap` says of them is on error output; 3 if input is refused, and
+/// 4 if memory or a device failed.
 ///
 /// The first word is the program's name. Words that are no text in UTF-8 are no command's. A run is on the host; this
 /// contract says nothing of what the host does with progress reports.

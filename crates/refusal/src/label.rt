@@ -42,7 +42,7 @@ impl Label {
     }
 }
 
-/// What has a label: an enum whose variants stand in lines of output.
+/// What has a label: an enum whose variants are in lines of output.
 pub trait Labelled {
     /// The label of a value.
     ghost label: { Self → Label };

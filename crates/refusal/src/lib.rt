@@ -1,4 +1,4 @@
-//! How a refusal is told: the number of its place among those of its call, and its name.
+//! How a refusal is reported: the number of its place among those of its call, and its name.
 //!
 //! Each enum of refusals implements [`Labelled`]. Its label is defined in `specs/` of its crate, and the code answers it:
 //!

@@ -1,4 +1,4 @@
-//! An enum of refusals, told through its bound.
+//! An enum of refusals, reported through its bound.
 ghost use Rattle.std.specs.Prelude.{◌≡◌};
 ghost use Rattle.refusal.specs.Label.{Label};
 

@@ -7,7 +7,7 @@ use crate::tables::Tables;
 use plan_model::{FuncId, Plan, SlotId};
 use std::alloc::{AllocError, Global};
 
-// The function of a worker, none where it is idle.
+// The function of a worker, none if it is idle.
 fn function_at(functions: usize, owner: u32) -> Option<FuncId>
     ensures { result ≡ function_at functions owner }
 {
@@ -35,7 +35,7 @@ fn copy_entries(
 }
 
 /// Copies the tables' plan out of the arena: it lists each worker of the round by its slot, with its
-/// function or none. The only error is want of memory.
+/// function or none. The only error is out of memory.
 pub fn copy_plan(alloc: Global, tables: &Tables) -> Result<Plan, AllocError>
     requires sound { IsConsistent (length tables.now.order.now) tables.now }
     ensures { IfOk result (λ plan. plan ≡ plan_of tables.now) }

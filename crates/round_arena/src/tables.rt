@@ -7,7 +7,7 @@ use plan_model::{MachineId, SlotId};
 /// `items[first[g]..first[g + 1]]`.
 #[derive(Clone, Copy)]
 pub struct Groups<'p> {
-    /// For each group the place of its first number, and last the place behind the last group.
+    /// For each group the place of its first number, and last the place after the last group.
     pub first: &'p [usize],
     /// The numbers of one group after the other.
     pub items: &'p [u32],
@@ -44,7 +44,7 @@ pub struct Tables<'a> {
     /// All functions, in the order in which the search serves them: those that the fewest workers may
     /// do first. No contract speaks of this order.
     pub order: &'a [u32],
-    /// The function of each worker, or the number of functions where it is idle.
+    /// The function of each worker, or the number of functions if it is idle.
     pub owner: &'a mut [u32],
     /// How many workers are on each function, at most its greatest number, and last how many are idle.
     pub count: &'a mut [u32],

@@ -39,7 +39,7 @@ fn is_printable(text: &str) -> bool
     text.as_bytes().iter().all(|byte| byte.is_ascii_graphic())
 }
 
-/// The server, and in quotes, as TOML writes a key, where a byte is not printable.
+/// The server, and in quotes, as TOML writes a key, if a byte is not printable.
 #[tactic(auto, unfolding(crate::specs::Meaning::server_words))]
 fn push_server_words(out: &mut String, server: &str) -> Result<(), AllocError>
     ensures { OnOk result (string_bytes out.new ≡ string_bytes out.old ++ spec.server_words server.now) }
@@ -166,7 +166,7 @@ fn push_machines(out: &mut String, settings: &Settings) -> Result<(), AllocError
     Ok(())
 }
 
-/// What settings mean: a line for the version and each single key, two for each function, one for each machine and behind it one for
+/// What settings mean: a line for the version and each single key, two for each function, one for each machine and after it one for
 /// each function that its workers may do, all in the order of [`Settings`]; and then the remarks, one for each function that no machine
 /// lists and one for each machine that lists none. A value that the file does not give is marked `(default)`. The only error is out of
 /// memory.

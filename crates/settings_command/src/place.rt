@@ -87,9 +87,9 @@ fn push_place(out: &mut String, place: &Place<&str>) -> Result<(), AllocError>
     }
 }
 
-/// The line that tells where a fault is: `at` and a line and a column, the path of a key, a machine's list with the name in it that is
+/// The line that says where a fault is: `at` and a line and a column, the path of a key, a machine's list with the name in it that is
 /// no function, or what there are too many of. Each key and each name is written as TOML writes a key, so that the line stays one
-/// line. The only error is want of memory.
+/// line. The only error is out of memory.
 pub fn place_text(alloc: Global, place: &Place<&str>) -> Result<String, AllocError>
     ensures { IfOk result (λ text. string_bytes text ≡ spec.line_of_place (place_view (λ t. t.now) place.now)) }
 {

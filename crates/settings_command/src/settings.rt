@@ -30,7 +30,7 @@ fn write_meaning<S: Sink>(
     }
 }
 
-/// The line that tells where a mistake is, and the mistake.
+/// The line that says where a mistake is, and the mistake.
 fn located(
     alloc: Global,
     error: SettingsError,
@@ -74,9 +74,9 @@ fn explain<S: Sink>(alloc: Global, file: &SettingsFile, sink: &mut S) -> Exit
 }
 
 /// Reads settings as every command does, and writes what they mean, one fact a line, as [`crate::meaning_text`] has it. The exit
-/// status is 0 where they are taken. Settings that are not taken are the fault, and one line tells where it is, as
-/// [`crate::place_text`] has it. Where memory was refused nothing is written. After a `WriteFault`, which comes only where the sink
-/// failed, a front of the text was written and not all of it.
+/// status is 0 if they are taken. Settings that are not taken are the fault, and one line says where it is, as
+/// [`crate::place_text`] has it. If memory was refused nothing is written. After a `WriteFault`, which comes only if the sink
+/// failed, a prefix of the text was written and not all of it.
 pub fn settings_text<S: Sink>(alloc: Global, settings_text: &[u8], sink: &mut S) -> Exit
     requires { (S.output sink.old).failures < 2 ^ 64 - 1 }
     ensures tells { spec.TellsSettings settings_text.now (S.output sink.old) (S.output sink.new) result }

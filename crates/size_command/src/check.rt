@@ -25,16 +25,16 @@ use std::num::NonZeroU32;
 /// What the text of a size is found to be.
 #[derive(Clone, Copy, Debug, PartialEq, Eq)]
 pub enum SizeVerdict {
-    /// It tells a size that is shown, and is the text of that size.
+    /// It gives a size that is shown, and is the text of that size.
     Shown,
-    /// It tells a size that is shown, and is not the text of that size.
+    /// It gives a size that is shown, and is not the text of that size.
     OtherText,
-    /// It tells a size that is not shown. This is the first flaw of it.
+    /// It gives a size that is not shown. This is the first flaw of it.
     NotShown(Flaw),
 }
 
 impl SizeVerdict {
-    /// The exit status: 0 where the size is shown, else 1.
+    /// The exit status: 0 if the size is shown, else 1.
     pub fn status(self) -> u8
         ensures { result ≡ spec.size_verdict_status self }
     {
@@ -62,7 +62,7 @@ fn is_text(
     Ok(given_text == text.as_bytes())
 }
 
-/// What the text that tells a size is found to be, for this farm.
+/// What the text that gives a size is found to be, for this farm.
 fn find(
     alloc: Global,
     settings: &Settings,
@@ -101,7 +101,7 @@ fn judge(
     Ok(found)
 }
 
-/// The line that tells a verdict.
+/// The line of a verdict.
 fn verdict_line(alloc: Global, verdict: SizeVerdict) -> Result<String, AllocError>
     ensures { IfOk result (λ line. string_bytes line ≡ spec.size_verdict_line verdict) }
 {
@@ -117,7 +117,7 @@ fn verdict_line(alloc: Global, verdict: SizeVerdict) -> Result<String, AllocErro
     Ok(line)
 }
 
-/// Writes the line that tells a verdict.
+/// Writes the line of a verdict.
 fn pronounce<S: Sink>(alloc: Global, verdict: SizeVerdict, sink: &mut S) -> Exit
     requires { (S.output sink.old).failures < 2 ^ 64 - 1 }
     ensures { spec.PronouncesSize verdict (S.output sink.old) (S.output sink.new) result }
@@ -154,13 +154,13 @@ fn examine<R: Source>(alloc: Global, asked: Asked<'_>, source: &mut R) -> Result
     judge(alloc, asked.settings, asked.level, &problem, &text)
 }
 
-/// Says whether the size that the source gives is shown, by what is asked alone, and without a planner: writes `shown` where the text tells
-/// a size that is shown and is the text of that size, `not shown 7 Text` where only the latter fails, and else `not shown` with the number
+/// Says whether the size that the source gives is shown, by what is asked alone, and without a planner: writes `shown` if the text gives
+/// a size that is shown and is the text of that size, `not shown 7 Text` if only the latter fails, and else `not shown` with the number
 /// and the name of the first [`Flaw`] of the size. The exit status is 0 with `shown` and 1 without.
 ///
 /// Faults are looked for in the settings, then in the names of the lost workers, in the status text, in the source, which gives at most
-/// 16,777,216 bytes, and in the text of the size. The source is read only where the first three are right, and up to its end; where it
-/// failed or lulled for the 65th time the fault is `ReadFault`. After a `WriteFault`, which comes only where the sink failed, a prefix of
+/// 16,777,216 bytes, and in the text of the size. The source is read only if the first three are right, and up to its end; if it
+/// failed or timed out for the 65th time the fault is `ReadFault`. After a `WriteFault`, which comes only if the sink failed, a prefix of
 /// the line was written and not all of it, and after any other fault nothing.
 pub fn check_size_text<R: Source, S: Sink>(
     alloc: Global,

@@ -18,7 +18,7 @@ use std::num::NonZeroU32;
 /// A greatest number that no need is above.
 const NO_MOST: u32 = u32::MAX;
 
-/// The greatest number of the function of this number, where the file writes one.
+/// The greatest number of the function of this number, if the file writes one.
 fn most_of(file: &SettingsFile, settings: &Settings, number: u32) -> u32
     requires { number < length settings.now.functions }
     ensures { result ≡ spec.most_of (table_view file.now.tree) settings.now number }

@@ -18,7 +18,7 @@ use size_report::size_text;
 use std::alloc::{AllocError, Global};
 use std::num::NonZeroU32;
 
-/// 0 with an addition, 1 where none serves.
+/// 0 with an addition, 1 if none serves.
 fn status_with(size: &Size) -> u8
     ensures { result ≡ spec.status_with size.now }
 {
@@ -92,14 +92,14 @@ fn answer<S: Sink>(
 /// Finds how many workers are missing, by these settings, with all workers live but the lost ones, and the status text that the source
 /// gives, and writes the size to the sink: the least number of workers that have to be added to the machines of the settings so that a plan
 /// exists that meets every least number, passes no greatest number, and in which no more jobs wait for each worker of a function than the
-/// level says. All that waits for a function counts, also where no live worker may do it. Without a level any plan will do. A greatest
+/// level says. All that waits for a function counts, even if no live worker may do it. Without a level any plan will do. A greatest
 /// number that the settings write stays; one that they leave out grows with the addition.
 ///
-/// The exit status is 0 with an addition, also one of nobody, and 1 where none serves.
+/// The exit status is 0 with an addition, also one of nobody, and 1 if none serves.
 ///
 /// Faults are looked for in the settings, then in the names of the lost workers, and then in the status text, and the source is read, as by
 /// [`plan_text`](plan_commands::plan_text). The text is made whole before its first byte goes out: after a `WriteFault`, which comes only
-/// where the sink failed, a prefix of it was written and not all of it, and after any other fault nothing.
+/// if the sink failed, a prefix of it was written and not all of it, and after any other fault nothing.
 pub fn size_of_texts<R: Source, S: Sink>(
     alloc: Global,
     settings_text: &[u8],

@@ -1,4 +1,4 @@
-//! What the lines of the text of a size have told so far.
+//! What the lines of the text of a size have said so far.
 
 ghost use Rattle.std.specs.Prelude.{◌≡◌, ◌≢◌, OnOk, IfErr, Ok, Err, option_map, false, nat_lt, ◌<◌};
 ghost use Rattle.pool_report.specs.Told.{line_view};
@@ -16,7 +16,7 @@ use pool_settings::Settings;
 use std::alloc::Global;
 use std::marker::Model;
 
-/// What the lines of the text of a size have told so far.
+/// What the lines of the text of a size have said so far.
 #[derive(Drop)]
 pub struct Draft {
     stage: Stage,
@@ -346,7 +346,7 @@ impl Draft {
         }
     }
 
-    /// The size that was told.
+    /// The size that was given.
     pub fn into_size(self) -> Size
         ensures { result ≡ spec.size_of self }
     {

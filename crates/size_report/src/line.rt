@@ -9,7 +9,7 @@ use pool_report::{Line as ReportLine, after_word, count_after, read_line};
 use pool_settings::{is_machine_name, is_name};
 use text_pieces::{cut_last, plain_number_u32, plain_number_u64};
 
-/// What a line tells, less the numbers that a size does not hold.
+/// What a line says, less the numbers that a size does not hold.
 #[derive(Clone, Copy)]
 pub enum Line<'t> {
     Head,
@@ -120,7 +120,7 @@ fn keyed(line: &[u8]) -> Option<Line<'_>>
     read_shared(line)
 }
 
-/// What a line tells, if it has the shape of one.
+/// What a line says, if it has the shape of one.
 pub fn read_size_line(line: &[u8]) -> Option<Line<'_>>
     ensures { option_map size_line_view result ≡ spec.size_line_of line.now }
 {

@@ -1,4 +1,4 @@
-//! How far the text of a size has been read, and which kind of size it tells.
+//! How far the text of a size has been read, and which kind of size it gives.
 
 use plan_sizing::Obstacle;
 
@@ -8,18 +8,18 @@ pub enum Stage {
     Start,
     Level,
     Verdict,
-    /// The machines with an addition are told.
+    /// The machines with an addition are given.
     Added,
     Tasks,
-    /// It is told that no addition serves.
+    /// The text says that no addition serves.
     Barred,
-    /// It is told that each addition that serves is too many.
+    /// The text says that each addition that serves is too many.
     Beyond,
     Set,
     Done,
 }
 
-/// Which kind of size is told.
+/// Which kind of size is given.
 #[derive(Clone, Copy, Debug, PartialEq, Eq)]
 pub enum Kind {
     Enough,

@@ -222,7 +222,7 @@ fn push_answer(
 /// The text of a size that is shown for a farm with the permissions and the workers of these settings, as [the crate's page](crate) gives
 /// it.
 ///
-/// A size that is shown is right: an addition has its plan, which serves, and no smaller one has a plan that serves; and where none serves,
+/// A size that is shown is right: an addition has its plan, which serves, and no smaller one has a plan that serves; and if none serves,
 /// or none within the limit, none does. The text has both sides, so that each number can be tested by hand: the workers of the plan, and a
 /// set of functions that needs so many more workers than may do any of its functions. A worker that the plan gives no function has no line.
 /// Memory refused is the only error.

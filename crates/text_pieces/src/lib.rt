@@ -1,5 +1,5 @@
 //! How bytes of text are cut and read: at the first or the last byte of one kind, and as decimal numbers. Status texts,
-//! packets, settings, reports and command lines stand on these pieces.
+//! packets, settings, reports and command lines use these pieces.
 #![tactic(auto)]
 
 mod cuts;

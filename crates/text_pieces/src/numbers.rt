@@ -24,7 +24,7 @@ pub fn is_plain(digits: &[u8]) -> bool
     digits[0] != b'0' || digits.len() == 1
 }
 
-/// The number below 2^64 that one or more decimal digits write. Zeros may stand before it, and no sign.
+/// The number below 2^64 that one or more decimal digits write. Leading zeros are allowed, and no sign.
 pub fn number_u64(digits: &[u8]) -> Option<u64>
     ensures { result ≡ spec.number_below (2 ^ 64) digits.now }
 {
@@ -45,8 +45,8 @@ pub fn number_u32(digits: &[u8]) -> Option<u32>
     u32::try_from(number).ok()
 }
 
-/// The number below 2^64 that one or more decimal digits write. Neither a zero nor a sign stands before it, so each number has one
-/// spelling.
+/// The number below 2^64 that one or more decimal digits write. Neither a zero nor a sign comes before it, so each number is
+/// written in one way.
 pub fn plain_number_u64(digits: &[u8]) -> Option<u64>
     ensures { result ≡ spec.plain_number_below (2 ^ 64) digits.now }
 {

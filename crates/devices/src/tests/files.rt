@@ -35,7 +35,7 @@ impl<'a> Folder for OneFile<'a> {
     }
 }
 
-/// Why the file of a name is not read, where one of this name opens so.
+/// Why the file of a name is not read, if one of this name opens so.
 fn refusal(
     alloc: Global,
     name: &str,

@@ -5,7 +5,7 @@ use run_command::{Attempt, Host, Progress, Watch};
 use std::sync::Wait;
 use std::thread::Threads;
 
-/// A host from which no job server can be reached. It knows no time, its pauses are over at once, and it tells nobody.
+/// A host from which no job server can be reached. It knows no time, its pauses are over at once, and it reports to nobody.
 #[derive(Drop)]
 pub struct Away<R: Drop> {
     /// What has threads.

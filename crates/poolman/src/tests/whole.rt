@@ -217,7 +217,7 @@ fn words_of_no_command_are_told_on_error_output(rt: HostRuntime) -> Result<(), A
     Ok(())
 }
 
-/// The exit status where the system gives no words, and what is on error output.
+/// The exit status if the system gives no words, and what is on error output.
 fn without_words<H: Host>(host: &H, alloc: Global, kind: ErrorKind) -> Result<Left, AllocError> {
     let files = TwoFiles {
         settings: SETTINGS,
