@@ -17,7 +17,7 @@ pub struct Groups<'p> {
 /// pair is a machine of the function and a worker of that machine.
 #[derive(Clone, Copy)]
 pub struct Pairs<'p> {
-    /// For each function the machines that may do it, those that may do the fewest functions first.
+    /// For each function the machines that may do it, those whose workers are the least wanted first.
     /// No contract speaks of this order.
     pub machines: Groups<'p>,
     /// For each machine its workers, side by side.
