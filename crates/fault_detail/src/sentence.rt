@@ -5,11 +5,13 @@ use devices::InputError;
 use plan_commands::{Fault, Mistake};
 use std::alloc::{AllocError, Global};
 
-/// What is wrong with the settings, and what is wanted in its place.
+/// What is wrong with the settings, what is wanted in its place, and what the file has there.
 fn of_mistake(alloc: Global, mistake: &Mistake) -> Result<String, AllocError> {
-    match wanted(mistake) {
-        Some(words) => format!(in alloc; "{} ({words})", mistake.error),
-        None => format!(in alloc; "{}", mistake.error),
+    match (wanted(mistake), &mistake.found) {
+        (Some(words), Some(found)) => format!(in alloc; "{} ({words}, not {found})", mistake.error),
+        (Some(words), None) => format!(in alloc; "{} ({words})", mistake.error),
+        (None, Some(found)) => format!(in alloc; "{} ({found})", mistake.error),
+        (None, None) => format!(in alloc; "{}", mistake.error),
     }
 }
 

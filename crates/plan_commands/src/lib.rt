@@ -5,6 +5,7 @@
 mod check;
 mod ending;
 mod fault;
+mod found;
 mod mistake;
 mod plan;
 mod problem;

@@ -4,6 +4,7 @@ ghost use Rattle.std.specs.Prelude.{◌≡◌, IfOk};
 ghost use Rattle.pool_settings.specs.Place.{place_view};
 ghost use Rattle.plan_commands.specs.Mistake.{kept_view, mistake_view};
 
+use crate::found::found;
 use pool_settings::{Place, SettingsError};
 use std::alloc::{AllocError, Global};
 
@@ -15,10 +16,13 @@ pub struct Mistake {
     pub error: SettingsError,
     /// Where in the file that is.
     pub place: Place<String>,
+    /// What the file has there, in words, if that is known.
+    pub found: Option<String>,
 }
 
 impl Mistake {
-    /// The mistake with texts of its own, so that it outlives the file. The only error is out of memory.
+    /// The mistake with texts of its own, so that it outlives the file. What the file has there is left open. The only error is out of
+    /// memory.
     pub fn new(
         alloc: Global,
         error: SettingsError,
@@ -27,7 +31,24 @@ impl Mistake {
         ensures { IfOk result (λ mistake. mistake_view mistake ≡ (error, place_view (λ t. t.now) place.now)) }
     {
         let place = keep(alloc, place)?;
-        Ok(Mistake { error, place })
+        Ok(Mistake {
+            error,
+            place,
+            found: None,
+        })
+    }
+
+    /// The mistake, with what this text of the file has at its place. The only error is out of memory.
+    pub fn with_found(self, alloc: Global, settings_text: &[u8]) -> Result<Mistake, AllocError>
+        ensures same { IfOk result (λ more. mistake_view more ≡ mistake_view self) }
+    {
+        let Mistake { error, place, .. } = self;
+        let found = found(alloc, settings_text, error, &place)?;
+        Ok(Mistake {
+            error,
+            place,
+            found,
+        })
     }
 
     /// The place, which lends its texts.

@@ -137,7 +137,8 @@ fn files_that_are_not_there_are_told_first(rt: HostRuntime) -> Result<(), AllocE
     );
     let swapped = check(alloc, "status.txt", "settings.toml");
     let place = Place::Text { line: 1, column: 3 };
-    let text = Mistake::new(alloc, SettingsError::Text, &place)?;
+    let mut text = Mistake::new(alloc, SettingsError::Text, &place)?;
+    text.found = Some(String::from_str(alloc, "key with no value, expected `=`")?);
     let text = Exit::refused(Fault::Settings(text));
     assert!(rt; carries_out(&host, alloc, &swapped, REPORT, text, b""));
     Ok(())
