@@ -179,7 +179,7 @@ poolman: none: there is no such file, or it may not be opened
     assert!(rt; tells_a_person(&host, alloc, &none, 4, lines)?);
     let swapped = ["poolman", "plan", "status.txt"];
     let lines = b"poolman: settings 1 Text
-poolman: status.txt: the file is not TOML at line 1 column 3
+poolman: status.txt: the file is not TOML (key with no value, expected `=`) at line 1 column 3
 ";
     assert!(rt; tells_a_person(&host, alloc, &swapped, 3, lines)?);
     let plan = ["poolman", "plan", "settings.toml"];
