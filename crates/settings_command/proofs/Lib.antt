@@ -1,2 +1,3 @@
+pub mod Farms
 pub mod Numbered
 pub mod Refused

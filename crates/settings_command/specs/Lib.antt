@@ -1,3 +1,5 @@
+pub mod Farm
 pub mod Meaning
 pub mod Place
+pub mod Remarks
 pub mod Told

@@ -1,5 +1,5 @@
 -- What `settings` writes, and how it ends.
-use Rattle.std.specs.Prelude.{◌≡◌, ◌⊎◌, ℕ, List, Some, Ok}
+use Rattle.std.specs.Prelude.{◌≡◌, ◌⊎◌, ◌++◌, ℕ, List, Some, Ok}
 use Rattle.byte_io.specs.Sides.{Output}
 use Rattle.toml.specs.Data.{Members}
 use Rattle.plan_commands.specs.Ending.{Delivers, Stops}
@@ -16,10 +16,16 @@ use Rattle.pool_settings.specs.declared.fault.SettingsFault.{SettingsFault}
 use Rattle.pool_settings.specs.declared.fault.SettingsFault.TheVariants as first
 use Rattle.settings_command.specs.Meaning.{meaning}
 use Rattle.settings_command.specs.Place.{line_of_place}
+use Rattle.settings_command.specs.Remarks.{AreFarmRemarks}
 
--- What the settings mean is written, of which the file gives the keys of this tree. Or memory is refused, and nothing is written.
+-- The text is what the settings mean, of which the file gives the keys of this tree, and behind it what a farm of them cannot do.
+abbrev pub IsMeaning : Members → Settings → List ℕ → Type 0
+IsMeaning tree settings text = (remarks : List ℕ) × AreFarmRemarks settings remarks × (text ≡ meaning tree settings ++ remarks)
+
+-- What the settings mean is written, with the remarks on their farm. Or memory is refused, and nothing is written.
 abbrev pub Means : Members → Settings → Output → Output → Exit → Type 0
-Means tree settings old new exit = Delivers (meaning tree settings) (answered 0) old new exit ⊎ Stops fault.Memory old new exit
+Means tree settings old new exit =
+    ((text : List ℕ) × IsMeaning tree settings text × Delivers text (answered 0) old new exit) ⊎ Stops fault.Memory old new exit
 
 -- The line of the place of a mistake is written, and the command ends by that mistake.
 abbrev pub TellsPlace : Mistake → Output → Output → Exit → Type 0

@@ -1,6 +1,8 @@
 //! The command `settings` as a call over a text and a device: what a settings file means, or where its first fault is.
 #![tactic(auto)]
 
+mod farm;
+mod farm_remarks;
 mod meaning;
 mod place;
 mod remarks;

@@ -7,12 +7,22 @@ ghost use Rattle.settings_command.specs.Place.{line_of_place};
 ghost use Rattle.settings_command.specs.Told as spec;
 ghost use Rattle.toml.specs.View.{table_view};
 
+use crate::farm_remarks::push_farm_remarks;
 use crate::meaning::meaning_text;
 use crate::place::place_text;
 use byte_io::Sink;
 use plan_commands::{Exit, Fault, Mistake, deliver};
 use pool_settings::{Place, Settings, SettingsError, SettingsFault, SettingsFile};
 use std::alloc::{AllocError, Global};
+
+/// What settings mean, and what a farm of them cannot do.
+fn whole_text(alloc: Global, settings: &Settings, file: &SettingsFile) -> Result<String, AllocError>
+    ensures { IfOk result (λ text. spec.IsMeaning (table_view file.now.tree) settings.now (string_bytes text)) }
+{
+    let mut text = meaning_text(alloc, settings, file)?;
+    push_farm_remarks(&mut text, settings)?;
+    Ok(text)
+}
 
 /// Writes what the settings of a file mean.
 fn write_meaning<S: Sink>(
@@ -24,7 +34,7 @@ fn write_meaning<S: Sink>(
     requires { (S.output sink.old).failures < 2 ^ 64 - 1 }
     ensures { spec.Means (table_view file.now.tree) settings.now (S.output sink.old) (S.output sink.new) result }
 {
-    match meaning_text(alloc, settings, file) {
+    match whole_text(alloc, settings, file) {
         Ok(text) => deliver(sink, text.as_bytes(), Exit::answered(0)),
         Err(_) => Exit::refused(Fault::Memory),
     }
@@ -73,10 +83,10 @@ fn explain<S: Sink>(alloc: Global, file: &SettingsFile, sink: &mut S) -> Exit
     }
 }
 
-/// Reads settings as every command does, and writes what they mean, one fact a line, as [`crate::meaning_text`] has it. The exit
-/// status is 0 if they are taken. Settings that are not taken are the fault, and one line says where it is, as
-/// [`crate::place_text`] has it. If memory was refused nothing is written. After a `WriteFault`, which comes only if the sink
-/// failed, a prefix of the text was written and not all of it.
+/// Reads settings as every command does, and writes what they mean, one fact a line, as [`crate::meaning_text`] has it, and then what
+/// a farm of them cannot do, one remark a line. The exit status is 0 if they are taken. Settings that are not taken are the fault, and
+/// one line says where it is, as [`crate::place_text`] has it. If memory was refused nothing is written. After a `WriteFault`, which
+/// comes only if the sink failed, a prefix of the text was written and not all of it.
 pub fn settings_text<S: Sink>(alloc: Global, settings_text: &[u8], sink: &mut S) -> Exit
     requires { (S.output sink.old).failures < 2 ^ 64 - 1 }
     ensures tells { spec.TellsSettings settings_text.now (S.output sink.old) (S.output sink.new) result }

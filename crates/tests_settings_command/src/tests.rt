@@ -1,3 +1,4 @@
-//! The command `settings` on files that are taken, and on one for each refusal.
+//! The command `settings` on files that are taken, on one for each remark, and on one for each refusal.
 
 mod files;
+mod remarks;

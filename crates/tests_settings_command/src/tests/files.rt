@@ -42,6 +42,7 @@ may alpha resize
 machine beta workers 0
 remark no machine lists function thumbnail
 remark machine beta lists no function
+remark machine beta has no workers
 ";
 
 /// Each key.
@@ -71,6 +72,7 @@ function x least 1
 function x most 2
 machine a workers 2
 may a x
+remark history 5 may leave 3 events between two attempts, and one job of each worker takes 12
 ";
 
 #[test]
