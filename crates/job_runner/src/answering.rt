@@ -33,7 +33,7 @@ pub struct Tally {
     pub reported: u64,
 }
 
-/// Runs the job of a function. Its payload is given up before the answer is spelled, so that a great one is not held beside it.
+/// Runs the job of a function. Its payload is given up before the answer is encoded, so that a great one is not held beside it.
 fn run_job<J: Jobs>(
     worker: &Worker<'_, J>,
     function: Vec<u8>,

@@ -9,13 +9,13 @@ use worker_state::Cause;
 
 /// Why a session ended.
 ///
-/// `Retired` and `Gone` lose no worker. Each other end is told at the [`Cause`] of its name, for which the session lost its worker at
+/// `Retired` and `Gone` lose no worker. Each other end is reported at the [`Cause`] of its name, for which the session lost its worker at
 /// the pool (`loss`), and has its number. No session ends as `Late`.
 #[derive(Clone, Copy, Debug, PartialEq, Eq)]
 pub enum EndCause {
     /// The worker has made all its runs, and the pool has retired it.
     Retired,
-    /// The worker is not in its slot any more: the pool gave it up, as where its job took too long.
+    /// The worker is not in its slot any more: the pool gave it up, as when its job took too long.
     Gone,
     /// [`Cause::BadPacket`]
     BadPacket,
@@ -38,7 +38,7 @@ pub enum EndCause {
 }
 
 impl EndCause {
-    /// The cause for which the worker is lost: the one of the same number and name. None where it is retired, or lost already.
+    /// The cause for which the worker is lost: the one of the same number and name. None if it is retired, or lost already.
     pub fn loss(self) -> Option<Cause>
         ensures exact { result ≡ loss_of self }
         ensures label { IfSome result (λ cause. cause_label cause ≡ end_label self) }

@@ -97,7 +97,7 @@ pub fn act<L: Sink, P: PoolPort, J: Jobs>(
     }
 }
 
-/// Looks at the order where nothing came.
+/// Looks at the order if nothing came.
 pub fn glance<L: Sink, P: PoolPort, J>(
     worker: &Worker<'_, J>,
     link: &mut L,

@@ -93,7 +93,7 @@ fn asking<'n>(to: Option<&'n [u8]>) -> Option<Request<'n>>
     }
 }
 
-/// Spells the packets that lead from one function to another, and ask for a job of it. The only error is want of memory.
+/// Encodes the packets that lead from one function to another, and ask for a job of it. The only error is out of memory.
 fn spell_change<'n>(
     alloc: Global,
     from: Option<&'n [u8]>,

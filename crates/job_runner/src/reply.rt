@@ -54,7 +54,7 @@ fn end_kind(end: &End) -> EndKind
     }
 }
 
-/// Spells all that a job told, unless a packet of it would be too large.
+/// Encodes all that a job reported, unless a packet of it would be too large.
 fn spell_outcome(alloc: Global, handle: &Handle, outcome: &Outcome) -> Result<Vec<u8>, EncodeError>
     ensures text { IfOk result (λ text. text.items ≡ text_of (told_packets handle.now (told_of outcome.now))) }
     ensures each { IfOk result (λ _. AllByRecursion IsSent (told_packets handle.now (told_of outcome.now))) }
@@ -85,8 +85,8 @@ fn spell_failure(alloc: Global, handle: &Handle) -> Result<Spelled, AllocError>
     }
 }
 
-/// Spells the answer to a job: what it told, or WORK_FAIL alone where there is no such job, or a packet would be too large. The only
-/// error is want of memory.
+/// Encodes the answer to a job: what it reported, or WORK_FAIL alone if there is no such job, or a packet would be too large. The only
+/// error is out of memory.
 pub fn spell(
     alloc: Global,
     handle: &Handle,

@@ -14,7 +14,7 @@ use byte_io::{Sink, give_all};
 use gear_packets::{EncodeError, Request, encode_into};
 use std::alloc::{AllocError, Global};
 
-/// Puts a packet that breaks no rule behind a text. The only error is want of memory.
+/// Puts a packet that breaks no rule after a text. The only error is out of memory.
 fn add(alloc: Global, text: &mut Vec<u8>, request: &Request) -> Result<(), AllocError>
     requires accepted { IsAccepted (packet_of request.now) }
     ensures spelled { OnOk result (text.new.items ≡ text.old.items ++ spelling (packet_of request.now)) }
@@ -27,7 +27,7 @@ fn add(alloc: Global, text: &mut Vec<u8>, request: &Request) -> Result<(), Alloc
     }
 }
 
-/// Puts a packet behind a text, if there is one. The only error is want of memory.
+/// Puts a packet after a text, if there is one. The only error is out of memory.
 pub fn add_if(
     alloc: Global,
     text: &mut Vec<u8>,

@@ -16,10 +16,10 @@ use thiserror::Error;
 
 /// Jobs by name, each with a stated meaning.
 pub trait Jobs {
-    /// What the job of a name tells for an input, and none where there is no such name.
+    /// What the job of a name reports for an input, and none if there is no such name.
     ghost told: { Self → List ℕ → List ℕ → Option Told };
 
-    /// Runs the job of that name. None where there is no such name. The only error is want of memory.
+    /// Runs the job of that name. None if there is no such name. The only error is out of memory.
     fn run(&self, alloc: Global, name: &[u8], input: &[u8]) -> Result<Option<Outcome>, AllocError>
         ensures { IfOk result (λ outcome. option_map told_of outcome ≡ told self.now name.now input.now) };
 }
@@ -59,7 +59,7 @@ fn rise<J>(jobs: &[(Vec<u8>, J)]) -> bool
 }
 
 impl<J: Job> JobTable<J> {
-    /// A table of these jobs. It is refused exactly where two have one name, and takes no memory.
+    /// A table of these jobs. It is refused exactly if two have one name, and takes no memory.
     pub fn new(mut jobs: Vec<(Vec<u8>, J)>) -> Result<JobTable<J>, TwiceNamed>
         ensures same { IfOk result (λ table. (name input : List ℕ) → ⟦<JobTable<J> as Jobs>⟧.told table name input
             ≡ told_by (λ entry. entry.0.items) (λ entry. J.meaning entry.1) jobs.items name input) }

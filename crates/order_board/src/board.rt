@@ -48,7 +48,7 @@ impl Model for Board {
         × (0 < b.table.shared.table_id.words) × (b.slots ≤ 4096) };
 }
 
-/// Why there is no board. Where both are true the first is answered.
+/// Why there is no board. If both are true the first is answered.
 #[derive(Clone, Copy, Debug, PartialEq, Eq, Error)]
 pub enum BoardError {
     /// More than 4,096 slots.

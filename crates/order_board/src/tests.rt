@@ -13,7 +13,7 @@ const ROUNDS: u32 = 20_000;
 
 const READS: u32 = 100_000;
 
-/// A board, asked for once more where memory was refused: `rt try --test --fail-alloc 1..` refuses each allocation of a test in
+/// A board, asked for once more if memory was refused: `rt try --test --fail-alloc 1..` refuses each allocation of a test in
 /// turn, and no test's answer changes.
 fn board(rt: &impl Abort, alloc: Global, slots: u32) -> (Board, PublisherSeat, SeatSource)
     requires { slots ≤ 4096 }

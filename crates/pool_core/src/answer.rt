@@ -31,7 +31,7 @@ pub struct Totals {
 pub struct Ran {
     /// The round's number, from 1.
     pub number: u32,
-    /// The backlog of its plan, and none where there is no plan.
+    /// The backlog of its plan, and none if there is no plan.
     pub backlog: Option<u64>,
     /// How many live workers got another function than before, or none any more.
     pub moved: u32,

@@ -1,4 +1,4 @@
-//! Why a call of the pool was refused. The variants of each are in the order in which they are looked at: where more than one
+//! Why a call of the pool was refused. The variants of each are in the order in which they are looked at: if more than one
 //! is true, the first is answered, and nothing has changed.
 
 ghost use Rattle.std.specs.Prelude.{◌≡◌};

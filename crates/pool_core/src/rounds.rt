@@ -128,7 +128,7 @@ pub fn orders_after(
     Ok(made)
 }
 
-/// 1 where a live worker got another function.
+/// 1 if a live worker got another function.
 fn one_if_moved(slot: &Slot, old: &Order, new: &Order) -> u32
     ensures { result ≡ one_moved slot.now old.now new.now }
 {

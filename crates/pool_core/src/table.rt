@@ -106,7 +106,7 @@ pub fn put_time(times: &mut Vec<u64>, slot: SlotId, now_ms: u64)
     times[slot.number() as usize] = now_ms;
 }
 
-/// When the slot's last grab was, 0 where there was none.
+/// When the slot's last grab was, 0 if there was none.
 pub fn time_of(times: &[u64], slot: SlotId) -> u64
     ensures { result ≡ slice_index times.now slot }
 {
@@ -130,7 +130,7 @@ pub fn slot_after(stays: bool, generation: u32, runs: u32) -> Slot
     }
 }
 
-/// What a worker is told after a run.
+/// What a worker is answered after a run.
 pub fn stay_or_retire(stays: bool) -> StayOrRetire
     ensures { result ≡ (if stays then Stay else Retire) }
 {

@@ -8,7 +8,7 @@ use std::alloc::{AllocError, Global};
 use std::fmt::Write;
 
 /// The counts of a pool in a line, without a line feed: `totals grabbed G running R reported P lost L rounds N events E`. The only
-/// error is want of memory.
+/// error is out of memory.
 pub fn totals_line(alloc: Global, totals: Totals) -> Result<String, AllocError>
     ensures { IfOk result (λ s. string_bytes s ≡ spec.totals_line totals) }
 {

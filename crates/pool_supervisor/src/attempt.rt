@@ -16,7 +16,7 @@ pub enum PoolRefusal {
     Load(LoadError),
     /// There was no view.
     View(ViewError),
-    /// The answer was not adopted. `Stale` stands where the input had changed three times while the planner was at work.
+    /// The answer was not adopted. `Stale` means that the input had changed three times while the planner was at work.
     Adopt(AdoptError),
 }
 
@@ -82,7 +82,7 @@ impl Attempt {
     }
 }
 
-/// The line of an attempt behind its number, without a line feed. The only error is want of memory.
+/// The line of an attempt after its number, without a line feed. The only error is out of memory.
 pub fn attempt_words(alloc: Global, attempt: &Attempt) -> Result<String, AllocError>
     ensures { IfOk result (λ text. string_bytes text ≡ attempt_words attempt.now) }
 {
@@ -110,7 +110,7 @@ pub fn attempt_words(alloc: Global, attempt: &Attempt) -> Result<String, AllocEr
     Ok(text)
 }
 
-/// Why a status text was not taken, with its line where it is one line.
+/// Why a status text was not taken, with its line if it is one line.
 fn status_words(alloc: Global, error: StatusError) -> Result<String, AllocError>
     ensures { IfOk result (λ text. string_bytes text ≡ status_words error) }
 {
@@ -125,7 +125,7 @@ fn status_words(alloc: Global, error: StatusError) -> Result<String, AllocError>
     Ok(text)
 }
 
-/// The line of an attempt of this number, without a line feed. The only error is want of memory.
+/// The line of an attempt of this number, without a line feed. The only error is out of memory.
 pub fn attempt_line(alloc: Global, number: u32, attempt: &Attempt) -> Result<String, AllocError>
     ensures { IfOk result (λ text. string_bytes text ≡ attempt_line number attempt.now) }
 {

@@ -25,7 +25,7 @@ use std::sync::Wait;
 use std::thread;
 use std::thread::{Scope, Threads};
 
-/// What is told of each attempt when it is made.
+/// What is reported of each attempt when it is made.
 pub trait Progress {
     /// An attempt of this number, from 1, came to this.
     fn attempted(&self, number: u32, attempt: &Attempt);

@@ -71,8 +71,8 @@ impl<G: RunLedger, D: Ledger> Booked<G, D> {
         (booked, grab_share, report_share)
     }
 
-    /// Books a job that the server gave to the worker, as [`Pool::grab`] does. Where it does, the share and the book of grabs rise
-    /// by one; where it is refused, nothing changes.
+    /// Books a job that the server gave to the worker, as [`Pool::grab`] does. If it does, the share and the book of grabs rise
+    /// by one; if it is refused, nothing changes.
     pub fn grab(
         &mut self,
         mine: &mut Share<G>,
@@ -94,8 +94,8 @@ impl<G: RunLedger, D: Ledger> Booked<G, D> {
         Ok(ticket)
     }
 
-    /// Books that the answer to a job was written whole, as [`Pool::reported`] does. Where it does, the share and the book of
-    /// reports rise by one; where it is refused, nothing changes. It takes no memory.
+    /// Books that the answer to a job was written whole, as [`Pool::reported`] does. If it does, the share and the book of
+    /// reports rise by one; if it is refused, nothing changes. It takes no memory.
     pub fn reported(
         &mut self,
         mine: &mut Share<D>,
@@ -132,7 +132,7 @@ impl<G: RunLedger, D: Ledger> Booked<G, D> {
         self.pool.lose(pass, cause)
     }
 
-    /// Loses the worker of that generation where its job is late, as [`Pool::expire`] does.
+    /// Loses the worker of that generation if its job is late, as [`Pool::expire`] does.
     pub fn expire(&mut self, slot: SlotId, generation: u32, now_ms: u64) -> Result<(), ExpireError>
         requires { slot < length self.old.state.slots }
         ensures { Expires (record { slot = slot; generation = generation }) now_ms self.old self.new result }

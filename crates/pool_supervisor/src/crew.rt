@@ -49,7 +49,7 @@ pub struct Berth {
 /// The sessions that run, and what those that ended handed back.
 ///
 /// Our shares and the running sessions' shares make up both ledgers, less two for each session that failed to start. Our shares
-/// stand at the sums of what the sessions told that have ended.
+/// equal the sums of what the sessions reported that have ended.
 #[derive(Drop)]
 pub struct Crew<N: RunId, L: Source + Sink> {
     running: Vec<Started<N, L>>,
@@ -234,7 +234,7 @@ impl<N: RunId, L: Source + Sink> Crew<N, L> {
 }
 
 impl<'e, N: RunId, J: Jobs + Sync, C: Watch + Sync, R: Threads + Wait + Sync> Site<'e, N, J, C, R> {
-    /// Starts a session of the crew in a thread of its own. At `Err` no thread could be started, and the crew's sums can no more be told.
+    /// Starts a session of the crew in a thread of its own. At `Err` no thread could be started, and the crew's sums are lost.
     pub fn start<'s, L: Source + Sink + Send + Drop + 's>(
         self,
         scope: &Scope<'s, &'e ()>,

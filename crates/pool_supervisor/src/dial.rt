@@ -6,7 +6,7 @@ ghost use Rattle.pool_supervisor.specs.Dials.{IsNew, closed, dialled, then_calle
 use byte_io::{Sink, Source};
 use std::snapshot::Snapshot;
 
-/// What makes links to the job server, and is told of those that were used how they ended.
+/// What makes links to the job server, and gets word of those that were used how they ended.
 ///
 /// One in memory can tell contracts its calls, as a list. Of the system's network nothing is known, and it tells None.
 pub trait Dial<L: Source + Sink> {
@@ -22,7 +22,7 @@ pub trait Dial<L: Source + Sink> {
         ensures fresh { IfSome result (λ link. IsNew (seen_link L.input L.output link)) };
 
     /// A link was closed. This is what it was then: a link of the run's own after its use, and the link of a session once that is joined.
-    /// A link over which no session came about is not told of.
+    /// A link over which no session came about is not reported.
     fn hung_up(&mut self, link: Snapshot<L>)
         ensures calls { Self.calls self.new
             ≡ then_called (Self.calls self.old) (closed (seen_link L.input L.output link.value) ∷ []) };

@@ -1,7 +1,7 @@
 //! The pool that sessions share, and the port by which each of them reaches it.
 //!
 //! The pool lies under one lock, beside two books: how many jobs were grabbed, and how many were reported. A session holds a share
-//! of each book, which rises with the book where one of its calls succeeds, and never else. So the amounts of all
+//! of each book, which rises with the book if one of its calls succeeds, and never else. So the amounts of all
 //! shares add up to the totals of the pool, whatever the threads do.
 #![tactic(auto)]
 

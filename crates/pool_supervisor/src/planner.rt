@@ -10,7 +10,7 @@ use std::alloc::{AllocError, Global};
 /// What finds the best plan of a round.
 pub trait Planner {
     /// A best answer for the input, with the evidence that it is one. A previous plan that is best and leaves nobody idle who may do
-    /// a function below its greatest number is the answer again. The only error is want of memory.
+    /// a function below its greatest number is the answer again. The only error is out of memory.
     fn solve(&self, input: &Input, previous: Option<&Plan>) -> Result<Answer, AllocError>
         ensures shown { IfOk result (Shown input.now) }
         ensures steady { IfOk result (λ answer. IfSome previous.entry (λ plan. IsSteady input.now plan.now answer)) };

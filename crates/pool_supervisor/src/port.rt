@@ -17,7 +17,7 @@ use worker_state::{Cause, EndKind, Order, Ticket};
 
 /// What tells the time, and lets it pass.
 pub trait Watch {
-    /// Milliseconds since some moment that stays the same, or none where the time is not known. It never goes back.
+    /// Milliseconds since some moment that stays the same, or none if the time is not known. It never goes back.
     fn now_ms(&self) -> Option<u64>;
 
     /// Lets so many milliseconds pass.
@@ -28,9 +28,9 @@ pub trait Watch {
 ///
 /// Orders are read from the board, with no lock. Each other call is one call of the pool in one hold of the lock, with the arguments
 /// that it was given, at the time of the watch; a job that is grabbed when no time is known is never late. A refusal that says that
-/// the worker is not what its session takes it for is told as [`Gone`].
+/// the worker is not what its session takes it for is reported as [`Gone`].
 ///
-/// It keeps no count: its calls are told to contracts alone ([`Calls`]), and each share stands at the number of those that succeeded.
+/// It keeps no count: its calls are known to contracts alone ([`Calls`]), and each share is the number of those that succeeded.
 #[derive(Drop)]
 pub struct SharedPort<'a, N: RunId, C, R> {
     rt: &'a R,
@@ -96,7 +96,7 @@ impl<'a, N: RunId, C: Watch, R: Wait> SharedPort<'a, N, C, R> {
     }
 }
 
-/// What a session is told of a grab that the pool refused.
+/// What a session is answered for a grab that the pool refused.
 fn refusal_of(error: GrabError) -> GrabRefusal {
     match error {
         GrabError::HistoryFull => GrabRefusal::HistoryFull,

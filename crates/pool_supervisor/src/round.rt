@@ -17,10 +17,10 @@ use plan_model::{Certified, Input, Plan};
 use pool_core::AdoptError;
 use std::sync::Wait;
 
-/// How often a round is planned where the pool changes while the planner is at work.
+/// How often a round is planned if the pool changes while the planner is at work.
 const TRIES: u32 = 3;
 
-/// The answer of the planner to what was viewed, as one that is shown. The lock is free meanwhile. None where memory was refused.
+/// The answer of the planner to what was viewed, as one that is shown. The lock is free meanwhile. None if memory was refused.
 fn planned_for<P: Planner>(planner: &P, viewed: (Input, Option<Plan>)) -> Option<Certified>
     ensures { IfSome result (AnswersView viewed) }
 {

@@ -62,7 +62,7 @@ struct Made {
     ghost can_post: { seats.publisher.board ≡ board.id },
     ghost can_seat: { seats.source.board ≡ board.id },
     ghost room: { slot_count pool.settings ≤ board.slots },
-    /// Nothing was posted or told yet.
+    /// Nothing was posted or reported yet.
     ghost none_posted: { seats.publisher.posts ≡ [] },
     ghost none_told: { lines.told.items ≡ [] },
 }

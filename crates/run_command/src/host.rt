@@ -15,8 +15,8 @@ pub trait Host: Threads + Wait + Watch + Progress + Sync {
     /// A link to a job server.
     type Link: Source + Sink + Send + Drop;
 
-    /// A new link to the server, which is named as `host:port`, or none where it cannot be reached. A read of the link that gets nothing
-    /// for so many milliseconds is a lull. The link has given and taken nothing, and has counted no failure.
+    /// A new link to the server, which is named as `host:port`, or none if it cannot be reached. A read of the link that gets nothing
+    /// for so many milliseconds is a timeout. The link has given and taken nothing, and has counted no failure.
     fn reach(&self, server: &str, lull_ms: u32) -> Option<Self::Link>
         ensures { IfSome result (λ link. IsNew (seen_link Self.Link.input Self.Link.output link)) };
 }
@@ -28,7 +28,7 @@ pub struct Route<'e, H> {
     pub host: &'e H,
     /// The server, as `host:port`.
     pub server: String,
-    /// After how many milliseconds a read that gets nothing is a lull.
+    /// After how many milliseconds a read that gets nothing is a timeout.
     pub lull_ms: u32,
 }
 

@@ -63,13 +63,13 @@ fn run_told<H: Host>(
 
 /// Runs a pool of workers by these settings against their job server: `rounds` attempts to plan, a session in a thread for each worker, and
 /// the stock jobs (`StockJob`). When all sessions have ended it writes what the run came to: a line for each attempt, from the first
-/// on; the line of the chapters of the history that ended, where one did; and the line of the pool's totals, which account for each job
+/// on; the line of the chapters of the history that ended, if one did; and the line of the pool's totals, which account for each job
 /// that was grabbed: it runs, was reported or was lost. The exit status is 1 if some round had no plan, and else 0. An unreachable
 /// server, a bad status text or a refused call is reported in the attempt's line; the exit status stays 0.
 ///
-/// Faults are looked for in the settings, before anything is dialled. Where memory is refused, or a thread, so that the run cannot go on,
+/// Faults are looked for in the settings, before anything is dialled. If memory is refused, or a thread, so that the run cannot go on,
 /// the sessions are ended and the fault is `Memory`. Nothing is written before the run has ended: after a `WriteFault`, which comes
-/// only where the sink failed, a front of the text was written and not all of it, and after any other fault nothing.
+/// only if the sink failed, a prefix of the text was written and not all of it, and after any other fault nothing.
 ///
 /// It returns once all sessions have ended, so it waits for jobs that are running.
 pub fn run_rounds<H: Host, S: Sink>(

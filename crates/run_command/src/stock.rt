@@ -67,7 +67,7 @@ fn named(alloc: Global, job: StockJob) -> Result<(Vec<u8>, StockJob), AllocError
     Ok((Vec::from_slice(alloc, job.name().as_bytes())?, job))
 }
 
-/// The three jobs by name. The only error is want of memory.
+/// The three jobs by name. The only error is out of memory.
 pub fn stock_jobs(alloc: Global) -> Result<JobTable<StockJob>, AllocError>
     ensures { IfOk result (λ table. (name input : List ℕ) → ⟦<JobTable<StockJob> as Jobs>⟧.told table name input
         ≡ spec.told_by_name name input) }

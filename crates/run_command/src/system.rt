@@ -16,7 +16,7 @@ const WATCH: &str = "POOLMAN_WATCH";
 
 /// The system as the host of a run: its threads, TCP, its monotonic clock, and its standard error.
 ///
-/// Each attempt's line is written to standard error when it is made, where the run is watched, and else nothing is. A line that cannot be
+/// Each attempt's line is written to standard error when it is made, if the run is watched, and else nothing is. A line that cannot be
 /// written is left out.
 #[derive(Drop)]
 pub struct System<R> {
@@ -25,7 +25,7 @@ pub struct System<R> {
 }
 
 impl<R: Env + Alloc> System<R> {
-    /// The system, whose runs are watched where the variable `POOLMAN_WATCH` is `1`.
+    /// The system, whose runs are watched if the variable `POOLMAN_WATCH` is `1`.
     pub fn new(rt: R) -> System<R> {
         let is_watched = match env::var(&rt, WATCH) {
             Ok(value) => value.as_str() == "1",

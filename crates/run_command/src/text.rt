@@ -51,7 +51,7 @@ fn some_lack_a_plan(attempts: &[Attempt]) -> bool
     attempts.iter().any(|attempt| has_no_plan(attempt))
 }
 
-/// 1 where some round had no plan, and else 0.
+/// 1 if some round had no plan, and else 0.
 pub fn status_after(attempts: &[Attempt]) -> u8
     ensures { result ≡ spec.status_after attempts.now }
 {

@@ -88,8 +88,8 @@ impl Pool {
     /// One round: the live workers get a plan of the least backlog, or there is no plan, for the load of now. It is always
     /// decided.
     ///
-    /// It is `view`, `solve` and `adopt` in one event. An order whose function stays keeps its round number. Where there is no
-    /// plan, the orders and the previous plan stay as they are. Where the previous plan, cut to live workers and permitted
+    /// It is `view`, `solve` and `adopt` in one event. An order whose function stays keeps its round number. If there is no
+    /// plan, the orders and the previous plan stay as they are. If the previous plan, cut to live workers and permitted
     /// functions, is best and leaves nobody idle who may do a function below its greatest number, it is the round's plan.
     ///
     /// Refused, in this order, as `NoLoad`, `HistoryFull` or `Memory`.
@@ -114,7 +114,7 @@ impl Pool {
         rounds::is_input(&self.settings, &self.slots, load, input)
     }
 
-    /// Takes over an answer that was found elsewhere, where its input is, by value, the one that `view` would give now.
+    /// Takes over an answer that was found elsewhere, if its input is, by value, the one that `view` would give now.
     ///
     /// Refused, in this order, as `NoLoad`, `Stale`, `HistoryFull` or `Memory`.
     pub fn adopt(&mut self, certified: Certified) -> Result<Ran, AdoptError>

@@ -89,7 +89,7 @@ impl Pool {
         self.events.push_reserved(Event::Lost { worker, cause });
     }
 
-    /// Loses a worker, and with it the job that it had. The pass is spent, also where it is refused. It takes no memory and needs
+    /// Loses a worker, and with it the job that it had. The pass is spent, also if it is refused. It takes no memory and needs
     /// no room, and is refused as `Gone` alone.
     pub fn lose(&mut self, pass: Pass, cause: Cause) -> Result<(), LoseError>
         ensures { Loses pass cause self.old self.new result }
@@ -124,7 +124,7 @@ impl Pool {
         }
     }
 
-    /// Loses the worker of that generation where its job is late, unless the report has begun: where the time of the grab and the
+    /// Loses the worker of that generation if its job is late, unless the report has begun: if the time of the grab and the
     /// job timeout add up to no more than now. It takes no memory and needs no room.
     ///
     /// Refused, in this order, as `Gone`, `NoJob`, `Reporting` or `NotLate`.
