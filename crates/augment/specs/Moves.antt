@@ -5,7 +5,7 @@ use Rattle.round_arena.specs.declared.tables.Pairs.{Pairs}
 use Rattle.round_arena.specs.Plan.{count_on}
 use Rattle.augment.specs.Tree.{IsTree, AreClosed}
 
--- 1 where the numbers are equal, else 0
+-- 1 if the numbers are equal, else 0
 abbrev pub one_if_equal : ℕ → ℕ → ℕ
 one_if_equal a b = if nat_eq a b then 1 else 0
 

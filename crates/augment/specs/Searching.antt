@@ -66,7 +66,7 @@ pub record IsStaffed (pairs : Pairs) (need owner count : List ℕ) (tree : Tree)
 abbrev pub HasNeeds : List ℕ → List ℕ → Type 0
 HasNeeds need owner = (f : ℕ) → f < length need → slice_index need f ≤ count_on owner f
 
--- The set is short of workers, whatever permissions the pairs stand for.
+-- The set is short of workers, whatever permissions the pairs mean.
 abbrev pub ShowsShort : Pairs → ℕ → List ℕ → List ℕ → Type 0
 ShowsShort pairs staff need set =
     (permits : ℕ → ℕ → Bool) (machines : List ℕ) → length machines ≡ staff → Represents permits machines pairs (length need)

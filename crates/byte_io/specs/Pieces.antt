@@ -12,7 +12,7 @@ met_then first next = record {
   has_ended = next.has_ended;
 }
 
--- what was met where these bytes came after so many timeouts
+-- what was met if these bytes came after so many timeouts
 abbrev pub brought : List ℕ → ℕ → Bool → Met
 brought bytes lulls ended = record { bytes = bytes; lulls = lulls; failures = 0; has_ended = ended }
 
@@ -21,12 +21,12 @@ abbrev pub IsGivenUp : ℕ → Met → Type 0
 IsGivenUp before met =
     (met.bytes ≡ []) × (((met.failures ≡ 1) × (before + met.lulls ≤ 64)) ⊎ ((met.failures ≡ 0) × (before + met.lulls ≡ 65)))
 
--- What was met where these bytes came, or the end, in a call that had so many timeouts before and has so many behind it.
+-- What was met if these bytes came, or the end, in a call that had so many timeouts before and has so many after it.
 abbrev pub Came : ℕ → Met → List ℕ → Bool → ℕ → Type 0
 Came before met bytes ended after =
     (met.bytes ≡ bytes) × (met.failures ≡ 0) × (met.has_ended ≡ ended) × (before + met.lulls ≡ after) × (after ≤ 64)
 
--- What reading a piece met: the timeouts of the call before it, the buffer and the answer, and the timeouts behind it.
+-- What reading a piece met: the timeouts of the call before it, the buffer and the answer, and the timeouts after it.
 abbrev pub IsPiece : ℕ → Met → List ℕ → Result (Option ℕ) DeviceFault → ℕ → Type 0
 IsPiece before met buffer (Ok (Some n)) after = (1 ≤ n) × (n ≤ length buffer) × Came before met (take n buffer) false after
 IsPiece before met buffer (Ok None) after = Came before met [] true after

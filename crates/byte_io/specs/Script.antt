@@ -6,8 +6,8 @@ use Rattle.byte_io.specs.declared.device.DeviceFault.{DeviceFault}
 use Rattle.byte_io.specs.declared.device.Took.{Took}
 use Rattle.byte_io.specs.declared.device.Took.TheVariants as took
 
--- What is read: the pieces, of which one without bytes is a lull; how many of them are done; how many bytes of the next were given;
--- how many lulls were told; and whether the last read found the end. What is written, and how many bytes a write takes at most. For
+-- What is read: the pieces, of which one without bytes is a timeout; how many of them are done; how many bytes of the next were given;
+-- how many timeouts were reported; and whether the last read found the end. What is written, and how many bytes a write takes at most. For
 -- each side the calls before the one that is to fail, and how many failed.
 pub record Play : Type 0 where
   pub pieces : List (List ℕ)
@@ -22,7 +22,7 @@ pub record Play : Type 0 where
   pub sound_gives : Option ℕ
   pub give_failures : ℕ
 
--- the piece that is next, and none behind the last
+-- the piece that is next, and none after the last
 abbrev pub next_piece : Play → List ℕ
 next_piece p = get_or p.pieces p.next []
 
@@ -48,7 +48,7 @@ first_play = record {
   give_failures = 0;
 }
 
--- the bytes that were given: the pieces that are done, and the front of the next
+-- the bytes that were given: the pieces that are done, and a prefix of the next
 abbrev pub given : Play → List ℕ
 given p = concat (take p.next p.pieces) ++ take p.at (next_piece p)
 
@@ -76,8 +76,8 @@ GoesOn p n new =
     ((p.at + n < length (next_piece p)) × (new ≡ record p { at = p.at + n }))
     ⊎ ((p.at + n ≡ length (next_piece p)) × (new ≡ record p { next = p.next + 1; at = 0 }))
 
--- The script before a read, the buffer and the answer of the read, and the script after it. The stated call fails, and no other. Behind the
--- last piece is the end. A piece without bytes is one lull. Of another piece as many bytes are given as are left and have room.
+-- The script before a read, the buffer and the answer of the read, and the script after it. The stated call fails, and no other. After the
+-- last piece is the end. A piece without bytes is one timeout. Of another piece as many bytes are given as are left and have room.
 abbrev pub Reads : Play → List ℕ → Result Took DeviceFault → Play → Type 0
 Reads old buffer (Err f) new = (fails old.sound_takes ≡ true) × (new ≡ record (read_once old) { take_failures = old.take_failures + 1 })
 Reads old buffer (Ok took.Ended) new =
@@ -93,7 +93,7 @@ Reads old buffer (Ok (took.Bytes n)) new =
 abbrev pub written_once : Play → Play
 written_once p = record p { sound_gives = one_less p.sound_gives }
 
--- The same of a write. It takes as many bytes as there are, up to the stated number. It fails where it was to, or where the growth of
+-- The same of a write. It takes as many bytes as there are, up to the stated number. It fails if it was to, or if the growth of
 -- the output is refused, and takes none.
 abbrev pub Writes : Play → List ℕ → Result ℕ DeviceFault → Play → Type 0
 Writes old bytes (Err f) new = new ≡ record (written_once old) { give_failures = old.give_failures + 1 }

@@ -1,7 +1,7 @@
--- What a device tells of its two sides, and what one call meets there.
+-- What a device reports of its two sides, and what one call meets there.
 use Rattle.std.specs.Prelude.{ℕ, ◌≡◌, ◌+◌, ◌<◌, ◌≤◌, ◌⊎◌, List, ◌++◌, Bool, false, Option, None, length, option_map, take}
 
--- What was read: the bytes that it gave so far, in order, and how many lulls there were, each where it tells them; how often a read
+-- What was read: the bytes that it gave so far, in order, and how many timeouts there were, each only if it reports them; how often a read
 -- failed; and whether the last read found the end, which is false before the first.
 pub record Input : Type 0 where
   pub given : Option (List ℕ)
@@ -9,7 +9,7 @@ pub record Input : Type 0 where
   pub failures : ℕ
   pub has_ended : Bool
 
--- What was written: the bytes that it took so far, in order, where it tells them, and how often a write failed.
+-- What was written: the bytes that it took so far, in order, only if it reports them, and how often a write failed.
 pub record Output : Type 0 where
   pub got : Option (List ℕ)
   pub failures : ℕ
@@ -21,17 +21,17 @@ no_input = record { given = None; lulls = None; failures = 0; has_ended = false 
 abbrev pub no_output : Output
 no_output = record { got = None; failures = 0 }
 
--- what a device that tells its bytes has told, and these more
+-- what a device that reports its bytes has reported, and these more
 abbrev pub and_then : Option (List ℕ) → List ℕ → Option (List ℕ)
 and_then before more = option_map (λ bytes. bytes ++ more) before
 
--- what a device that tells its lulls has told, and so many more
+-- what a device that reports its timeouts has reported, and so many more
 abbrev pub counted : Option ℕ → ℕ → Option ℕ
 counted before more = option_map (λ n. n + more) before
 
 -- ---- reading
 
--- What one call met at its source: the bytes that it took, in order, the lulls, the reads that failed, and whether the last read found
+-- What one call met at its source: the bytes that it took, in order, the timeouts, the reads that failed, and whether the last read found
 -- the end.
 pub record Met : Type 0 where
   pub bytes : List ℕ
@@ -45,11 +45,11 @@ Meets old met new =
     (new.given ≡ and_then old.given met.bytes) × (new.lulls ≡ counted old.lulls met.lulls)
     × (new.failures ≡ old.failures + met.failures) × (new.has_ended ≡ met.has_ended)
 
--- no read failed, and no more lulls came than one call waits out
+-- no read failed, and no more timeouts came than one call waits out
 abbrev pub Undisturbed : Met → Type 0
 Undisturbed met = (met.failures ≡ 0) × (met.lulls ≤ 64)
 
--- a read failed, or the source lulled for the 65th time
+-- a read failed, or the source timed out for the 65th time
 abbrev pub GaveUp : Met → Type 0
 GaveUp met = (met.failures ≡ 1) ⊎ (met.lulls ≡ 65)
 
@@ -59,7 +59,7 @@ GaveUp met = (met.failures ≡ 1) ⊎ (met.lulls ≡ 65)
 abbrev pub HasText : Output → List ℕ → Output → Type 0
 HasText old text new = (new.got ≡ and_then old.got text) × (new.failures ≡ old.failures)
 
--- The same where a write failed: it has a front of so many bytes, and not the whole text.
+-- The same if a write failed: it has a prefix of so many bytes, and not the whole text.
 abbrev pub HasFront : Output → List ℕ → ℕ → Output → Type 0
 HasFront old text count new =
     (new.got ≡ and_then old.got (take count text)) × (count < length text) × (new.failures ≡ old.failures + 1)

@@ -21,17 +21,17 @@ named (Replay settings) = replay settings.now
 named (Settings settings) = show_settings settings.now
 named (Run settings rounds) = run settings.now rounds
 
--- the rounds of a run, where the command is one, are neither too few nor too many
+-- the rounds of a run, if the command is one, are neither too few nor too many
 abbrev pub HasRoundsInRange : Command → Type 0
 HasRoundsInRange (Run settings rounds) = (least_rounds ≤ rounds) × (rounds ≤ most_rounds)
 HasRoundsInRange _ = Unit {0}
 
--- this error of `clap`, or want of memory where it is one of that
+-- this error of `clap`, or out of memory if it is that
 abbrev pub Tells : Error → CommandError → Type 0
 Tells error (Usage told) = (told ≡ error) × (kind_of error ≢ OutOfMemory)
 Tells error Memory = kind_of error ≡ OutOfMemory
 
--- an error of `clap` of one of these kinds, or want of memory
+-- an error of `clap` of one of these kinds, or out of memory
 abbrev pub IsOfKinds : Kinds → CommandError → Type 0
 IsOfKinds kinds (Usage error) = IsAmong (kind_of error) kinds
 IsOfKinds kinds Memory = Unit {0}

@@ -147,7 +147,7 @@ replay_in rows = option_map replay (first_of settings rows)
 abbrev pub settings_in : List Row → Option Named
 settings_in rows = option_map show_settings (first_of settings rows)
 
--- the number that a text writes in decimal digits, of which a `+` may stand in front
+-- the number that a text writes in decimal digits, of which a `+` may come first
 abbrev pub decimal : Text → ℕ
 decimal text = digits_value 10 (without_leading_plus text)
 
@@ -217,7 +217,7 @@ faults_of_sizes words name =
     else faults_without_input words name)
 
 -- What is wrong with words that have this name of a command: the kinds of the first fault that `clap` finds in them from the name on,
--- and nothing where they are taken.
+-- and nothing if they are taken.
 abbrev pub faults_as : List Text → Text → Kinds
 faults_as words name =
     if bytes_eq name (codes "plan") then fault_of plan_app (drop 1 words)

@@ -248,11 +248,11 @@ fn command_named<'a, W: AsStr>(
 }
 
 /// The command that the words ask for. The first word is the program's name and the second the
-/// command's. `Usage` comes only if `clap` finds a fault in the words, help that they ask for included: it
+/// command's. `Usage` comes if `clap` finds a fault in the words, help that they ask for included: it
 /// is of the kind of the first one, and holds the text to print. So it is if ROUNDS is no whole number from
 /// 1 to 65,536 in decimal, of which a `+` may come first: of the kind `ValueValidation`, or
-/// `UnknownArgument` if the word is read as an option, since it begins with `-`. If BACKLOG is neither `-` nor a number from 1 to
-/// 4,294,967,295 in decimal without leading zeros, the fault is of the kind `ValueValidation`; it comes only if `clap` finds no other.
+/// `UnknownArgument` if the word is read as an option, since it begins with `-`. If `clap` finds no fault, only a BACKLOG that is
+/// neither `-` nor a number from 1 to 4,294,967,295 in decimal without leading zeros gives `Usage`, of the kind `ValueValidation`.
 pub fn command_of<'a, W: AsStr>(alloc: Global, words: &'a [W]) -> Result<Command<'a>, CommandError>
     ensures ok { IfOk result (λ c. spec.command_in (map W.text words.now) ≡ Some (named c)) }
     ensures taken { IfOk result (λ _. spec.faults_in (map W.text words.now) ≡ []) }

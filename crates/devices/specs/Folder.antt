@@ -23,8 +23,8 @@ IsOpenFile unknown left = Unit {0}
 IsOpenFile absent left = ⊥
 IsOpenFile (holds all) left = left ≡ Some all
 
--- A file of which this is known is not opened, with an error of this kind. One that is known to be there fails to open for want of
--- memory alone.
+-- A file of which this is known is not opened, with an error of this kind. One that is known to be there fails to open only when out of
+-- memory.
 abbrev pub IsUnopened : Known → ErrorKind → Type 0
 IsUnopened (holds all) kind = kind ≡ OutOfMemory
 IsUnopened known kind = Unit {0}

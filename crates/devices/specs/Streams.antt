@@ -3,7 +3,7 @@ use Rattle.std.specs.Io.KnownBytes.{Appends, Consumes, IsAtEnd}
 use Rattle.std.specs.Prelude.{◌≡◌, ◌-◌, ℕ, Bool, false, true, List, [], length, take, Option, None, Some, option_map}
 use Rattle.byte_io.specs.Sides.{Input, Output}
 
--- what a reader has given that told from the start what it has left: what is in front of what it has left now
+-- what a reader has given that reported from the start what it has left: what is before what it has left now
 abbrev pub given_of : Option (List ℕ) → Option (List ℕ) → Option (List ℕ)
 given_of None left = None
 given_of (Some all) None = None
@@ -13,11 +13,11 @@ given_of (Some all) (Some left) = Some (take (length all - length left) all)
 abbrev pub first_input : Option (List ℕ) → Input
 first_input left = record { given = option_map (λ all. []) left; lulls = Some 0; failures = 0; has_ended = false }
 
--- What a reader has left is what it had at the start without a front, and nothing once it has ended.
+-- What a reader has left is what it had at the start without a prefix, and nothing once it has ended.
 abbrev pub IsLeft : Option (List ℕ) → Option (List ℕ) → Bool → Type 0
 IsLeft first left ended = ((front : List ℕ) × Consumes first left front) × (ended ≡ true → IsAtEnd left)
 
--- what a writer holds that told it from the start
+-- what a writer holds that reported it from the start
 abbrev pub held_of : Option (List ℕ) → Option (List ℕ) → Option (List ℕ)
 held_of None now = None
 held_of (Some first) now = now

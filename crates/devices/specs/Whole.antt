@@ -17,7 +17,7 @@ abbrev pub IsWhole : Met → Type 0
 IsWhole met = (length met.bytes ≤ limit) × (met.has_ended ≡ true) × Undisturbed met
 
 -- Why not all bytes were taken: they go above the limit, by no more than the 4,096 bytes of one read; or the source gave up before
--- that. Want of memory is no fault of the source.
+-- that. Out of memory is no fault of the source.
 abbrev pub IsNotWhole : Met → InputError → Type 0
 IsNotWhole met error.TooLong = (limit < length met.bytes) × (length met.bytes ≤ limit + 4096) × Undisturbed met
 IsNotWhole met error.ReadFault = (length met.bytes ≤ limit) × GaveUp met

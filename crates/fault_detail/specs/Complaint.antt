@@ -8,7 +8,7 @@ use Rattle.fault_detail.specs.Detail.{IsDetail, Names}
 use Rattle.fault_detail.specs.declared.complaint.Reader.{Reader}
 use Rattle.fault_detail.specs.declared.complaint.Reader.TheVariants as reader
 
--- A sink has the text, or a front of it where a write failed.
+-- A sink has the text, or a prefix of it if a write failed.
 abbrev pub SaysLine : List ℕ → Output → Output → Type 0
 SaysLine text old new = HasText old text new ⊎ ((count : ℕ) × HasFront old text count new)
 

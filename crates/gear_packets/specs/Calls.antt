@@ -5,7 +5,7 @@ use Rattle.gear_packets.specs.Response.{Message, waits, first_response}
 use Rattle.gear_packets.specs.Text.{Reading, unread, reading, behind, after_message, further}
 use Rattle.gear_packets.specs.Reading.{nothing_read}
 
--- A piece that was fed, or a response that was given. A piece that was refused for want of memory changed
+-- A piece that was fed, or a response that was given. A piece that was refused since memory ran out changed
 -- nothing, and is no call.
 pub data Call : Type 0 where
   fed : List ℕ → Call
@@ -36,7 +36,7 @@ Leads from (gave m ∷ calls) to = (next : Reading) × (from ≡ after_message m
 -- ---- laws
 
 -- However the stream was cut, and whenever the responses were taken: those that were given, those that are still to
--- be given, and the rest or the fault behind them are what the stream so far says.
+-- be given, and the rest or the fault after them are what the stream so far says.
 abbrev pub GivesItsStream : Type 0
 GivesItsStream = (calls : List Call) (reader : Reading)
     → Leads nothing_read calls reader → reading (stream calls) ≡ behind (responses calls) reader

@@ -29,12 +29,12 @@ kind_at bytes = big_number 4 (drop 4 bytes)
 abbrev pub size_at : List ℕ → ℕ
 size_at bytes = big_number 4 (drop 8 bytes)
 
--- what stands at the front of a text
+-- what is at the start of a text
 pub data Front : Type 0 where
   wrong_magic : Front
   too_large : Front
   unfinished : Front
-  -- a packet's type and body, and the text behind it
+  -- a packet's type and body, and the text after it
   framed : ℕ → List ℕ → List ℕ → Front
 
 unfoldable pub front : List ℕ → List ℕ → Front
@@ -48,7 +48,7 @@ front magic bytes =
 
 -- ---- laws
 
--- A number below 2 ^ 32 is read back from its four bytes, and four bytes are those of the number that they spell.
+-- A number below 2 ^ 32 is read back from its four bytes, and four bytes are those of the number that they encode.
 abbrev pub FourBytes : Type 0
 FourBytes = ((n : ℕ) → n < 2 ^ 32 → big_number 4 (big_bytes 4 n) ≡ n)
     × ((bytes : List ℕ) → length bytes ≡ 4 → All (λ b. b < 256) bytes → big_bytes 4 (big_number 4 bytes) ≡ bytes)

@@ -27,7 +27,7 @@ request_refusal p =
     if names_nul p then Some NulInArgument else
     None)
 
--- The broken rule that an answer tells. Want of memory tells none.
+-- The broken rule that an answer gives. Out of memory gives none.
 abbrev pub refusal_told : {A : Type 0} → Result A EncodeError → Option EncodeError
 refusal_told (Ok x) = None
 refusal_told (Err TooLarge) = Some TooLarge

@@ -34,7 +34,7 @@ abbrev pub nothing_read : Reading
 nothing_read = record { messages = []; ending = unread [] }
 
 -- What `feed` does. Without memory nothing changes, and no fault was found before. Else the reading goes on by the
--- piece, and a fault is answered exactly where it ends at one.
+-- piece, and a fault is answered exactly if it ends at one.
 abbrev pub Fed : Reading → List ℕ → Result (Unit {0}) FeedError → Reading → Type 0
 Fed old piece (Ok done) new = (new ≡ further old piece) × (fault_of new.ending ≡ None)
 Fed old piece (Err (Fault f)) new = (new ≡ further old piece) × (fault_of new.ending ≡ Some f)

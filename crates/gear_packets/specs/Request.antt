@@ -1,4 +1,4 @@
--- What a worker sends, and how each packet is spelled.
+-- What a worker sends, and how each packet is encoded.
 use Rattle.std.specs.Prelude.{◌≡◌, ℕ, ◌<◌, ◌≤◌, ◌^◌, Bool, false, ◌&&◌, ◌==◌, not, nat_lt, if◌then◌else◌, List, [], ◌∷◌, ◌++◌, length}
 use Rattle.std.specs.Prelude.{Option, Some, None, decimal}
 use Rattle.std.specs.Option.{option_map, option_and_then}
@@ -45,7 +45,7 @@ body_of (work_fail handle) = handle
 body_of (work_data handle bytes) = handle ++ 0 ∷ bytes
 body_of (work_warning handle bytes) = handle ++ 0 ∷ bytes
 
--- the one spelling of a packet
+-- the one encoding of a packet
 abbrev pub spelling : Packet → List ℕ
 spelling p = packet request_magic (kind_of p) (body_of p)
 
@@ -91,14 +91,14 @@ pub record IsSent (p : Packet) : Type 0 where
 
 -- ---- reading them
 
--- up to the first NUL, and behind it
+-- up to the first NUL, and after it
 abbrev pub cut : List ℕ → Option (List ℕ × List ℕ)
 cut bytes = cut_first 0 bytes
 
 abbrev pub is_handle : List ℕ → Bool
 is_handle bytes = nat_lt 0 (length bytes) && nat_lt (length bytes) 64 && not (has_nul bytes)
 
--- a number below 2 ^ 32, spelled as it is written
+-- a number below 2 ^ 32, encoded as it is written
 unfoldable pub number_of : List ℕ → Option ℕ
 number_of text = plain_number_below (2 ^ 32) text
 
@@ -112,7 +112,7 @@ without_body p (b ∷ body) = None
 abbrev pub with_handle : (List ℕ → Packet) → List ℕ → Option Packet
 with_handle make body = if is_handle body then Some (make body) else None
 
--- the handle, and the bytes behind the first NUL
+-- the handle, and the bytes after the first NUL
 abbrev pub handle_and : List ℕ → Option (List ℕ × List ℕ)
 handle_and body = option_and_then (λ p. if is_handle p.0 then Some p else None) (cut body)
 
@@ -125,7 +125,7 @@ work_status_of handle q = option_and_then (λ part. option_map (λ whole. work_s
 abbrev pub with_numbers : List ℕ → Option Packet
 with_numbers body = option_and_then (λ p. option_and_then (work_status_of p.0) (cut p.1)) (handle_and body)
 
--- the packet of a type and a body, where there is one
+-- the packet of a type and a body, if there is one
 unfoldable pub request_of : ℕ → List ℕ → Option Packet
 request_of kind body =
     if kind == 1 then with_name can_do body else (
@@ -146,16 +146,16 @@ request_in too_large = None
 request_in unfinished = None
 request_in (framed kind body rest) = option_map (λ p. (p, rest)) (request_of kind body)
 
--- the packet at the front of a text, and the text behind it
+-- the packet at the start of a text, and the text after it
 unfoldable pub first_request : List ℕ → Option (Packet × List ℕ)
 first_request bytes = request_in (front request_magic bytes)
 
 -- ---- laws
 
--- a spelling is of one packet
+-- an encoding is of one packet
 abbrev pub OneSpelling : Type 0
 OneSpelling = (p q : Packet) → IsSent p → IsSent q → spelling p ≡ spelling q → p ≡ q
 
--- no spelling of a packet begins another
+-- no encoding of a packet begins another
 abbrev pub NoneBeginsAnother : Type 0
 NoneBeginsAnother = (p q : Packet) (x y : List ℕ) → IsSent p → IsSent q → spelling p ++ x ≡ spelling q ++ y → (p ≡ q) × (x ≡ y)

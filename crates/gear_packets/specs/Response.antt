@@ -25,7 +25,7 @@ abbrev pub ◌>>=◌ : {A B : Type 0} → Result A StreamFault → (A → Result
 (Ok x) >>= f = f x
 (Err e) >>= f = Err e
 
--- an argument and what stands behind its NUL
+-- an argument and what comes after its NUL
 abbrev pub argument : List ℕ → Result (List ℕ × List ℕ) StreamFault
 argument body = elim (cut body) [ None ↦ Err BadBody | Some p ↦ Ok p ]
 
@@ -67,7 +67,7 @@ meaning kind body =
     if kind == 31 then job_with_unique body else
     Ok (other kind)))))
 
--- what stands at the front of a stream
+-- what is at the start of a stream
 pub data Next : Type 0 where
   gives : Message → List ℕ → Next
   faulty : StreamFault → Next

@@ -1,4 +1,4 @@
--- What the functions that read a front answer, as the words of the format.
+-- What the functions that read the start of a text answer, as the words of the format.
 use Rattle.std.specs.Prelude.{◌≡◌, ℕ, ◌+◌, ◌-◌, ◌<◌, ◌≤◌, min, nat_lt, if◌then◌else◌, List, length, drop, Result, Ok, Err, Vec}
 use Rattle.std.specs.Prelude.{vec_capacity, vec_len}
 use Rattle.std.specs.declared.alloc.Global.{Global}
@@ -14,7 +14,7 @@ use Rattle.gear_packets.specs.Frame.{Front, wrong_magic, too_large, unfinished, 
 use Rattle.gear_packets.specs.Response.{Message, Next, gives, faulty, waits}
 use Rattle.gear_packets.specs.Reading.{message_of}
 
--- what stands at the front of the bytes
+-- what is at the start of the bytes
 abbrev pub front_of : Frame → List ℕ → Front
 front_of frame.WrongMagic bytes = wrong_magic
 front_of frame.TooLarge bytes = too_large
@@ -44,7 +44,7 @@ IsStepWithin (step.Gives r size) most = (0 < size) × (size ≤ most)
 IsStepWithin (step.Faulty f) most = Unit {0}
 IsStepWithin step.Waits most = Unit {0}
 
--- how many bytes the packet at the front still lacks, as far as its header says
+-- how many bytes the packet at the start still lacks, as far as its header says
 abbrev pub lacks : List ℕ → ℕ
 lacks bytes = if nat_lt (length bytes) 12 then 0 else 12 + size_at bytes - length bytes
 

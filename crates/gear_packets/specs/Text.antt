@@ -60,7 +60,7 @@ assignments bytes = assignments_in (reading bytes).messages
 
 -- ---- what a worker has sent
 
--- the packets at the front of a text, and what stands behind them
+-- the packets at the start of a text, and what comes after them
 pub record Sent : Type 0 where
   pub packets : List Packet
   pub rest : List ℕ

@@ -27,7 +27,7 @@ abbrev pub counts_of : List Line → List ℕ → Option Counts
 counts_of [] name = None
 counts_of (first ∷ rest) name = if bytes_eq name first.0 then Some first.1 else counts_of rest name
 
--- total less running, 0 where running is greater or the name is not there
+-- total less running, 0 if running is greater or the name is not there
 abbrev pub waiting : List Line → List ℕ → ℕ
 waiting lines name = option_map_or (λ c. c.total - c.running) (counts_of lines name) 0
 

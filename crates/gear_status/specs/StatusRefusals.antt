@@ -17,7 +17,7 @@ abbrev pub is_status_memory : StatusError → Bool
 is_status_memory fault.Memory = true
 is_status_memory _ = false
 
--- the line that is refused, where it is one line
+-- the line that is refused, if it is one line
 abbrev pub status_line_of : StatusError → Option ℕ
 status_line_of (fault.BadLine n) = Some n
 status_line_of (fault.BadNumber n) = Some n

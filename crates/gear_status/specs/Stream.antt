@@ -14,7 +14,7 @@ pub record Part : Type 0 where
   pub line : List ℕ
   pub load : List Line
 
--- what the whole text means, where these are the bytes still to come
+-- what the whole text means, if these are the bytes still to come
 abbrev pub meaning_with : Part → List ℕ → Result (List Line) StatusError
 meaning_with p rest = meaning_from p.number (slice_split is_line_feed (p.line ++ rest)) p.load
 
@@ -37,20 +37,20 @@ LeadsTo old bytes new true = (rest : List ℕ) → meaning_with old (bytes ++ re
 LeadsTo old bytes new false =
     ((rest : List ℕ) → meaning_with old (bytes ++ rest) ≡ meaning_with new rest) × (room new + length bytes ≤ room old)
 
--- a fault that bytes alone decide, or want of memory
+-- a fault that bytes alone decide, or out of memory
 abbrev pub is_verdict : StatusError → Bool
 is_verdict fault.Truncated = false
 is_verdict fault.ReadFault = false
 is_verdict _ = true
 
 -- The last piece has at most 4,096 bytes, nothing before it decides, and the last read did not find the end. Since any read may
--- fail or find the end, a call that promises this makes none behind the piece: it does not read behind the period line, or a fault.
+-- fail or find the end, a call that promises this makes none after the piece: it does not read after the period line, or a fault.
 abbrev pub EndsWithPiece : Met → Type 0
 EndsWithPiece met =
     ((before : List ℕ) × (piece : List ℕ) × (met.bytes ≡ before ++ piece) × (status before ≡ Err fault.Truncated) × (length piece ≤ 4096))
     × (met.has_ended ≡ false)
 
--- What a call may answer that met this. Want of memory comes while a piece is taken in, and nothing before that piece decides.
+-- What a call may answer that met this. Out of memory comes while a piece is taken in, and nothing before that piece decides.
 abbrev pub AnswersStatus : Met → Result (List Line) StatusError → Type 0
 AnswersStatus met (Ok load) = (status met.bytes ≡ Ok load) × EndsWithPiece met × Undisturbed met
 AnswersStatus met (Err fault.Memory) = EndsWithPiece met × Undisturbed met

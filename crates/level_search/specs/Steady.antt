@@ -13,7 +13,7 @@ abbrev pub HasPlan : List (ℕ × Option ℕ) → Answer → Type 0
 HasPlan entries (Planned plan backlog short) = plan ≡ entries
 HasPlan entries (NoPlan set) = ⊥
 
--- Where the previous plan, cut to live workers, permitted functions and greatest numbers, is best and full, it is the answer's plan.
+-- If the previous plan, cut to live workers, permitted functions and greatest numbers, is best and full, it is the answer's plan.
 abbrev pub IsSteady : Instance → List (ℕ × Option ℕ) → Answer → Type 0
 IsSteady i previous answer =
     IsBest i (assigned (cut_plan i previous)) → IsTrue (is_full i (assigned (cut_plan i previous))) → HasPlan (cut_plan i previous) answer

@@ -1,4 +1,4 @@
--- The rule of a board's words, and what its four kinds of step tell.
+-- The rule of a board's words, and what its four kinds of step say.
 use Rattle.std.specs.Prelude.{◌≡◌, ℕ, ◌<◌, List, [], ◌∷◌, ◌++◌, length, slice_index, replicate}
 use lib.ListN.{get_elem?}
 use mathlib.Core.Option.{some}

@@ -22,7 +22,7 @@ use Rattle.plan_commands.specs.declared.fault.Fault.{Fault}
 use Rattle.plan_commands.specs.declared.fault.Fault.TheVariants as fault
 use Rattle.plan_commands.specs.declared.problem.Problem.{Problem}
 
--- What a report is that tells this answer: it is shown and the text is its report, it is shown and the text is another, or it is not shown.
+-- What a report is that gives this answer: it is shown and the text is its report, it is shown and the text is another, or it is not shown.
 abbrev pub Finds : Problem → List ℕ → Answer → Verdict → Type 0
 Finds p given_text answer verdict.Shown = Shown p.input answer × (given_text ≡ report_text p.settings p.input answer)
 Finds p given_text answer verdict.OtherText = Shown p.input answer × (given_text ≢ report_text p.settings p.input answer)
@@ -33,7 +33,7 @@ verdict_line verdict.Shown = codes "shown" ++ 10 ∷ []
 verdict_line verdict.OtherText = codes "not shown 7 Text" ++ 10 ∷ []
 verdict_line (verdict.NotShown reason) = codes "not shown " ++ label_words (reason_label reason) ++ 10 ∷ []
 
--- 0 where it is shown
+-- 0 if it is shown
 abbrev pub verdict_status : Verdict → ℕ
 verdict_status verdict.Shown = 0
 verdict_status verdict.OtherText = 1
@@ -46,7 +46,7 @@ Judges p given_text (Err (fault.Report e)) = meaning p.settings given_text ≡ E
 Judges p given_text (Err fault.Memory) = Unit {0}
 Judges p given_text (Err other) = ⊥
 
--- Where there is a problem: what is found of the report that was met, or the first fault of the source and of the report. Where there is
+-- If there is a problem: what is found of the report that was met, or the first fault of the source and of the report. If there is
 -- none: the fault that it is not posed by, and nothing is read.
 abbrev pub Examines : Result Problem Fault → Met → Result Verdict Fault → Type 0
 Examines (Ok p) met (Ok found) = IsWhole met × Judges p met.bytes (Ok found)

@@ -10,7 +10,7 @@ use Rattle.plan_commands.specs.declared.fault.Fault.TheVariants.{WriteFault}
 abbrev pub Stops : Fault → Output → Output → Exit → Type 0
 Stops fault old new exit = (new ≡ old) × (exit ≡ refused fault)
 
--- The text is written, and then the command ends as it would; or a write fails, the sink has a front of the text and not all of it, and
+-- The text is written, and then the command ends as it would; or a write fails, the sink has a prefix of the text and not all of it, and
 -- the command ends by that.
 abbrev pub Delivers : List ℕ → Exit → Output → Output → Exit → Type 0
 Delivers text done old new exit =

@@ -18,7 +18,7 @@ use Rattle.plan_commands.specs.declared.fault.Fault.{Fault}
 use Rattle.plan_commands.specs.declared.fault.NamedFile.{NamedFile}
 use Rattle.plan_commands.specs.declared.fault.Fault.TheVariants as fault
 
--- 3 where input is refused, 4 where memory or a device failed
+-- 3 if input is refused, 4 if memory or a device failed
 abbrev pub input_status : InputError → ℕ
 input_status input.TooLong = 3
 input_status _ = 4
@@ -30,7 +30,7 @@ status_of fault.WriteFault = 4
 status_of fault.Memory = 4
 status_of _ = 3
 
--- ` line L`, where a fault has one line
+-- ` line L`, if a fault has one line
 abbrev pub on_line : Option ℕ → List ℕ
 on_line (Some line) = codes " line " ++ decimal line
 on_line None = []
@@ -55,7 +55,7 @@ fault_line fault.ReadFault = input_words input.ReadFault
 fault_line fault.WriteFault = codes "device 2 WriteFault"
 fault_line fault.Memory = codes "memory"
 
--- Want of memory is one fault, whoever meets it.
+-- Out of memory is one fault, whoever meets it.
 abbrev pub status_fault : StatusError → Fault
 status_fault status.ReadFault = fault.ReadFault
 status_fault status.Memory = fault.Memory

@@ -25,11 +25,11 @@ HaveMeaning settings_text = (settings : Settings) × (reading settings_text ≡ 
 abbrev pub AreRight : Result Settings Fault → List (List ℕ) → Type 0
 AreRight settings lost = (s : Settings) × (settings ≡ Ok s) × (are_workers s lost ≡ true)
 
--- The source failed, or lulled for the 65th time, before its bytes decided anything.
+-- The source failed, or timed out for the 65th time, before its bytes decided anything.
 abbrev pub IsReadFault : Met → Type 0
 IsReadFault met = (status met.bytes ≡ Err Truncated) × GaveUp met
 
--- The bytes were taken up to the piece that decides, and none behind it, no more than the limit of them.
+-- The bytes were taken up to the piece that decides, and none after it, no more than the limit of them.
 abbrev pub IsDecided : Met → Type 0
 IsDecided met = EndsWithPiece met × (length met.bytes ≤ limit) × Undisturbed met
 
@@ -41,7 +41,7 @@ ReadsTo (fault.Status e) met = IsDecided met
 ReadsTo fault.TooLong met = (length met.bytes ≡ limit + 1) × Undisturbed met
 ReadsTo f met = IsUntouched met
 
--- the load of what was met, or why there is none; where memory is refused, nothing before the last piece decided
+-- the load of what was met, or why there is none; if memory is refused, nothing before the last piece decided
 abbrev pub GivesLoad : Met → Result (List Line) Fault → Type 0
 GivesLoad met (Ok load) = (load_within met.bytes ≡ Ok load) × IsDecided met
 GivesLoad met (Err fault.Memory) = IsDecided met
@@ -50,7 +50,7 @@ GivesLoad met (Err fault.WriteFault) = ⊥
 GivesLoad met (Err f) = (load_within met.bytes ≡ Err f) × ReadsTo f met
 
 -- the problem that the settings which were read, lost workers and what was met at the source of the status text pose, or why there is
--- none; where memory is refused, nothing was read, or nothing before the last piece decided
+-- none; if memory is refused, nothing was read, or nothing before the last piece decided
 abbrev pub PosesBy : Result Settings Fault → List (List ℕ) → Met → Result Problem Fault → Type 0
 PosesBy settings lost met (Ok posed) = (problem settings lost (load_within met.bytes) ≡ Ok posed) × IsDecided met
 PosesBy settings lost met (Err fault.Memory) = IsUntouched met ⊎ IsDecided met

@@ -32,7 +32,7 @@ abbrev pub problem_of : Settings → List (List ℕ) → List Line → Problem
 problem_of settings lost load =
     record { settings = settings; input = instance_of settings (live_marks settings lost) (waiting_of settings load) }
 
--- a value, or the fault that stands for its error
+-- a value, or the fault of its error
 abbrev pub or_fault : {A E : Type 0} → (E → Fault) → Result A E → Result A Fault
 or_fault fault_of (Ok value) = Ok value
 or_fault fault_of (Err error) = Err (fault_of error)

@@ -1,4 +1,4 @@
--- What is wrong with an answer, as a line tells it: a number and a name. The numbers rise in the order in which `check` looks;
+-- What is wrong with an answer, as a line gives it: a number and a name. The numbers rise in the order in which `check` looks;
 -- 7 is left out, since the command `check` has a reason of that number.
 use Rattle.std.specs.Prelude.{codes}
 use Rattle.refusal.specs.Label.{Label, label}

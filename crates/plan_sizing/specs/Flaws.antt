@@ -1,4 +1,4 @@
--- What is wrong with a size, and why no addition serves, as a line tells it: a number and a name. The flaws' numbers rise in the order in
+-- What is wrong with a size, and why no addition serves, as a line gives it: a number and a name. The flaws' numbers rise in the order in
 -- which `check_size` looks; 7 is left out for a text that is not the one of its size.
 use Rattle.std.specs.Prelude.{codes}
 use Rattle.refusal.specs.Label.{Label, label}

@@ -17,7 +17,7 @@ pub record AreScores (i : Instance) (lacks scores : List ℕ) : Type 0 where
   pub many : length scores ≡ length i.may
   pub each : (machine : ℕ) → machine < length i.may → slice_index scores machine ≡ score i lacks machine
 
--- Of the machines below a number, the one with the greatest score that may do the function; none where no machine may.
+-- Of the machines below a number, the one with the greatest score that may do the function; none if no machine may.
 abbrev pub IsBestBelow : Instance → List ℕ → ℕ → ℕ → Option ℕ → Type 0
 IsBestBelow i scores f end None = (machine : ℕ) → machine < end → may_do i machine f ≡ false
 IsBestBelow i scores f end (Some best) =
@@ -36,7 +36,7 @@ pub record Adds (i : Instance) (lacks : List ℕ) (f many : ℕ) (old new : List
   pub added : new ≡ old ++ replicate many (machine, f)
   pub best : 0 < many → IsBestFor i lacks f machine
 
--- Where a function lacks workers, some machine may do it.
+-- If a function lacks workers, some machine may do it.
 abbrev pub AreKnown : Instance → List ℕ → Type 0
 AreKnown i lacks = (f : ℕ) → f < length lacks → 0 < slice_index lacks f → is_known_to i f ≡ true
 
@@ -83,6 +83,6 @@ pub record IsLeft (farm : Farm) (entries : List (ℕ × Option ℕ)) (set lacks 
   pub plan : entries ≡ plan_of tables
   pub short : IsShortBy farm (sum lacks) set
 
--- The set that stands beside an addition of so many workers.
+-- The set that accompanies an addition of so many workers.
 abbrev pub evidence : ℕ → List ℕ → Option (List ℕ)
 evidence many set = if nat_lt 0 many then Some set else None

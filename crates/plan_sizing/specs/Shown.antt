@@ -54,7 +54,7 @@ Right farm (Enough added entries short) = IsLeast farm added (assigned entries) 
 Right farm (Never obstacle) = (added : List ℕ) (plan : Assignment) → ¬ Serves farm added plan
 Right farm (TooMany many set) = NeedsSoMany farm many × (4096 < farm.slots + many)
 
--- The given set is not short by just so many workers, or stands beside an addition of nobody.
+-- The given set is not short by just so many workers, or accompanies an addition of nobody.
 abbrev pub IsBadSet : Farm → ℕ → Option (List ℕ) → Type 0
 IsBadSet farm many None = ⊥
 IsBadSet farm many (Some set) = ¬ ((0 < many) × IsShortBy farm many set)

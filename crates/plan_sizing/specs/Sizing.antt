@@ -27,8 +27,8 @@ pub record IsFarm (farm : Farm) : Type 0 where
   pub some : IfSome farm.level (λ level. 0 < level)
   pub small : IfSome farm.level (λ level. level < 2 ^ 32)
 
--- An addition is a list of further live workers, each given by its machine. The first of them has the slot behind the farm's last, and
--- each other the slot behind the one before it.
+-- An addition is a list of further live workers, each given by its machine. The first of them has the slot after the farm's last, and
+-- each other the slot after the one before it.
 abbrev pub grown : Farm → List ℕ → Instance
 grown farm added = record {
   live = farm.problem.live ++ enumerate_from farm.slots added;
@@ -47,7 +47,7 @@ abbrev pub IsWithin : Option ℕ → ℕ → Type 0
 IsWithin None cost = Unit {0}
 IsWithin (Some level) cost = cost ≤ level
 
--- A plan of the grown farm serves: it is sound, and all that waits for a function costs no more than the level, also where nobody live
+-- A plan of the grown farm serves: it is sound, and all that waits for a function costs no more than the level, also if nobody live
 -- could do it before.
 pub record Serves (farm : Farm) (added : List ℕ) (plan : Assignment) : Type 0 where
   pub machines : AreMachines farm added
@@ -76,7 +76,7 @@ abbrev pub IsEnough : Farm → ℕ → ℕ → Type 0
 IsEnough farm f n =
     (slice_index farm.problem.least f ≤ n) × IsWithin farm.level (cost (slice_index farm.problem.waiting f) n)
 
--- So many workers are enough for a function exactly where they are its need or more.
+-- So many workers are enough for a function exactly if they are its need or more.
 abbrev pub NeedsAreFewest : Farm → Type 0
 NeedsAreFewest farm = (f n : ℕ) → (need farm f ≤ n → IsEnough farm f n) × (IsEnough farm f n → need farm f ≤ n)
 

@@ -10,7 +10,7 @@ use Rattle.pool_commands.specs.declared.command.Command.TheVariants as command
 use Rattle.worker_state.specs.Causes.{cause_named}
 use Rattle.pool_commands.specs.Words as word
 
--- ---- the forms, by the words behind the first
+-- ---- the forms, by the words after the first
 
 -- no more words
 abbrev pub alone : Command → List (List ℕ) → Option Command

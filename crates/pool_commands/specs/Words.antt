@@ -17,12 +17,12 @@ use Rattle.worker_state.specs.declared.slot.WorkerName.{WorkerName}
 abbrev pub is_space : ℕ → Bool
 is_space b = b == 32
 
--- What stands between the spaces. Two spaces in a row have an empty word between them, a space at an end has one beside it,
+-- What is between the spaces. Two spaces in a row have an empty word between them, a space at an end has one beside it,
 -- and an empty line is one empty word; no form takes an empty word.
 abbrev pub words_of : List ℕ → List (List ℕ)
 words_of line = slice_split is_space line
 
--- the same of what stands behind a space, if there is one
+-- the same of what comes after a space, if there is one
 abbrev pub words_behind : Option (List ℕ) → List (List ℕ)
 words_behind text = option_map_or words_of text []
 

@@ -95,7 +95,7 @@ pub enum Command {
         /// The time of now, in milliseconds of the clock of `grab`.
         now_ms: u64,
     },
-    /// `job TICKET`: how a job stands.
+    /// `job TICKET`: the state of a job.
     Job(Ticket),
     /// `order W`: the order of the slot.
     Order(SlotId),

@@ -1,4 +1,4 @@
-//! The forms that have a fixed number of words, by the words behind the first.
+//! The forms that have a fixed number of words, by the words after the first.
 
 ghost use Rattle.std.specs.Prelude.{◌≡◌, IfOk, IfSome, map};
 ghost use Rattle.pool_commands.specs.Grammar as grammar;
@@ -152,7 +152,7 @@ fn expire_in(settings: &Settings, args: &[&[u8]]) -> Option<Command>
     }
 }
 
-/// The command of a first word and of the words behind it.
+/// The command of a first word and of the words after it.
 pub fn fixed_form(
     alloc: Global,
     settings: &Settings,

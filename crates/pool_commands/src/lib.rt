@@ -24,7 +24,7 @@
 //! | `report P TICKET complete`, or `fail` | the worker has reported its job |
 //! | `lose P CAUSE` | the worker is lost |
 //! | `expire P NOW` | the worker is lost if its job takes too long |
-//! | `job TICKET` | how a job stands |
+//! | `job TICKET` | the state of a job |
 //! | `order W` | the order of the slot |
 //! | `totals` | how many jobs, rounds and events there are |
 //! | `chapter` | the end of the chapter of the history |

@@ -15,7 +15,7 @@ use pool_settings::Settings;
 use std::alloc::{AllocError, Global};
 use text_pieces::cut_first;
 
-/// One more than the words that the longest form of a fixed number of words has behind the first.
+/// One more than the words that the longest form of a fixed number of words has after the first.
 const MOST_ARGS: usize = 5;
 
 /// A name of a load with its numbers of jobs.
@@ -26,7 +26,7 @@ struct Entry<'l> {
     running: u32,
 }
 
-/// The first word of a text, and what stands behind the space after it, if there is one.
+/// The first word of a text, and what comes after the space after it, if there is one.
 fn cut_word(text: &[u8]) -> (&[u8], Option<&[u8]>)
     ensures words { spec.words_of text.now ≡ result.0.now ∷ spec.words_behind (option_map (λ t. t.now) result.1) }
     ensures shorter { IfSome result.1 (λ t. length t.now < length text.now) }
@@ -37,7 +37,7 @@ fn cut_word(text: &[u8]) -> (&[u8], Option<&[u8]>)
     }
 }
 
-/// The first name of a text with its numbers, and what stands behind them.
+/// The first name of a text with its numbers, and what comes after them.
 fn cut_entry(text: &[u8]) -> Option<(Entry<'_>, Option<&[u8]>)>
     ensures entry { MatchOption result
         ((load : List Line) → grammar.load_from load (spec.words_of text.now) ≡ None)
@@ -78,7 +78,7 @@ fn load_in(alloc: Global, text: Option<&[u8]>) -> Result<Option<Load>, AllocErro
     Ok(Some(load))
 }
 
-/// The first words of a text, no more of them than tell whether it has as many as a form of a fixed number of words.
+/// The first words of a text, no more of them than show whether it has as many as a form of a fixed number of words.
 fn first_words<'l>(alloc: Global, text: Option<&'l [u8]>) -> Result<Vec<&'l [u8]>, AllocError>
     ensures { IfOk result (λ words. map (λ w. w.now) words.items ≡ take 5 (spec.words_behind (option_map (λ t. t.now) text.entry))) }
 {
@@ -95,11 +95,11 @@ fn first_words<'l>(alloc: Global, text: Option<&'l [u8]>) -> Result<Vec<&'l [u8]
     Ok(words)
 }
 
-/// The command of a line, without its line feed, under these settings, or `None` where the line is of none of the forms that
-/// [the crate's page](crate) gives. The only error is want of memory.
+/// The command of a line, without its line feed, under these settings, or `None` if the line is of none of the forms that
+/// [the crate's page](crate) gives. The only error is out of memory.
 ///
 /// A slot that the command names, alone or in a worker's name, is one of the settings. Whether such a worker, or such a job,
-/// was ever there is for the pool to tell.
+/// was ever there is for the pool to say.
 ///
 /// It takes memory for the words of a line, five at most, and for the load or the function that the command holds. Its time
 /// grows with the length of the line: a load may have millions of names.

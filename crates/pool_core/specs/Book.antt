@@ -60,7 +60,7 @@ pub record IsStep (event : Event) (old new : Book) : Type 0 where
 abbrev pub has_room : Book → ℕ → Bool
 has_room book q = nat_le (length book.events + owed book.state + q) book.settings.history
 
--- The refusal that is due, want of memory aside: the one of the lowest number.
+-- The refusal that is due, out of memory aside: the one of the lowest number.
 
 abbrev pub join_refusal : Book → ℕ → Option JoinError
 join_refusal book slot =
@@ -77,7 +77,7 @@ grab_refusal book worker =
     else Some grab.HistoryFull)
     else Some grab.Gone
 
--- the ticket was given, and its job stands so
+-- the ticket was given, and its job is in such a state
 abbrev pub stands : (Standing → Bool) → Option Standing → Bool
 stands is_so None = false
 stands is_so (Some standing) = is_so standing
@@ -115,7 +115,7 @@ expire_refusal book worker now =
     then late_refusal book worker now (open_ticket book.state worker)
     else Some expire.Gone
 
--- what a worker is told after a report
+-- what a worker is answered after a report
 abbrev pub stay_or_retire : Book → WorkerName → StayOrRetire
 stay_or_retire book worker =
     if nat_lt (run_count (slot_in book.state.slots worker.slot) + 1) book.settings.max_runs then Stay else Retire
@@ -134,7 +134,7 @@ totals_of book =
       events = length book.events;
     }
 
--- 1 where a live worker got another function
+-- 1 if a live worker got another function
 abbrev pub one_moved : Slot → Order → Order → ℕ
 one_moved slot old new = if is_live slot && not (same_what old.what new.what) then 1 else 0
 
@@ -160,7 +160,7 @@ round_refusal book =
 abbrev pub IsInputOf : Book → Instance → Type 0
 IsInputOf book input = (load : List Line) × (book.state.load ≡ Some load) × (input ≡ input_of book.settings book.state load)
 
--- what a round with this answer tells
+-- what a round with this answer reports
 abbrev pub ran_of : Answer → State → Ran
 ran_of (answers.Planned plan backlog short) state =
     record {
@@ -173,7 +173,7 @@ ran_of (answers.NoPlan short) state = record { number = state.rounds + 1; backlo
 abbrev pub view_refusal : Book → Option ViewError
 view_refusal book = if is_some book.state.load then None else Some view.NoLoad
 
--- The answer keeps the previous plan, cut to what is live and permitted now, where that plan is best and full.
+-- The answer keeps the previous plan, cut to what is live and permitted now, if that plan is best and full.
 abbrev pub KeepsPlan : Book → Answer → Type 0
 KeepsPlan book answer =
     IfSome book.state.load (λ load. IfSome book.state.previous (λ plan. IsSteady (input_of book.settings book.state load) plan answer))

@@ -1,5 +1,5 @@
 -- The labels of refusals, as lines print them, each with its place in the order in which its call looks, from 1; and which one is
--- want of memory.
+-- out of memory.
 use Rattle.std.specs.Prelude.{Bool, true, false, codes}
 use Rattle.refusal.specs.Label.{Label, label}
 use Rattle.pool_core.specs.declared.error.JoinError.{JoinError}

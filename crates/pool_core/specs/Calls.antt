@@ -1,4 +1,4 @@
--- What each call of a pool does: one event, with what the call tells of it, or the refusal that is due.
+-- What each call of a pool does: one event, with what the call reports of it, or the refusal that is due.
 use Rattle.std.specs.Prelude.{◌≡◌, ℕ, ◌+◌, List, Option, Result, Ok, Err, true, false, None, IfOk, OnOk, OnErr, is_some}
 use Rattle.std.specs.Result.{result_err}
 use Rattle.refusal.specs.Label.{due}
@@ -54,7 +54,7 @@ Loads load old new result =
     Makes (event.Load load) old new result
     × (due is_load_memory result ≡ load_refusal old)
 
--- A round with an answer, which keeps the plan before where that is best and full.
+-- A round with an answer, which keeps the plan before if that is best and full.
 abbrev pub IsRound : Book → Book → Ran → Type 0
 IsRound old new ran =
     (answer : Answer) × IsStep (event.Round answer) old new × KeepsPlan old answer × (ran ≡ ran_of answer old.state)

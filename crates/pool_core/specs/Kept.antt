@@ -41,12 +41,12 @@ abbrev pub closing_of : List Standing → Option ℕ → ℕ
 closing_of standings None = 0
 closing_of standings (Some ticket) = closing_events (slice_index_or standings (ticket - 1) Running)
 
--- how many jobs end where the worker with this open ticket is lost
+-- how many jobs end if the worker with this open ticket is lost
 abbrev pub lost_of : Option ℕ → ℕ
 lost_of None = 0
 lost_of (Some ticket) = 1
 
--- The base of a chapter, where so many have ended: the events of those lead to it from the first state.
+-- The base of a chapter, after so many have ended: the events of those lead to it from the first state.
 pub record IsBase (settings : Settings) (chapters : ℕ) (base : State) : Type 0 where
   pub before : List Event
   pub none_before : chapters ≡ 0 → before ≡ []

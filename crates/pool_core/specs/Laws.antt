@@ -33,7 +33,7 @@ next_generation state slot = last_generation (slot_in state.slots slot) + 1
 abbrev pub order_at : List Order → ℕ → Order
 order_at orders slot = slice_index_or orders slot no_order
 
--- The jobs have only grown, one that is reported or lost stands as it did, and no slot's last generation is smaller.
+-- The jobs have only grown, one that is reported or lost stays as it was, and no slot's last generation is smaller.
 pub record ExtendsState (old new : State) : Type 0 where
   pub jobs : (more : List Job) × (new.jobs ≡ old.jobs ++ more)
   pub closed : (k : ℕ) (x : Standing) → standing_in old.standings k ≡ Some x → is_open x ≡ false → standing_in new.standings k ≡ Some x
@@ -169,7 +169,7 @@ IsHeldByGrabber events state k =
     (worker : WorkerName) × (slice_get (grabbers events) (k - 1) ≡ Some worker)
     × IsTrue (is_live_in state worker) × (open_ticket state worker ≡ Some k)
 
--- What a history says of a job, by how it stands: it goes on with the worker that grabbed it; it was reported by one event, of that
+-- What a history says of a job, by its state: it goes on with the worker that grabbed it; it was reported by one event, of that
 -- worker and with that end; or it is lost with that worker by an event of that cause. But for the second no event reported it.
 abbrev pub IsAccountedFor : List Event → State → ℕ → Standing → Type 0
 IsAccountedFor events state k standing.Running = IsHeldByGrabber events state k × (count_by (is_report_of k) events ≡ 0)
@@ -196,8 +196,8 @@ WorkersAreNew =
     → next_generation (replay settings (first settings) earlier) slot
     < next_generation (replay settings (first settings) (earlier ++ event.Join slot ∷ between)) slot
 
--- After a round with a plan the order of each live worker is its function by the plan, for its generation. Where that was its order
--- before, the order stays, its number too; where not, it has the number of this round. The order of an empty slot is as it was.
+-- After a round with a plan the order of each live worker is its function by the plan, for its generation. If that was its order
+-- before, the order stays, its number too; if not, it has the number of this round. The order of an empty slot is as it was.
 pub record FollowsPlan (plan : List (ℕ × Option ℕ)) (round : ℕ) (slots : List Slot) (old new : List Order) : Type 0 where
   pub live : (s : ℕ) → IsTrue (is_live (slot_in slots s))
       → ((order_at new s).generation ≡ last_generation (slot_in slots s)) × ((order_at new s).what ≡ what_of (assigned plan s))

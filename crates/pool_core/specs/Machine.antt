@@ -1,4 +1,4 @@
--- The pool as a machine: its state, the events, where each is possible and what it does.
+-- The pool as a machine: its state, the events, when each is possible and what it does.
 use Rattle.std.specs.Prelude.{◌≡◌, ℕ, ◌+◌, ◌-◌, ◌<◌, ◌==◌, ◌&&◌, nat_lt, List, [], ◌∷◌, ◌++◌, length, Option, None, Some, Bool, true, false}
 use Rattle.std.specs.Prelude.{IsTrue, if◌then◌else◌, slice_get, slice_set, slice_index_or, map, replicate, count_by, sum_by}
 use Rattle.plan_model.specs.declared.answer.Answer.{Answer}
@@ -25,7 +25,7 @@ use Rattle.pool_core.specs.declared.event.Job.{Job}
 use Rattle.pool_core.specs.declared.event.Event.{Event}
 use Rattle.pool_core.specs.declared.event.Event.TheVariants as event
 
--- The state. By slot: what it holds, when its last grab was, its order. By ticket, from 1: what was assigned, and how it stands.
+-- The state. By slot: what it holds, when its last grab was, its order. By ticket, from 1: what was assigned, and its state.
 pub record State : Type 0 where
   pub slots : List Slot
   pub grab_times : List ℕ
@@ -58,7 +58,7 @@ abbrev pub has_open : Option ℕ → ℕ → Bool
 has_open None ticket = false
 has_open (Some own) ticket = own == ticket
 
--- how the ticket stands, if it was given
+-- the state of the ticket's job, if it was given
 abbrev pub standing_in : List Standing → ℕ → Option Standing
 standing_in standings ticket = if ticket == 0 then None else slice_get standings (ticket - 1)
 
@@ -183,7 +183,7 @@ abbrev pub replay : Settings → State → List Event → State
 replay settings state [] = state
 replay settings state (event ∷ events) = replay settings (after settings event state) events
 
--- each event was possible where it stood
+-- each event was possible in its place
 abbrev pub IsHistory : Settings → State → List Event → Type 0
 IsHistory settings state [] = Unit {0}
 IsHistory settings state (event ∷ events) = IsPossible settings event state × IsHistory settings (after settings event state) events

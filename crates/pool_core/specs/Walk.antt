@@ -3,7 +3,7 @@ use Rattle.std.specs.Prelude.{ℕ, ◌+◌, List, [], ◌∷◌, if◌then◌els
 use Rattle.worker_state.specs.declared.slot.Slot.{Slot}
 use Rattle.worker_state.specs.Slots.{is_live}
 
--- the live workers among the slots from a number on, as slot and machine, where each slot's machine is given
+-- the live workers among the slots from a number on, as slot and machine, given each slot's machine
 abbrev pub live_from : ℕ → List ℕ → List Slot → List (ℕ × ℕ)
 live_from number [] slots = []
 live_from number (machine ∷ machines) [] = []

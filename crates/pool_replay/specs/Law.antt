@@ -14,7 +14,7 @@ use Rattle.pool_replay.specs.declared.running.End.{End}
 use Rattle.pool_replay.specs.Step.{StepOf}
 use Rattle.pool_replay.specs.Transcript.{RunsTo}
 
--- The command `chapter` ends the chapter of the pool's history, where it is not refused; each other command leaves the pool as it
+-- The command `chapter` ends the chapter of the pool's history, if it is not refused; each other command leaves the pool as it
 -- was, or is one event of it.
 abbrev pub DoesTo : Command → Book → Book → Type 0
 DoesTo command.Chapter old new = (new ≡ old) ⊎ (new ≡ next_chapter old)
@@ -45,7 +45,7 @@ pub record ComesBy (chapters : List (List Event)) (events : List Event) (old new
   pub replays : IsReplay old.settings old.state events new.state
 
 -- A whole transcript is a history of the machine: the pool where it ends has come by it from the pool where it began. At most as many
--- chapters have ended as lines are the command `chapter`; so where none is, the events that the pool has gained are this history.
+-- chapters have ended as lines are the command `chapter`; so if none is, the events that the pool has gained are this history.
 abbrev pub TranscriptsAreHistories : Type 0
 TranscriptsAreHistories =
     (settings : Settings) (number : ℕ) (desk : Desk) (lines : List (List ℕ)) (output : List ℕ) (how : End) (last : Desk)

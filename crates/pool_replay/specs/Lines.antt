@@ -43,7 +43,7 @@ no_view = codes "refused NoView"
 
 -- ---- answers
 
--- a worker as command lines name it, and the empty text where there is no such slot
+-- a worker as command lines name it, and the empty text if there is no such slot
 abbrev pub worker_words : Settings → WorkerName → List ℕ
 worker_words settings worker =
     if nat_lt worker.slot (slots settings) then worker_text settings worker.slot worker.generation else []
@@ -66,7 +66,7 @@ report_line (Ok Stay) = codes "ok stay"
 report_line (Ok Retire) = codes "ok retire"
 report_line (Err e) = refused_line (report_label e)
 
--- what the backlog number of an answer says, and `noplan` where it has none
+-- what the backlog number of an answer says, and `noplan` if it has none
 abbrev pub found_words : Option ℕ → List ℕ
 found_words None = codes "noplan"
 found_words (Some number) = backlog_words (as_backlog number)

@@ -37,14 +37,14 @@ use Rattle.pool_replay.specs.Lines.{ok_line, join_line, ran_or, view_line, grab_
 use Rattle.pool_core.specs.Totals.{totals_line}
 use Rattle.pool_replay.specs.Lines.{chapter_line, no_pass, no_view}
 
--- what a view sees, with an answer that is shown for it and keeps the plan before where that is still best
+-- what a view sees, with an answer that is shown for it and keeps the plan before if that is still best
 abbrev pub Sees : Book → Result Certificate ViewError → Type 0
 Sees book result =
     IfOk result (λ seen. IsInputOf book seen.input × Shown seen.input seen.answer
     × IfSome book.state.previous (λ plan. IsSteady seen.input plan seen.answer))
     × (due is_view_memory result ≡ view_refusal book)
 
--- ---- what stands between two commands: the pool, the workers that have a pass, and the view that was kept
+-- ---- what is kept between two commands: the pool, the workers that have a pass, and the last view
 
 -- the pass that a join gave is kept
 abbrev pub with_joined : {E : Type 0} → set.FinSet worker_cmp → Result WorkerName E → set.FinSet worker_cmp
@@ -82,7 +82,7 @@ TellsView old line new =
     (result : Result Certificate ViewError) × Sees old.pool result × (line ≡ view_line result)
     × (new.viewed ≡ with_viewed old.viewed result) × (new.passes ≡ old.passes) × (new.pool ≡ old.pool)
 
--- an adoption spends the view, also where it is refused
+-- an adoption spends the view, also if it is refused
 abbrev pub TellsAdoption : Option Certificate → Desk → List ℕ → Desk → Type 0
 TellsAdoption None old line new = Prints no_view old line new
 TellsAdoption (Some viewed) old line new =
@@ -104,7 +104,7 @@ TellsReport worker ticket end old line new =
     (result : Result StayOrRetire ReportError) × call.Reports worker ticket end old.pool new.pool result × (line ≡ report_line result)
     × (new.passes ≡ old.passes) × (new.viewed ≡ old.viewed)
 
--- a loss takes the pass, also where it is refused
+-- a loss takes the pass, also if it is refused
 abbrev pub TellsLoss : WorkerName → Cause → Desk → List ℕ → Desk → Type 0
 TellsLoss worker cause old line new =
     (result : Result (Unit {0}) LoseError) × call.Loses worker cause old.pool new.pool result × (line ≡ ok_line lose_label result)

@@ -12,7 +12,7 @@ use Rattle.pool_replay.specs.declared.running.End.TheVariants as end
 use Rattle.pool_replay.specs.Step.{StepOf}
 use Rattle.text_pieces.specs.Lines.{ended, is_line_feed}
 
--- what stands behind the last line feed is a line where it holds a byte
+-- what comes after the last line feed is a line if it holds a byte
 abbrev pub last_line : List ℕ → List (List ℕ)
 last_line [] = []
 last_line (b ∷ bs) = (b ∷ bs) ∷ []
@@ -55,7 +55,7 @@ RunsTo settings number desk (line ∷ lines) output how last =
 abbrev pub IsTranscript : Settings → ℕ → Desk → List (List ℕ) → List ℕ → End → Type 0
 IsTranscript settings number desk lines output how = (last : Desk) × RunsTo settings number desk lines output how last
 
--- A run of an input: the transcript of its lines on a pool in which nothing has happened, or nothing where there was no memory
+-- A run of an input: the transcript of its lines on a pool in which nothing has happened, or nothing if there was no memory
 -- for that pool.
 abbrev pub IsRun : Settings → List ℕ → List ℕ → End → Type 0
 IsRun settings input output how =

@@ -24,9 +24,9 @@ use pool_settings::Settings;
 use std::alloc::{AllocError, Global};
 use worker_state::{Cause, EndKind, Ticket, WorkerName};
 
-/// What stands between two commands.
+/// What is kept between two commands.
 ///
-/// Each command is a method that makes one call of the pool and gives the line that it prints. Where there is no memory for the
+/// Each command is a method that makes one call of the pool and gives the line that it prints. If there is no memory for the
 /// line the pool may have changed.
 #[derive(Drop)]
 pub struct Desk {
@@ -118,7 +118,7 @@ impl Desk {
     }
 
     /// Looks at the pool and plans for what it sees. The plan is kept in the place of an older one; a refused view leaves that
-    /// where it is.
+    /// in place.
     fn view(&mut self, alloc: Global) -> Result<String, AllocError>
         ensures { IfOk result (λ line. TellsView self.old (string_bytes line) self.new) }
     {
@@ -128,7 +128,7 @@ impl Desk {
         Ok(line)
     }
 
-    /// Offers the plan that was kept, and spends it, also where it is refused.
+    /// Offers the plan that was kept, and spends it, also if it is refused.
     fn adopt(&mut self, alloc: Global) -> Result<String, AllocError>
         ensures { IfOk result (λ line. TellsAdoption self.old.viewed self.old (string_bytes line) self.new) }
     {
@@ -188,7 +188,7 @@ impl Desk {
         lines::report_line(alloc, answer)
     }
 
-    /// Loses a worker. Its pass is handed over, and gone also where the loss is refused.
+    /// Loses a worker. Its pass is handed over, and gone also if the loss is refused.
     fn lose(
         &mut self,
         alloc: Global,
@@ -268,7 +268,7 @@ fn look(alloc: Global, pool: &Pool) -> Result<Certified, ViewError>
     Ok(Certified::of(input, solved.answer))
 }
 
-/// Keeps a view in the place of an older one. What was refused leaves that where it is.
+/// Keeps a view in the place of an older one. What was refused leaves that in place.
 fn keep_view(viewed: &mut Option<Certified>, answer: Result<Certified, ViewError>)
     ensures { viewed.new ≡ with_viewed viewed.old answer }
 {

@@ -8,7 +8,7 @@ pub fn commands_are_calls()
 {}
 
 /// A law: a whole transcript is a history of the pool's machine, which leads from the pool where it began to the pool where it
-/// ends. The events that the pool had before, and behind them those of this history, are the events of the chapters that have
+/// ends. The events that the pool had before, and after them those of this history, are the events of the chapters that have
 /// ended, which were handed out, and then those of the pool. No chapter ends but by a line `chapter`: without one the history is
 /// the events that the pool has gained.
 pub fn transcripts_are_histories()

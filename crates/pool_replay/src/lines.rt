@@ -13,10 +13,10 @@ use std::alloc::{AllocError, Global};
 use std::fmt::Write;
 use worker_state::{EndKind, Order, Standing, Ticket, What, WorkerName};
 
-/// What is printed where a command names a worker that has no pass.
+/// What is printed if a command names a worker that has no pass.
 pub const NO_PASS: &str = "refused NoPass";
 
-/// What is printed where there is no view to adopt.
+/// What is printed if there is no view to adopt.
 pub const NO_VIEW: &str = "refused NoView";
 
 /// A refusal of the pool: its number in its call, and its name.
@@ -30,7 +30,7 @@ fn refused(alloc: Global, label: &Label) -> Result<String, AllocError>
     Ok(line)
 }
 
-/// A worker's name, as `a/0#1`, and the empty text where there is no such slot.
+/// A worker's name, as `a/0#1`, and the empty text if there is no such slot.
 pub fn worker_words(
     alloc: Global,
     settings: &Settings,
@@ -123,7 +123,7 @@ fn ran_line(alloc: Global, ran: &Ran) -> Result<String, AllocError>
     Ok(line)
 }
 
-/// What a round tells, or the refusal.
+/// What a round reports, or the refusal.
 pub fn ran_or<E: Labelled + Copy>(
     alloc: Global,
     answer: Result<Ran, E>,

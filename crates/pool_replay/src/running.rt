@@ -51,7 +51,7 @@ impl From<AllocError> for Stop {
     }
 }
 
-/// The first line of a text, and what stands behind its line feed; none where the text is empty.
+/// The first line of a text, and what comes after its line feed; none if the text is empty.
 fn cut_line(text: &[u8]) -> Option<(&[u8], &[u8])>
     ensures { MatchOption result (lines_of text.now ≡ [])
         (λ cut. (lines_of text.now ≡ cut.0.now ∷ lines_of cut.1.now) × (length cut.1.now < length text.now)) }
@@ -65,7 +65,7 @@ fn cut_line(text: &[u8]) -> Option<(&[u8], &[u8])>
     }
 }
 
-/// Runs one line, and appends what it prints. Where it is not run, or there is no memory for what it prints, nothing is
+/// Runs one line, and appends what it prints. If it is not run, or there is no memory for what it prints, nothing is
 /// appended.
 fn answer_line(
     alloc: Global,
@@ -119,13 +119,13 @@ fn run_lines(
 /// Runs the command lines of an input, one after the other, on a new pool of these settings, and prints one line for each.
 ///
 /// A line ends with a line feed, which the last may lack; an empty input has no line. The run ends after the last line, at the
-/// first line that is no command, or where there was no memory; what the lines before that print stands in the output. Where
+/// first line that is no command, or when memory runs out; what the lines before that print is in the output. If
 /// there is no memory for the pool itself the output is empty.
 ///
 /// A refusal of the pool prints `refused`, its number in its call, and its name. The passes of the workers that joined are kept
-/// under their names until `lose` takes them, also where it is refused; a command for a worker without a pass prints `refused
+/// under their names until `lose` takes them, also if it is refused; a command for a worker without a pass prints `refused
 /// NoPass`, but `expire` needs none. `view` keeps what it saw and the best plan for it, in the place of an older view, and
-/// `adopt` spends it, also where it is refused; where there is none it prints `refused NoView`. `chapter` ends the chapter of the
+/// `adopt` spends it, also if it is refused; if there is none it prints `refused NoView`. `chapter` ends the chapter of the
 /// pool's history and gives its events up: the state goes on, and with it passes, jobs and the view, and the events of `totals` are
 /// those since then.
 pub fn run(alloc: Global, settings: &Settings, input: &[u8]) -> Outcome

@@ -1,4 +1,4 @@
--- What a report tells of an answer: the settings' names, and the needs and workers of the set, by the planning model.
+-- What a report says of an answer: the settings' names, and the needs and workers of the set, by the planning model.
 use Rattle.std.specs.Prelude.{ℕ, ◌-◌, List, map, filter, option_map, slice_index, sum_by}
 use Rattle.plan_model.specs.Planning.{Assignment, Instance, assigned, functions, is_stranded, machines_of}
 use Rattle.plan_model.specs.Planning.{may_do, need, neighbours, top_level}

@@ -1,4 +1,4 @@
--- A whole report: the texts that tell an answer, by their parts and the names of the settings.
+-- A whole report: the texts that give an answer, by their parts and the names of the settings.
 use Rattle.std.specs.Prelude.{◌≡◌, ◌≢◌, ℕ, ◌+◌, ◌<◌, ◌≤◌, ◌^◌, ◌↔◌, List, [], ◌∷◌, Option, Some, None, Ok, length, map, option_map}
 use Rattle.plan_model.specs.declared.answer.Answer.{Answer}
 use Rattle.plan_model.specs.declared.answer.Answer.TheVariants.{Planned, NoPlan}
@@ -51,7 +51,7 @@ AreLeft settings next (s ∷ left) =
     (f : ℕ) × (next ≤ f) × (f < length settings.functions) × (s.function ≡ name_at settings.functions f) × (s.waiting < 2 ^ 32)
     × AreLeft settings (f + 1) left
 
--- The text is a report that tells this answer. What the set needs and has, and which functions are stranded with how many jobs, an answer
+-- The text is a report that gives this answer. What the set needs and has, and which functions are stranded with how many jobs, an answer
 -- does not hold: there the text may say any.
 abbrev pub IsReportOf : Settings → List ℕ → Answer → Type 0
 IsReportOf settings text (Planned entries k set) =
@@ -60,6 +60,6 @@ IsReportOf settings text (Planned entries k set) =
 IsReportOf settings text (NoPlan set) =
     (short : Short) × (left : List Stranded) × (text ≡ report (no_plan short) left) × IsSet settings short set × AreLeft settings 0 left
 
--- A text means an answer exactly where it is a report that tells it.
+-- A text means an answer exactly if it is a report that gives it.
 abbrev pub AreTextsReports : Settings → Type 0
 AreTextsReports settings = (text : List ℕ) (answer : Answer) → (meaning settings text ≡ Ok answer) ↔ IsReportOf settings text answer

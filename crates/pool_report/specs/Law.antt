@@ -1,4 +1,4 @@
--- Each line and each name that a report may have is read as what it tells.
+-- Each line and each name that a report may have is read as what it says.
 use Rattle.std.specs.Prelude.{◌≡◌, ◌≢◌, ℕ, ◌<◌, ◌^◌, List, Option, None, Some, Bool, not, ◌==◌, IsTrue, codes, length, map}
 use Rattle.std.specs.List.{list_all}
 use Rattle.pool_settings.specs.Names.{is_machine_name, is_name, name_at, place_of}
@@ -19,7 +19,7 @@ use Rattle.text_pieces.specs.Lines.{ended}
 abbrev pub is_one_line : List ℕ → Bool
 is_one_line line = list_all (λ b. not (b == 10)) line
 
--- The text is one line with its line feed, and tells this.
+-- The text is one line with its line feed, and says this.
 abbrev pub TellsLine : List ℕ → ReportLine → Type 0
 TellsLine text told = (line : List ℕ) × (text ≡ ended line) × IsTrue (is_one_line line) × (line_of line ≡ Some told)
 
@@ -51,7 +51,7 @@ pub record AreNamesFound (settings : Settings) : Type 0 where
 abbrev pub listed_plan : Instance → Assignment → List (ℕ × Option ℕ)
 listed_plan i plan = map (λ worker. (worker.0, plan worker.0)) i.live
 
--- the answer that a report tells: the same, with its plan listed for each live worker
+-- the answer that a report gives: the same, with its plan listed for each live worker
 abbrev pub retold : Instance → Answer → Answer
 retold i (Planned entries k set) = Planned (listed_plan i (assigned entries)) k set
 retold i (NoPlan set) = NoPlan set
@@ -65,7 +65,7 @@ abbrev pub IsTheOnlyOne : Settings → Instance → Answer → Type 0
 IsTheOnlyOne settings i answer =
     (other : Answer) → Shown i other → report_text settings i other ≡ report_text settings i answer → retold i other ≡ retold i answer
 
--- The text is a line with its line feed, spelled as what it tells: its words, its names and its numbers without zeros in front, with one
+-- The text is a line with its line feed, written as what it says: its words, its names and its numbers without leading zeros, with one
 -- space between them.
 abbrev pub Spells : List ℕ → ReportLine → Type 0
 Spells text head = text ≡ ended (codes "report 1")
@@ -79,6 +79,6 @@ Spells text (stranded f) =
     (waiting : ℕ) × IsTrue (is_name f) × (waiting < 2 ^ 32) × (text ≡ stranded_line (record { function = f; waiting = waiting }))
 Spells text last = text ≡ ended (codes "end")
 
--- A line tells something only as it is spelled.
+-- A line says something only as it is written.
 abbrev pub AreLinesSpelled : Type 0
 AreLinesSpelled = (line : List ℕ) (told : ReportLine) → line_of line ≡ Some told → Spells (ended line) told

@@ -1,4 +1,4 @@
--- One line of a report, as it is read: what it tells, less the numbers that an answer does not hold.
+-- One line of a report, as it is read: what it says, less the numbers that an answer does not hold.
 use Rattle.std.specs.Prelude.{ℕ, ◌+◌, ◌^◌, List, length, take, drop, Bool, false, ◌&&◌, nat_lt, Option}
 use Rattle.std.specs.Prelude.{Some, None, option_map, codes, if◌then◌else◌}
 use Rattle.std.specs.Option.{option_map_or}
@@ -20,7 +20,7 @@ pub data ReportLine : Type 0 where
 
 -- ---- parts of a line
 
--- what stands behind a word at the start of a line
+-- what comes after a word at the start of a line
 abbrev pub after_word : List ℕ → List ℕ → Option (List ℕ)
 after_word word line =
     if bytes_eq (take (length word) line) word then Some (drop (length word) line) else None
@@ -32,7 +32,7 @@ is_worker_parts parts = is_machine_name parts.0 && is_plain parts.1
 abbrev pub is_worker : List ℕ → Bool
 is_worker name = option_map_or is_worker_parts (cut_last 47 name) false
 
--- ---- each kind of line, from what stands behind its first words
+-- ---- each kind of line, from what comes after its first words
 
 abbrev pub backlog_in : List ℕ → Option ReportLine
 backlog_in rest = option_map (λ k. backlog k) (plain_number_below (2 ^ 32) rest)
@@ -95,7 +95,7 @@ keyed line =
     (option_map_or stranded_in (after_word (codes "stranded ") line)
     None))))))
 
--- what a line tells, if it has the shape of one
+-- what a line says, if it has the shape of one
 abbrev pub line_of : List ℕ → Option ReportLine
 line_of line =
     if bytes_eq line (codes "report 1") then Some head

@@ -4,7 +4,7 @@ use Rattle.byte_io.specs.Sides.{HasFront, HasText, Output}
 use Rattle.pool_report.specs.declared.error.WriteError.{WriteError}
 use Rattle.pool_report.specs.declared.error.WriteError.TheVariants as error
 
--- all of it, a front of it, or nothing
+-- all of it, a prefix of it, or nothing
 abbrev pub WroteText : {T : Type 0} → Output → List ℕ → Output → Result T WriteError → Type 0
 WroteText old text new (Ok done) = HasText old text new
 WroteText old text new (Err (error.WriteFault count)) = HasFront old text count new

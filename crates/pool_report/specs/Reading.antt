@@ -1,4 +1,4 @@
--- What a report's text means: the answer that it tells, or its first fault.
+-- What a report's text means: the answer that it gives, or its first fault.
 use Rattle.std.specs.Prelude.{ℕ, ◌+◌, ◌==◌, List, [], ◌∷◌, ◌++◌, length, Bool, true, false, not, nat_lt, Option, Some}
 use Rattle.std.specs.Prelude.{None, option_map, unwrap_or, Result, Ok, Err, if◌then◌else◌}
 use Rattle.std.specs.List.{slice_split}
@@ -17,7 +17,7 @@ use Rattle.pool_report.specs.declared.error.ReadError.{ReadError}
 use Rattle.pool_report.specs.declared.error.ReadError.TheVariants as error
 use Rattle.text_pieces.specs.Lines.{is_line_feed}
 
--- what the lines so far have told
+-- what the lines so far have said
 pub record Draft : Type 0 where
   pub stage : Stage
   -- none after `noplan`
@@ -158,7 +158,7 @@ place_stranded settings name d =
     in_place (is_complete d.stage)
     (if_known (place_of settings.functions name) (λ f. in_place (not (nat_lt f d.next_stranded)) (Ok (with_stranded f d))))
 
--- what is told after one more line
+-- what is said after one more line
 abbrev pub place : Settings → Draft → ReportLine → Result Draft Misread
 place settings d head = in_place (is_start d.stage) (Ok (moved stage.Verdict d))
 place settings d (backlog k) = in_place (at_verdict d.stage) (Ok (with_backlog k d))
@@ -175,14 +175,14 @@ place_line settings d line = option_map_or (place settings d) (line_of line) (Er
 abbrev pub answer_of : Draft → Answer
 answer_of d = option_map_or (λ k. Planned d.entries k d.set) d.backlog (NoPlan (unwrap_or d.set []))
 
--- the fault of line n, or what the lines behind it tell
+-- the fault of line n, or what the lines after it say
 abbrev pub and_read_on : ℕ → Result Draft Misread → (Draft → Result Answer ReadError) → Result Answer ReadError
 and_read_on n (Ok d) next = next d
 and_read_on n (Err misread.Bad) next = Err (error.BadLine n)
 and_read_on n (Err misread.Unknown) next = Err (error.UnknownName n)
 and_read_on n (Err misread.Memory) next = Err error.Memory
 
--- behind the last line feed: nothing may stand behind the line feed of `end`
+-- after the last line feed: nothing may come after the line feed of `end`
 abbrev pub at_rest : ℕ → Draft → List ℕ → Result Answer ReadError
 at_rest n d rest =
     if is_done d.stage then (if length rest == 0 then Ok (answer_of d) else Err (error.BadLine n))
@@ -195,6 +195,6 @@ meaning_from settings n d (line ∷ []) = at_rest n d line
 meaning_from settings n d (line ∷ next ∷ rest) =
     and_read_on n (place_line settings d line) (λ more. meaning_from settings (n + 1) more (next ∷ rest))
 
--- the answer that a text tells, or its first fault
+-- the answer that a text gives, or its first fault
 abbrev pub meaning : Settings → List ℕ → Result Answer ReadError
 meaning settings text = meaning_from settings 1 start (slice_split is_line_feed text)

@@ -5,7 +5,7 @@ use Rattle.std.specs.Fmt.{decimal}
 use Rattle.plan_model.specs.Backlogs.{as_backlog, backlog_words}
 use Rattle.text_pieces.specs.Lines.{ended}
 
--- what a report tells, with names in the place of numbers
+-- what a report says, with names in the place of numbers
 pub record Worker : Type 0 where
   pub machine : List ℕ
   pub number : ℕ

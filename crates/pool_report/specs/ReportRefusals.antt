@@ -16,7 +16,7 @@ abbrev pub is_read_memory : ReadError → Bool
 is_read_memory fault.Memory = true
 is_read_memory _ = false
 
--- the line that is refused, where it is one line
+-- the line that is refused, if it is one line
 abbrev pub report_line_of : ReadError → Option ℕ
 report_line_of (fault.BadLine n) = Some n
 report_line_of (fault.UnknownName n) = Some n

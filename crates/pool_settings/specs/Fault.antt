@@ -44,34 +44,34 @@ HasTables tree tables =
 abbrev pub begins_character : ℕ → Bool
 begins_character byte = nat_lt byte 128 || nat_le 192 byte
 
--- what stands behind the last line feed
+-- what comes after the last line feed
 abbrev pub last_line : List ℕ → List ℕ
 last_line text = option_map_or (λ cut. cut.1) (cut_last 10 text) text
 
--- the line and the column behind these bytes, both from 1
+-- the line and the column after these bytes, both from 1
 abbrev pub line_behind : List ℕ → ℕ
 line_behind before = length (filter is_line_feed before) + 1
 
 abbrev pub column_behind : List ℕ → ℕ
 column_behind before = length (filter begins_character (last_line before)) + 1
 
--- a text that is at fault behind these bytes
+-- a text that is at fault after these bytes
 abbrev pub text_fault : List ℕ → reading.Fault
 text_fault before = (error.Text, place.Text (line_behind before) (column_behind before))
 
--- The fault of a text is the first of its tree; and of a text without a tree a place in it, which is behind the last character where
+-- The fault of a text is the first of its tree; and of a text without a tree a place in it, which is after the last character if
 -- the text is not UTF-8.
 pub record IsFoundIn (text : List ℕ) (found : reading.Fault) : Type 0 where
   pub in_tree : (tree : Members) → reading.tree_of text ≡ Some tree → reading.first_fault tree ≡ Some found
   pub in_text : reading.tree_of text ≡ None → (n : ℕ) × (n ≤ length text) × (found ≡ text_fault (take n text))
   pub not_utf8 : is_utf8 text ≡ false → found ≡ text_fault (take (utf8_valid_len text) text)
 
--- A text is refused that has no tree, by a place in it. Want of memory is no fault of the text, and does not come with a blank one.
+-- A text is refused that has no tree, by a place in it. Out of memory is no fault of the text, and does not come with a blank one.
 abbrev pub RefusesText : List ℕ → SettingsFault → Type 0
 RefusesText text (fault.At e at) = (reading.tree_of text ≡ None) × IsFoundIn text (e, place_view (λ t. t.now) at)
 RefusesText text fault.Memory = ¬ IsBlank text
 
--- A tree is refused by its first fault. Want of memory comes only with a tree that has none.
+-- A tree is refused by its first fault. Out of memory comes only with a tree that has none.
 abbrev pub RefusesTree : Members → SettingsFault → Type 0
 RefusesTree tree (fault.At e at) =
     (e ≢ error.Memory) × (reading.first_fault tree ≡ Some (e, place_view (λ t. t.now) at))

@@ -30,6 +30,6 @@ IsInByteOrder names = IsStrictlySortedBy (slice_cmp nat_cmp) names
 abbrev pub place_of : List (List ℕ) → List ℕ → Option ℕ
 place_of names name = position (λ n. bytes_eq n name) names
 
--- the name at a number, and none behind the last
+-- the name at a number, and none after the last
 abbrev pub name_at : List (List ℕ) → ℕ → List ℕ
 name_at names number = slice_index_or names number []

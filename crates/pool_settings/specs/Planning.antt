@@ -5,7 +5,7 @@ use Rattle.plan_model.specs.Planning.{Instance}
 use Rattle.pool_settings.specs.Settings.{Settings}
 use Rattle.pool_settings.specs.Slots.{live_workers}
 
--- The planning problem of these settings, where the slots that are marked are live and these jobs wait for each function.
+-- The planning problem of these settings, if the slots that are marked are live and these jobs wait for each function.
 abbrev pub instance_of : Settings → List Bool → List ℕ → Instance
 instance_of settings live waiting =
     record { live = live_workers settings live; may = settings.may; least = settings.least; most = settings.most; waiting = waiting }

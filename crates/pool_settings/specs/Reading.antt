@@ -20,7 +20,7 @@ use Rattle.pool_settings.specs.declared.place.Place.TheVariants as place
 use Rattle.pool_settings.specs.declared.place.Section.{Section}
 use Rattle.pool_settings.specs.declared.place.Section.TheVariants as section
 
--- ---- the keys with a default: their value, and none where it has another type or is out of range
+-- ---- the keys with a default: their value, and none if it has another type or is out of range
 
 abbrev pub number_or : List ℕ → ℕ → ℕ → ℕ → Members → Option ℕ
 number_or key low high default tree =
@@ -223,7 +223,7 @@ bad_value tree = first_of (
 
 -- ---- the settings that the tree means
 
--- the number of workers at a key, and the default where there is none
+-- the number of workers at a key, and the default if there is none
 abbrev pub count_at : List ℕ → ℕ → Data → ℕ
 count_at key default value =
     unwrap_or (option_and_then worker_count (option_and_then (get_member key) (as_table value))) default

@@ -13,7 +13,7 @@ pub record Settings : Type 0 where
   pub max_runs : ℕ
   -- the pause between two rounds
   pub round_ms : ℕ
-  -- how long a read waits before it is a lull
+  -- how long a read waits before it times out
   pub lull_ms : ℕ
   -- the most events that are kept
   pub history : ℕ

@@ -8,7 +8,7 @@ use Rattle.text_pieces.specs.Numbers.{plain_number_below}
 use Rattle.pool_settings.specs.Names.{name_at, place_of}
 use Rattle.pool_settings.specs.Settings.{Settings}
 
--- the machine of each slot, where the workers of each machine from m on are given
+-- the machine of each slot, given the workers of each machine from m on
 abbrev pub owners_from : ℕ → List ℕ → List ℕ
 owners_from m [] = []
 owners_from m (n ∷ ns) = replicate n m ++ owners_from (m + 1) ns
@@ -16,7 +16,7 @@ owners_from m (n ∷ ns) = replicate n m ++ owners_from (m + 1) ns
 abbrev pub owners : Settings → List ℕ
 owners settings = owners_from 0 settings.workers
 
--- the slots of the machines' first workers, where the slots from n on are theirs
+-- the slots of the machines' first workers, given that the slots from n on are theirs
 abbrev pub firsts_from : ℕ → List ℕ → List ℕ
 firsts_from n [] = []
 firsts_from n (workers ∷ rest) = n ∷ firsts_from (n + workers) rest

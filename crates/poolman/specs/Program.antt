@@ -35,12 +35,12 @@ names_in (replay s) = record { settings = s; status = None; lost = [] }
 names_in (show_settings s) = record { settings = s; status = None; lost = [] }
 names_in (run s rounds) = record { settings = s; status = None; lost = [] }
 
--- Error output has what is told of the fault of a command, where there is one.
+-- Error output has what is said of the fault of a command, if there is one.
 abbrev pub TellsEnd : Reader → Named → Option Fault → Output → Output → Type 0
 TellsEnd who command None old new = new ≡ old
 TellsEnd who command (Some fault) old new = Tells who (names_in command) fault old new
 
--- There is no memory, which is told.
+-- There is no memory, which is reported.
 abbrev pub Lacks : Output → Output → ℕ → Type 0
 Lacks old new status = Complains Memory old new × (status ≡ 4)
 
@@ -57,8 +57,8 @@ HasNoWords _ old new status = Advises old new status
 abbrev pub words_in : Result (Vec (String Global) Global) Error → Result (List (List ℕ)) ErrorKind
 words_in words = result_map_both (λ list. map (λ w. string_bytes w) list.items) error_kind words
 
--- The words ask for a command, which is carried out, and its fault is told. Or they ask for none, which is told, or memory is refused,
--- and then nothing is read and nothing is written to the output.
+-- The words ask for a command, which is carried out, and its fault is reported. Or they ask for none, which is reported, or memory is
+-- refused, and then nothing is read and nothing is written to the output.
 abbrev pub Obeys : Reader → (List ℕ → Known) → List (List ℕ) → Met → Streams → Streams → ℕ → Type 0
 Obeys who file words met old new status =
     ((command : Named) × (exit : Exit) × (command_in words ≡ Some command) × CarriesOut file command met old.output new.output exit
@@ -66,7 +66,7 @@ Obeys who file words met old new status =
     ⊎ (IsUntouched met × (new.output ≡ old.output)
     × (((faults_in words ≢ []) × Advises old.errors new.errors status) ⊎ Lacks old.errors new.errors status))
 
--- The same of the words that the system gives, where it gives any.
+-- The same of the words that the system gives, if it gives any.
 abbrev pub Program : Reader → (List ℕ → Known) → Result (List (List ℕ)) ErrorKind → Met → Streams → Streams → ℕ → Type 0
 Program who file (Ok words) met old new status = Obeys who file words met old new status
 Program who file (Err kind) met old new status =

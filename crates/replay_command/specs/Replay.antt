@@ -23,7 +23,7 @@ abbrev pub Transcribes : List ℕ → Met → List ℕ → End → Type 0
 Transcribes settings_text met output how =
     (settings : Settings) × (reading settings_text ≡ Ok settings) × IsWhole met × IsRun settings met.bytes output how
 
--- The run of the input that was taken, or the first fault of settings and input. Nothing is taken where the settings are refused.
+-- The run of the input that was taken, or the first fault of settings and input. Nothing is taken if the settings are refused.
 abbrev pub GivesRun : List ℕ → Met → Result Outcome Fault → Type 0
 GivesRun settings_text met (Ok outcome) = Transcribes settings_text met (string_bytes outcome.output) outcome.end
 GivesRun settings_text met (Err (fault.Settings mistake)) = IsMistakeOf settings_text mistake × IsUntouched met

@@ -38,13 +38,13 @@ fn exit_of(end: End) -> Exit
 
 /// Runs command lines on a pool in which nothing has happened, and writes what each of them prints: a transcript of the pool's
 /// machine, a line for each command. A command that the pool refuses prints the refusal and is no fault. The exit status is
-/// 0 where each line was a command.
+/// 0 if each line was a command.
 ///
 /// Faults are looked for in the settings, in the source, which gives at most 16,777,216 bytes, and in the lines. The source is read
-/// only where the settings are right, and nothing is written where it does not give its bytes up to their end. Where it failed or
-/// lulled for the 65th time the fault is `ReadFault`. The first line that is no command ends the run as `BadCommand`, and want of
-/// memory as `Memory`: what is written then is the transcript of the lines before it. After a `WriteFault`, which comes only where the
-/// sink failed, a front of the transcript was written and not all of it.
+/// only if the settings are right, and nothing is written if it does not give its bytes up to their end. If it failed or
+/// timed out for the 65th time the fault is `ReadFault`. The first line that is no command ends the run as `BadCommand`, and out of
+/// memory as `Memory`: what is written then is the transcript of the lines before it. After a `WriteFault`, which comes only if the
+/// sink failed, a prefix of the transcript was written and not all of it.
 pub fn run_commands<R: Source, S: Sink>(
     alloc: Global,
     settings_text: &[u8],

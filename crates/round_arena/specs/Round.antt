@@ -18,7 +18,7 @@ pub record IsConsistent (functions : ℕ) (t : Tables) : Type 0 where
   pub rising : IsStrictlyIncreasing t.slot.now
   pub order : IsPermutation (range_with_len 0 functions) t.order.now
 
--- The tables hold the permitted pairs and no others, where `permits` says which machine may do which function.
+-- The tables hold the permitted pairs and no others; `permits` says which machine may do which function.
 abbrev pub Holds : (ℕ → ℕ → Bool) → ℕ → Tables → Type 0
 Holds permits functions t = Represents permits t.machine.now t.pairs functions
 
@@ -31,7 +31,7 @@ pub record SamePairs (old new : Tables) : Type 0 where
   pub order : new.order ≡ old.order
   pub staff : length new.owner.now ≡ length old.owner.now
 
--- The function that a number of the tables stands for: none where the worker is idle.
+-- The function that a number of the tables means: none if the worker is idle.
 abbrev pub function_at : ℕ → ℕ → Option ℕ
 function_at functions f = if nat_lt f functions then Some f else None
 

@@ -23,7 +23,7 @@ abbrev pub attempt_lines : ℕ → List Attempt → List ℕ
 attempt_lines number [] = []
 attempt_lines number (attempt ∷ attempts) = attempt_line number attempt ++ 10 ∷ attempt_lines (number + 1) attempts
 
--- the line of the chapters of the history that ended, where one did
+-- the line of the chapters of the history that ended, if one did
 abbrev pub chapters_line : ℕ → List ℕ
 chapters_line chapters = if nat_lt 0 chapters then codes "chapters " ++ decimal chapters ++ 10 ∷ [] else []
 
@@ -35,7 +35,7 @@ abbrev pub has_no_plan : Attempt → Bool
 has_no_plan (NoPlan round) = true
 has_no_plan attempt = false
 
--- 1 where some round had no plan, and else 0
+-- 1 if some round had no plan, and else 0
 abbrev pub status_after : List Attempt → ℕ
 status_after attempts = if list_any has_no_plan attempts then 1 else 0
 
@@ -43,7 +43,7 @@ status_after attempts = if list_any has_no_plan attempts then 1 else 0
 abbrev pub IsKeptFrom : List ℕ → Fault → Type 0
 IsKeptFrom settings_text f = Reads settings_text (Err f)
 
--- The text means settings, and a run by them came to this: its lines tell rounds of histories of these settings, and its totals count the
+-- The text means settings, and a run by them came to this: its lines report rounds of histories of these settings, and its totals count the
 -- grabs and the reports of one.
 abbrev pub IsRunBy : List ℕ → RunEnd → Type 0
 IsRunBy settings_text ended =

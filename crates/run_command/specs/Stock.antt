@@ -17,10 +17,10 @@ result_of Reverse input = reverse input
 result_of Length input = decimal (length input)
 result_of Echo input = input
 
--- a job tells its result, and nothing before it
+-- a job reports its result, and nothing before it
 abbrev pub told_by_job : StockJob → List ℕ → Told
 told_by_job job input = record { remarks = []; finish = complete (result_of job input) }
 
--- what the job of a name tells for an input, and none where no job has the name
+-- what the job of a name reports for an input, and none if no job has the name
 abbrev pub told_by_name : List ℕ → List ℕ → Option Told
 told_by_name = told_by stock_name told_by_job (Reverse ∷ Length ∷ Echo ∷ [])

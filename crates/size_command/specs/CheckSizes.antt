@@ -26,7 +26,7 @@ use Rattle.size_command.specs.declared.check.SizeVerdict.TheVariants as verdict
 use Rattle.size_report.specs.Reading.{size_meaning}
 use Rattle.size_report.specs.Text.{size_text}
 
--- What a text is that tells this size: it is shown and the text is its own, it is shown and the text is another, or it is not shown.
+-- What a text is that gives this size: it is shown and the text is its own, it is shown and the text is another, or it is not shown.
 abbrev pub FindsSize : Settings → Farm → List ℕ → Size → SizeVerdict → Type 0
 FindsSize settings farm given_text size verdict.Shown = Shown farm size × (given_text ≡ size_text settings farm size)
 FindsSize settings farm given_text size verdict.OtherText = Shown farm size × (given_text ≢ size_text settings farm size)
@@ -37,7 +37,7 @@ size_verdict_line verdict.Shown = codes "shown" ++ 10 ∷ []
 size_verdict_line verdict.OtherText = codes "not shown 7 Text" ++ 10 ∷ []
 size_verdict_line (verdict.NotShown flaw) = codes "not shown " ++ label_words (flaw_label flaw) ++ 10 ∷ []
 
--- 0 where it is shown
+-- 0 if it is shown
 abbrev pub size_verdict_status : SizeVerdict → ℕ
 size_verdict_status verdict.Shown = 0
 size_verdict_status verdict.OtherText = 1
@@ -56,7 +56,7 @@ JudgesSize settings_text level p given_text (Err (fault.Report e)) = size_meanin
 JudgesSize settings_text level p given_text (Err fault.Memory) = Unit {0}
 JudgesSize settings_text level p given_text (Err other) = ⊥
 
--- Where there is a problem: what is found of the text that was met, or the first fault of the source and of the text. Where there is
+-- If there is a problem: what is found of the text that was met, or the first fault of the source and of the text. If there is
 -- none: the fault that it is not posed by, and nothing is read.
 abbrev pub ExaminesSize : List ℕ → Option ℕ → Result Problem Fault → Met → Result SizeVerdict Fault → Type 0
 ExaminesSize settings_text level (Ok p) met (Ok found) = IsWhole met × JudgesSize settings_text level p met.bytes (Ok found)

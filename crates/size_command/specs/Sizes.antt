@@ -18,7 +18,7 @@ use Rattle.pool_settings.specs.Settings.{Settings}
 use Rattle.size_command.specs.Farms.{farm_of}
 use Rattle.size_report.specs.Text.{size_text}
 
--- 0 with an addition, also one of nobody, 1 where none serves
+-- 0 with an addition, also one of nobody, 1 if none serves
 abbrev pub status_with : Size → ℕ
 status_with (Enough added entries short) = 0
 status_with (Never obstacle) = 1

@@ -1,4 +1,4 @@
--- What the jobs of the tests tell.
+-- What the jobs of the tests report.
 use Rattle.std.specs.Prelude.{ℕ, List, [], ◌∷◌, reverse, replicate}
 use Rattle.job_runner.specs.Told.{Told, piece, warning, progress, complete, fail}
 use Rattle.tests_job_runner.specs.declared.jobs.TestJob.{TestJob}

@@ -1,4 +1,4 @@
--- A text cut at a byte, as what stands before and behind it.
+-- A text cut at a byte, as what comes before and after it.
 use Rattle.std.specs.Prelude.{ℕ, ◌==◌, List, [], ◌∷◌, Option, Some, None, option_map, if◌then◌else◌}
 use Rattle.std.specs.Option.{option_map_or}
 
@@ -10,7 +10,7 @@ abbrev pub cut_first : ℕ → List ℕ → Option (List ℕ × List ℕ)
 cut_first c [] = None
 cut_first c (b ∷ bs) = if b == c then Some ([], bs) else option_map (put_front b) (cut_first c bs)
 
--- a text cut at its last byte of one kind, which the part behind it does not have
+-- a text cut at its last byte of one kind, which the part after it does not have
 abbrev pub cut_last : ℕ → List ℕ → Option (List ℕ × List ℕ)
 cut_last c [] = None
 cut_last c (b ∷ bs) =

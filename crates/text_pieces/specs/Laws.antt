@@ -8,7 +8,7 @@ use Rattle.text_pieces.specs.Numbers.{number_below, plain_number_below}
 abbrev pub has_byte : ℕ → List ℕ → Bool
 has_byte c text = list_any (λ b. b == c) text
 
--- the part before the first byte of one kind, and the parts of what stands behind it; without such a byte the text is one part
+-- the part before the first byte of one kind, and the parts of what comes after it; without such a byte the text is one part
 abbrev pub parts_by : ℕ → List ℕ → List (List ℕ)
 parts_by c text = option_map_or (λ cut. cut.0 ∷ slice_split (λ b. b == c) cut.1) (cut_first c text) (text ∷ [])
 

@@ -9,7 +9,7 @@ use Rattle.gear_packets.specs.Text.{is_same_name, register}
 abbrev pub seen_name : Option (Bor (List ℕ)) → Option (List ℕ)
 seen_name name = option_map (λ n. n.now) name
 
--- CANT_DO of the old function and then CAN_DO of the new one, each where it is needed.
+-- CANT_DO of the old function and then CAN_DO of the new one, each if it is needed.
 abbrev pub change_of : Option (List ℕ) → Option (List ℕ) → List (Option Packet)
 change_of None None = None ∷ None ∷ []
 change_of None (Some to) = None ∷ Some (can_do to) ∷ []

@@ -14,7 +14,7 @@ abbrev pub has_generation : Slot → ℕ → Bool
 has_generation (Empty last) generation = false
 has_generation (Live own runs ticket) generation = own == generation
 
--- the generation of the last worker, live or not; 0 where there was none
+-- the generation of the last worker, live or not; 0 if there was none
 abbrev pub last_generation : Slot → ℕ
 last_generation (Empty last) = last
 last_generation (Live generation runs ticket) = generation

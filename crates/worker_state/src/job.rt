@@ -1,4 +1,4 @@
-//! Jobs by ticket, and how they stand.
+//! Jobs by ticket, and their states.
 
 ghost use Rattle.std.specs.Prelude.{◌≡◌};
 ghost use Rattle.worker_state.specs.Slots as spec;
@@ -47,7 +47,7 @@ pub enum EndKind {
     Fail,
 }
 
-/// How a grabbed job stands. Each job is in exactly one of these, and leaves neither of the last two.
+/// The state of a grabbed job. Each job is in exactly one of these, and leaves neither of the last two.
 #[derive(Clone, Copy, Debug, PartialEq, Eq)]
 pub enum Standing {
     /// A worker has it.

@@ -7,7 +7,7 @@ use crate::limits::MAX_GENERATION;
 use plan_model::FuncId;
 use std::marker::Model;
 
-/// How many rounds a word tells apart, and how many numbers of a task.
+/// How many rounds a word distinguishes, and how many numbers of a task.
 const ROUNDS: u64 = 1 << 32;
 
 const TASKS: u64 = 1 << 11;
@@ -74,7 +74,7 @@ impl Order {
             + ROUNDS * TASKS * u64::from(self.generation)
     }
 
-    /// The order that has this word, or `None` where no order has it.
+    /// The order that has this word, or `None` if no order has it.
     pub fn of_word(word: u64) -> Option<Order>
         ensures word { IfSome result (λ order. word_of order ≡ word) }
         ensures found { (order : OrderParts) → HasWord order → word_of order ≡ word → result ≡ Some order }

@@ -8,7 +8,7 @@ ghost use Rattle.worker_state.specs.Registration.{change_of, seen_name, Register
 use gear_packets::Request;
 
 /// The packets by which a worker that has registered the function `from`, or none, comes to have registered `to`, or none:
-/// CANT_DO of the old one and then CAN_DO of the new one, each only where it is needed. Where the names are equal there is
+/// CANT_DO of the old one and then CAN_DO of the new one, each only if it is needed. If the names are equal there is
 /// neither. So the server never has the worker down for both.
 pub fn change<'a>(from: Option<&'a [u8]>, to: Option<&'a [u8]>) -> [Option<Request<'a>>; 2]
     ensures exact { map (option_map packet_of) result ≡ change_of (seen_name from.entry) (seen_name to.entry) }

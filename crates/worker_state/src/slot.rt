@@ -9,7 +9,7 @@ use plan_model::SlotId;
 /// What a slot of the pool holds.
 #[derive(Clone, Copy, Debug, PartialEq, Eq)]
 pub enum Slot {
-    /// No worker. The number is the generation of the last one, and 0 where there was none.
+    /// No worker. The number is the generation of the last one, and 0 if there was none.
     Empty(u32),
     /// A worker.
     Live {
@@ -46,7 +46,7 @@ impl Slot {
         }
     }
 
-    /// The generation of the last worker, live or not, and 0 where there was none.
+    /// The generation of the last worker, live or not, and 0 if there was none.
     pub fn last_generation(&self) -> u32
         ensures { result ≡ spec.last_generation self.now }
     {
