@@ -73,8 +73,7 @@ most = 1
 workers = 3
 functions = [\"x\", \"y\"]
 ";
-    let lines =
-        b"remark function x needs 2 workers at the least, and may have 1 at the most\n";
+    let lines = b"remark function x needs 2 workers at the least, and may have 1 at the most\n";
     assert!(rt; remarks(alloc, settings, lines));
 }
 
@@ -111,7 +110,8 @@ history = 12
 workers = 1
 functions = [\"x\"]
 ";
-    let line = b"remark history 12 may leave 6 events between two attempts, and one job of each worker takes 7\n";
+    let line =
+        b"remark history 12 may leave 6 events between two attempts, and one job of each worker takes 7\n";
     assert!(rt; remarks(alloc, short, line));
     let enough = b"version = 1
 history = 13
