@@ -19,7 +19,7 @@ module _ (p : Settings) (valid : AreSettings p) where
   pub function_found : (f : ℕ) → f < length p.functions → place_of p.functions (name_at p.functions f) ≡ Some f
   function_found f below = place_is p.functions (name_at p.functions f) f valid.functions_rise below refl
 
-  name_cut : (name : List ℕ) (n : ℕ) → n < 2 ^ 64 → parts_of (name ++ codes "/" ++ decimal n) ≡ Some (name, decimal n)
+  pub name_cut : (name : List ℕ) (n : ℕ) → n < 2 ^ 64 → parts_of (name ++ codes "/" ++ decimal n) ≡ Some (name, decimal n)
   name_cut name n small =
       let shape : name ++ codes "/" ++ decimal n ≡ name ++ 47 ∷ decimal n = append_assoc name (codes "/") (decimal n) in
       rw shape (last_of_parts 47 name (decimal n) (uncut 47 n small refl))

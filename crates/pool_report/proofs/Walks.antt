@@ -26,7 +26,7 @@ Leads p d text more =
 abbrev pub at : Stage → Option ℕ → List (ℕ × Option ℕ) → Option (List ℕ) → ℕ → ℕ → ℕ → Draft
 at s backlog entries set a b c = record { stage = s; backlog = backlog; entries = entries; set = set; next_slot = a; next_function = b; next_stranded = c }
 
-split_line : (line rest : List ℕ) → is_one_line line ≡ true → slice_split is_line_feed (line ++ 10 ∷ rest) ≡ line ∷ slice_split is_line_feed rest
+pub split_line : (line rest : List ℕ) → is_one_line line ≡ true → slice_split is_line_feed (line ++ 10 ∷ rest) ≡ line ∷ slice_split is_line_feed rest
 split_line [] rest one = refl
 split_line (x ∷ line) rest one =
     let parts = and_parts (not (eqb x 10)) (is_one_line line) one in

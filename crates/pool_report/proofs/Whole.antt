@@ -37,7 +37,7 @@ rest_above : (s : ℕ) (ws : List (ℕ × ℕ)) → AllByRecursion (λ g. s < g)
 rest_above s [] h = tt
 rest_above s (w ∷ ws) h = (omega (arith, h.0), rest_above s ws h.1)
 
-numbers_above : (s : ℕ) (fs : List ℕ) → AllByRecursion (λ g. s < g) fs → AllByRecursion (λ f. s + 1 ≤ f) fs
+pub numbers_above : (s : ℕ) (fs : List ℕ) → AllByRecursion (λ g. s < g) fs → AllByRecursion (λ f. s + 1 ≤ f) fs
 numbers_above s [] h = tt
 numbers_above s (f ∷ fs) h = (omega (arith, h.0), numbers_above s fs h.1)
 
@@ -45,7 +45,7 @@ slots_from_0 : (ws : List (ℕ × ℕ)) → AllByRecursion (λ w. 0 ≤ w.0) ws
 slots_from_0 [] = tt
 slots_from_0 (w ∷ ws) = (omega arith, slots_from_0 ws)
 
-numbers_from_0 : (fs : List ℕ) → AllByRecursion (λ f. 0 ≤ f) fs
+pub numbers_from_0 : (fs : List ℕ) → AllByRecursion (λ f. 0 ≤ f) fs
 numbers_from_0 [] = tt
 numbers_from_0 (f ∷ fs) = (omega arith, numbers_from_0 fs)
 
@@ -55,7 +55,7 @@ abbrev pub Below : ℕ → Option ℕ → Type 0
 Below n None = Unit {0}
 Below n (Some f) = f < n
 
-may_below : (n f : ℕ) (row : List ℕ) → AllByRecursion (λ g. g < n) row → list_any (λ g. eqb g f) row ≡ true → f < n
+pub may_below : (n f : ℕ) (row : List ℕ) → AllByRecursion (λ g. g < n) row → list_any (λ g. eqb g f) row ≡ true → f < n
 may_below n f [] h found = absurd (false≢true found)
 may_below n f (g ∷ row) h found = elim (or_cases (eqb g f) (list_any (λ g. eqb g f) row) found) [
   | inl same ↦ omega (arith, h.0, eqb-true g f same)
@@ -82,7 +82,7 @@ module _ (p : Settings) (valid : AreSettings p) where
   are_read plan [] next from rises each = tt
   are_read plan (w ∷ ws) next from rises each = (from.0, each.0, are_read plan ws (w.0 + 1) (rest_above w.0 ws rises.0) rises.1 each.1)
 
-  are_known : (number : ℕ → ℕ) (fs : List ℕ) (next : ℕ) → AllByRecursion (λ f. next ≤ f) fs → Rising fs → AllByRecursion (λ f. f < length p.functions) fs → ((f : ℕ) → number f < 2 ^ 32) → AreKnown p number next fs
+  pub are_known : (number : ℕ → ℕ) (fs : List ℕ) (next : ℕ) → AllByRecursion (λ f. next ≤ f) fs → Rising fs → AllByRecursion (λ f. f < length p.functions) fs → ((f : ℕ) → number f < 2 ^ 32) → AreKnown p number next fs
   are_known number [] next from rises below small = tt
   are_known number (f ∷ fs) next from rises below small = (
     from.0,

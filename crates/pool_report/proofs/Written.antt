@@ -14,7 +14,7 @@ use Rattle.pool_report.specs.Report.{Needed, Stranded, Worker, backlog_line, nee
 use Rattle.text_pieces.proofs.Cutting.{last_nowhere, last_of_parts, none_in}
 use Rattle.text_pieces.proofs.Digits.{digits, plain, plain_decimal, uncut}
 
-no_space : (name : List ℕ) → is_name name ≡ true → cut_last 32 name ≡ None
+pub no_space : (name : List ℕ) → is_name name ≡ true → cut_last 32 name ≡ None
 no_space name named = last_nowhere 32 name (none_in 32 is_name_byte name refl (and_parts _ (list_all is_name_byte name) named).1)
 
 -- ---- no line feed
@@ -26,16 +26,16 @@ one_line_of p (x ∷ xs) out all =
     let other : eqb x 10 ≡ false = ne_eqb x 10 (λ e. false≢true (sym out ∙ ap p (sym e) ∙ parts.0)) in
     rw (other, one_line_of p xs out parts.1) refl
 
-joined : (xs ys : List ℕ) → is_one_line xs ≡ true → is_one_line ys ≡ true → is_one_line (xs ++ ys) ≡ true
+pub joined : (xs ys : List ℕ) → is_one_line xs ≡ true → is_one_line ys ≡ true → is_one_line (xs ++ ys) ≡ true
 joined xs ys left right = list_all-append (λ b. not (eqb b 10)) xs ys ∙ and_from _ _ left right
 
-number_line : (n : ℕ) → n < 2 ^ 64 → is_one_line (decimal n) ≡ true
+pub number_line : (n : ℕ) → n < 2 ^ 64 → is_one_line (decimal n) ≡ true
 number_line n small = one_line_of is_ascii_digit (decimal n) refl (digits n small)
 
-name_line : (name : List ℕ) → is_name name ≡ true → is_one_line name ≡ true
+pub name_line : (name : List ℕ) → is_name name ≡ true → is_one_line name ≡ true
 name_line name named = one_line_of is_name_byte name refl (and_parts _ (list_all is_name_byte name) named).1
 
-machine_line : (name : List ℕ) → is_machine_name name ≡ true → is_one_line name ≡ true
+pub machine_line : (name : List ℕ) → is_machine_name name ≡ true → is_one_line name ≡ true
 machine_line name named = one_line_of is_machine_name_byte name refl (and_parts _ (list_all is_machine_name_byte name) named).1
 
 -- ---- lines

@@ -4,3 +4,4 @@ pub mod Grown
 pub mod Text
 pub mod Reading
 pub mod Drafts
+pub mod Law

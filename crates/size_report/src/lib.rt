@@ -31,11 +31,13 @@
 #![tactic(auto)]
 
 mod draft;
+mod law;
 mod line;
 mod reader;
 mod stage;
 mod text;
 mod workers;
 
+pub use law::size_reads_back;
 pub use reader::read_size;
 pub use text::size_text;
