@@ -63,7 +63,7 @@ kept_by i t plan sound same =
     omega (arith, by_place, sizes, by_owner, busy_or_idle n owner sound.assigned.below)
 
 -- the needs of a level that is met are not more than the workers who have a function
-needed_by : (i : Instance) (owner : List ℕ) (level : ℕ) → AreMet i owner level → sum_by (need i level) (functions i) + count_on owner (length i.least) ≤ length owner
+pub needed_by : (i : Instance) (owner : List ℕ) (level : ℕ) → AreMet i owner level → sum_by (need i level) (functions i) + count_on owner (length i.least) ≤ length owner
 needed_by i owner level met =
     let n = length i.least in
     let each = recursion_from_All (λ f. need i level f ≤ count_on owner f) (functions i) (λ k d l. met _ (range-below n k d l)) in

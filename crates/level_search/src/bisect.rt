@@ -1,6 +1,7 @@
 //! The bisection of levels.
 
-ghost use Rattle.std.specs.Prelude.{◌≡◌, ◌+◌, ◌*◌, ◌^◌, ◌<◌, ◌≤◌, length, IfOk, OnOk};
+ghost use Rattle.std.specs.Prelude.{◌≡◌, ◌+◌, ◌*◌, ◌^◌, ◌<◌, ◌≤◌, ◌↔◌, length, sum_by, IfOk, IsTrue, OnOk};
+ghost use Rattle.plan_model.specs.Planning.{IsShort, functions, need};
 ghost use Rattle.round_arena.specs.Plan.{pair_total};
 ghost use Rattle.round_arena.specs.Round.{IsConsistent, SamePairs};
 ghost use Rattle.augment.specs.Round.{Hires, IsWithinLooks};
@@ -52,6 +53,42 @@ fn probe<'a>(tables: &mut Tables<'a>, input: &Input, level: u64) -> Result<Serve
     Ok(served)
 }
 
+// Whether the functions need more workers at the level than there are.
+fn exceeds_workers(input: &Input, level: u64) -> bool
+    ensures { IsTrue result ↔ length input.now.live < sum_by (need input.now level) (functions input.now) }
+{
+    let mut wanted = 0u32;
+    for f in 0..input.functions() as u32 {
+        wanted += input.need(level, FuncId::new(f));
+    }
+    input.workers() < wanted
+}
+
+// A set that is short at a level at which the functions need more workers than there are.
+fn find_short<'a>(
+    tables: &mut Tables<'a>,
+    input: &Input,
+    level: u64,
+) -> Result<&'a [FuncId], AllocError>
+    requires sound { IsConsistent (length input.now.least) tables.old }
+    requires fits { Fits input.now tables.old }
+    requires exceeds { length input.now.live < sum_by (need input.now level) (functions input.now) }
+    requires looks { tables.old.looks + (length tables.old.owner.now + 1) * pair_total tables.old.pairs < 2 ^ 64 }
+    ensures sound { IsConsistent (length input.now.least) tables.new }
+    ensures same { SamePairs tables.old tables.new }
+    ensures short { IfOk result (λ set. IsShort input.now level set.now) }
+    ensures kept { KeepsMet input.now level tables.old tables.new }
+    ensures looks { IfOk result (λ _. tables.new.looks
+        ≤ tables.old.looks + (length tables.old.owner.now + 1) * pair_total tables.old.pairs) }
+    ensures hired { Hires (length input.now.least) tables.old tables.new }
+{
+    match probe(tables, input, level)? {
+        Served::Short(set) => Ok(set),
+        // Who has what he needs is one of the workers, and there are not enough.
+        Served::All => Ok(&[]),
+    }
+}
+
 /// The least level that can be served, with a set that is short one level below, or a set that is
 /// short at the top level.
 pub fn solve_levels<'a>(tables: &mut Tables<'a>, input: &Input) -> Result<Found<'a>, AllocError>
@@ -70,19 +107,27 @@ pub fn solve_levels<'a>(tables: &mut Tables<'a>, input: &Input) -> Result<Found<
     }
     let mut low = 0u64;
     let mut high = TOP_LEVEL;
-    let mut short: &'a [FuncId] = &[];
+    // Levels at which more workers are needed than there are cost no search; of these only the last is searched for its set.
+    let mut short: Option<&'a [FuncId]> = None;
     // There are 2^33 levels, so 33 halvings leave one. With a `for` the bound on probes, and so on looks, is in the code.
     for _round in 0..33u32 {
-        if low < high {
-            let middle = low + (high - low) / 2;
+        let middle = low + (high - low) / 2;
+        if low < high && exceeds_workers(input, middle) {
+            low = middle + 1;
+            short = None;
+        } else if low < high {
             match probe(tables, input, middle)? {
                 Served::All => high = middle,
                 Served::Short(set) => {
                     low = middle + 1;
-                    short = set;
+                    short = Some(set);
                 }
             }
         }
     }
-    Ok(Found::Level(high, short))
+    match short {
+        Some(set) => Ok(Found::Level(high, set)),
+        None if high == 0 => Ok(Found::Level(0, &[])),
+        None => Ok(Found::Level(high, find_short(tables, input, high - 1)?)),
+    }
 }

@@ -147,17 +147,17 @@ fn looks_of(
 fn looks_by_hand(rt: HostRuntime) -> Result<(), Fail> {
     let alloc = rt.alloc();
 
-    // One worker for one function: one look finds him, level 0 needs more workers than there are, and one look is for the filling.
+    // One worker for one function: one look finds him, level 0 needs more workers of it than there are, and one look is for the filling.
     let looks = looks_of(alloc, &[(0, 0)], &[&[0]], &[0], &[1])?;
     assert_eq!(rt; looks, Some(2));
 
-    // Each function finds its worker at the first look, levels 3 and 5 are stuck after two looks each, one at each machine's worker, and
-    // three looks are for the filling.
+    // Each function finds its worker at the first look. Levels below 6 need more workers than there are; level 5 is searched for its set
+    // and stuck after two looks, one at each machine's worker. Three looks are for the filling.
     let looks = looks_of(alloc, &[(0, 0), (1, 1)], &[&[0], &[0, 1]], &[0, 0], &[6, 2])?;
-    assert_eq!(rt; looks, Some(9));
+    assert_eq!(rt; looks, Some(7));
 
-    // One look and two at the first level, three more at level 7, none at level 3, which needs more workers than there are, three
-    // at level 4, which is stuck as the machine is passed over for the second function, and six for the filling.
+    // One look and two at the first level, and three more at level 7. Levels below 5 need more workers than there are; level 4 is stuck
+    // after three looks, as the machine is passed over for the second function. Six looks are for the filling.
     let three = [(0, 0), (1, 0), (2, 0)];
     let looks = looks_of(alloc, &three, &[&[0, 1]], &[0, 0], &[10, 4])?;
     assert_eq!(rt; looks, Some(15));
