@@ -43,6 +43,7 @@ fn write_meaning<S: Sink>(
 /// The line that says where a mistake is, and the mistake.
 fn located(
     alloc: Global,
+    settings_text: &[u8],
     error: SettingsError,
     place: &Place<&str>,
 ) -> Result<(String, Mistake), AllocError>
@@ -50,17 +51,22 @@ fn located(
     ensures mistake { IfOk result (λ both. mistake_view both.1 ≡ (error, place_view (λ t. t.now) place.now)) }
 {
     let line = place_text(alloc, place)?;
-    let mistake = Mistake::new(alloc, error, place)?;
+    let mistake = Mistake::new(alloc, error, place)?.with_found(alloc, settings_text)?;
     Ok((line, mistake))
 }
 
 /// Writes where the first fault of a file is, and ends by that fault.
-fn locate<S: Sink>(alloc: Global, fault: &SettingsFault<'_>, sink: &mut S) -> Exit
+fn locate<S: Sink>(
+    alloc: Global,
+    settings_text: &[u8],
+    fault: &SettingsFault<'_>,
+    sink: &mut S,
+) -> Exit
     requires { (S.output sink.old).failures < 2 ^ 64 - 1 }
     ensures { spec.Locates fault.now (S.output sink.old) (S.output sink.new) result }
 {
     match fault {
-        SettingsFault::At(error, place) => match located(alloc, *error, place) {
+        SettingsFault::At(error, place) => match located(alloc, settings_text, *error, place) {
             Ok((line, mistake)) => deliver(
                 sink,
                 line.as_bytes(),
@@ -73,13 +79,13 @@ fn locate<S: Sink>(alloc: Global, fault: &SettingsFault<'_>, sink: &mut S) -> Ex
 }
 
 /// Writes what a file means, or where its first fault is.
-fn explain<S: Sink>(alloc: Global, file: &SettingsFile, sink: &mut S) -> Exit
+fn explain<S: Sink>(alloc: Global, settings_text: &[u8], file: &SettingsFile, sink: &mut S) -> Exit
     requires { (S.output sink.old).failures < 2 ^ 64 - 1 }
     ensures { spec.Explains (table_view file.now.tree) (S.output sink.old) (S.output sink.new) result }
 {
     match file.settings(alloc) {
         Ok(settings) => write_meaning(alloc, &settings, file, sink),
-        Err(fault) => locate(alloc, &fault, sink),
+        Err(fault) => locate(alloc, settings_text, &fault, sink),
     }
 }
 
@@ -92,7 +98,7 @@ pub fn settings_text<S: Sink>(alloc: Global, settings_text: &[u8], sink: &mut S)
     ensures tells { spec.TellsSettings settings_text.now (S.output sink.old) (S.output sink.new) result }
 {
     match SettingsFile::read(alloc, settings_text) {
-        Ok(file) => explain(alloc, &file, sink),
-        Err(fault) => locate(alloc, &fault, sink),
+        Ok(file) => explain(alloc, settings_text, &file, sink),
+        Err(fault) => locate(alloc, settings_text, &fault, sink),
     }
 }
