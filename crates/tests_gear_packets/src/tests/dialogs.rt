@@ -183,30 +183,41 @@ fn handles_of_63_and_64_bytes(rt: HostRuntime) -> Result<(), Fail> {
     Ok(())
 }
 
+/// Packets whose body breaks the rule of their type.
+const BAD_BODIES: [&[u8]; 4] = [
+    b"\0RES\0\0\0\x0b\0\0\0\x03H\0x",
+    b"\0RES\0\0\0\x0b\0\0\0\x04\0x\0y",
+    b"\0RES\0\0\0\x06\0\0\0\x01x",
+    b"\0RES\0\0\0\x0a\0\0\0\x01x",
+];
+
 #[test]
-fn other_bodies(rt: HostRuntime) -> Result<(), Fail> {
-    let alloc = rt.alloc();
+fn bad_bodies(rt: HostRuntime) {
     let bad_body = Err(FeedError::Fault(StreamFault::BadBody));
-    assert_eq!(rt; answer(alloc, &response(alloc, 11, 3, b"H\0x")?), bad_body);
-    assert_eq!(rt;
-        answer(alloc, &response(alloc, 11, 4, b"\0x\0y")?),
-        bad_body
-    );
-    assert_eq!(rt; answer(alloc, &response(alloc, 6, 1, b"x")?), bad_body);
-    assert_eq!(rt; answer(alloc, &response(alloc, 10, 1, b"x")?), bad_body);
-    let mut reader = Reader::new(alloc);
-    assert_eq!(rt; reader.feed(&response(alloc, 11, 4, b"H\0x\0")?), Ok(()));
+    for (number, packet) in BAD_BODIES.iter().enumerate() {
+        assert_eq!(rt; answer(rt.alloc(), packet), bad_body, "packet {number}");
+    }
+}
+
+/// A packet is taken, and is the next response.
+fn expect_next(rt: &impl Abort, reader: &mut Reader, packet: &[u8]) -> Response {
+    assert_eq!(rt; reader.feed(packet), Ok(()));
+    reader.next().expect(rt, "a response")
+}
+
+#[test]
+fn other_bodies(rt: HostRuntime) {
+    let mut reader = Reader::new(rt.alloc());
+    assert_eq!(rt; reader.feed(b"\0RES\0\0\0\x0b\0\0\0\x04H\0x\0"), Ok(()));
     expect_assign(&rt, &mut reader, b"H", b"x", b"", b"");
-    assert_eq!(rt; reader.feed(&response(alloc, 8, 0, b"")?), Ok(()));
-    assert!(rt; matches!(reader.next(), Some(Response::Other(8))));
-    assert_eq!(rt; reader.feed(&response(alloc, 6, 0, b"")?), Ok(()));
-    assert!(rt; matches!(reader.next(), Some(Response::Noop)));
-    assert_eq!(rt; reader.feed(&response(alloc, 10, 0, b"")?), Ok(()));
-    assert!(rt; matches!(reader.next(), Some(Response::NoJob)));
-    assert_eq!(rt; reader.feed(&response(alloc, 19, 3, b"e\0t")?), Ok(()));
-    let error = reader.next().expect(&rt, "a fault");
+    let other = expect_next(&rt, &mut reader, b"\0RES\0\0\0\x08\0\0\0\0");
+    assert!(rt; matches!(&other, Response::Other(8)));
+    let noop = expect_next(&rt, &mut reader, b"\0RES\0\0\0\x06\0\0\0\0");
+    assert!(rt; matches!(&noop, Response::Noop));
+    let no_job = expect_next(&rt, &mut reader, b"\0RES\0\0\0\x0a\0\0\0\0");
+    assert!(rt; matches!(&no_job, Response::NoJob));
+    let error = expect_next(&rt, &mut reader, b"\0RES\0\0\0\x13\0\0\0\x03e\0t");
     assert!(rt; is_fault(&error, b"e", b"t"));
-    Ok(())
 }
 
 #[test]
