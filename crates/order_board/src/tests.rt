@@ -40,38 +40,56 @@ fn work(generation: u32, round: u32, function: u32) -> Order
     }
 }
 
+/// Reads by a seat, whose order is to be this.
+fn expect_read(rt: &impl Abort, board: &Board, reader: ReaderSeat, wanted: Order) -> ReaderSeat
+    requires { reader.board ≡ board.now.id }
+    ensures { result.board ≡ reader.board }
+{
+    let (order, reader) = board.read(reader);
+    assert_eq!(rt; order, wanted);
+    reader
+}
+
+/// Looks at what was posted to a slot last, which is to be this.
+fn expect_posted(
+    rt: &impl Abort,
+    board: &Board,
+    publisher: PublisherSeat,
+    slot: u32,
+    wanted: Order,
+) -> PublisherSeat
+    requires own { publisher.board ≡ board.now.id }
+    requires slot { slot < board.now.slots }
+    ensures { result.board ≡ publisher.board }
+{
+    let (order, publisher) = board.posted(publisher, SlotId::new(slot));
+    assert_eq!(rt; order, wanted);
+    publisher
+}
+
 #[test]
 fn reads_what_was_posted(rt: HostRuntime) {
     let (board, publisher, source) = board(&rt, rt.alloc(), 2);
     let (reader, source) = board.reader(source, SlotId::new(0));
-    let (order, reader) = board.read(reader);
-    assert_eq!(rt; order, Order::NONE);
-    let (order, publisher) = board.posted(publisher, SlotId::new(0));
-    assert_eq!(rt; order, Order::NONE);
+    let reader = expect_read(&rt, &board, reader, Order::NONE);
+    let publisher = expect_posted(&rt, &board, publisher, 0, Order::NONE);
 
     let first = work(1, 1, 0);
     assert_eq!(rt; first.to_word(), 8_800_387_989_505);
     let publisher = board.post(publisher, SlotId::new(0), first);
-    let (order, reader) = board.read(reader);
-    assert_eq!(rt; order, first);
-    let (order, publisher) = board.posted(publisher, SlotId::new(0));
-    assert_eq!(rt; order, first);
+    let reader = expect_read(&rt, &board, reader, first);
+    let publisher = expect_posted(&rt, &board, publisher, 0, first);
     let (other, source) = board.reader(source, SlotId::new(1));
-    let (order, other) = board.read(other);
-    assert_eq!(rt; order, Order::NONE);
+    let other = expect_read(&rt, &board, other, Order::NONE);
 
     let second = work(2, 7, 1023);
     let publisher = board.post(publisher, SlotId::new(0), second);
-    let (order, publisher) = board.posted(publisher, SlotId::new(1));
-    assert_eq!(rt; order, Order::NONE);
+    let publisher = expect_posted(&rt, &board, publisher, 1, Order::NONE);
     let source = board.retire(reader, source);
     let (late, _source) = board.reader(source, SlotId::new(0));
-    let (order, _late) = board.read(late);
-    assert_eq!(rt; order, second);
-    let (order, _other) = board.read(other);
-    assert_eq!(rt; order, Order::NONE);
-    let (order, _publisher) = board.posted(publisher, SlotId::new(0));
-    assert_eq!(rt; order, second);
+    let _late = expect_read(&rt, &board, late, second);
+    let _other = expect_read(&rt, &board, other, Order::NONE);
+    let _publisher = expect_posted(&rt, &board, publisher, 0, second);
 }
 
 #[test]
@@ -95,8 +113,7 @@ fn limits(rt: HostRuntime) {
     };
     let _publisher = all.post(publisher, last, stop);
     let (reader, _source) = all.reader(source, last);
-    let (order, _reader) = all.read(reader);
-    assert_eq!(rt; order, stop);
+    let _reader = expect_read(&rt, &all, reader, stop);
 }
 
 /// The order of a round in the test of threads. Each slot has a generation of its own, and the function tells the round.
@@ -228,9 +245,7 @@ fn no_order_goes_back(rt: HostRuntime) {
     for met in [met, other, third] {
         assert!(rt; is_sound(met), "{met:?}");
     }
-    let (order, _publisher) = board.posted(publisher, SlotId::new(1));
-    assert_eq!(rt; order, order_of_round(1, ROUNDS));
+    let _publisher = expect_posted(&rt, &board, publisher, 1, order_of_round(1, ROUNDS));
     let (late, _source) = board.reader(source, SlotId::new(0));
-    let (order, _late) = board.read(late);
-    assert_eq!(rt; order, order_of_round(0, ROUNDS));
+    let _late = expect_read(&rt, &board, late, order_of_round(0, ROUNDS));
 }
