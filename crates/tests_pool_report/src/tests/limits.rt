@@ -5,6 +5,7 @@ use pool_report::{ReadError, read, report_text};
 use pool_settings::Settings;
 use std::alloc::{AllocError, Global};
 use std::fmt::Write;
+use std::process::Abort;
 
 /// The end of names of 64 bytes, which begin with four digits.
 const END: &str = "xxxxxxxxxxxxxxxxxxxxxxxxxxxxxxxxxxxxxxxxxxxxxxxxxxxxxxxxxxxx";
@@ -35,23 +36,34 @@ fn greatest_report(alloc: Global) -> Result<String, AllocError> {
     Ok(text)
 }
 
-/// Whether the greatest report is that of the answer that it tells.
-fn is_written_again(
+/// The greatest report is that of the answer that it tells.
+fn expect_written_again(
+    rt: &impl Abort,
     alloc: Global,
     settings: &Settings,
     answer: &Answer,
     report: &str,
-) -> Result<bool, AllocError> {
-    let live = vec![in alloc; true; 4096]?;
-    let waiting = vec![in alloc; 4_294_967_295; 1024]?;
-    if settings.functions() != 1024 {
-        return Ok(false);
-    }
-    let input = settings.input(alloc, &live, &waiting)?;
-    if check(&input, answer).is_err() {
-        return Ok(false);
-    }
-    Ok(report_text(alloc, settings, &input, answer)?.as_str() == report)
+) {
+    let live = vec![in alloc; true; 4096].expect(rt, "memory");
+    let waiting = vec![in alloc; 4_294_967_295; 1024].expect(rt, "memory");
+    assert!(rt; settings.functions() == 1024);
+    let input = settings.input(alloc, &live, &waiting).expect(rt, "memory");
+    check(&input, answer).expect(rt, "shown");
+    let text = report_text(alloc, settings, &input, answer).expect(rt, "memory");
+    assert!(rt; text.as_str() == report);
+}
+
+/// Whether the first line of a text is no line of a report.
+fn is_bad(alloc: Global, settings: &Settings, text: &[u8]) -> bool {
+    matches!(read(alloc, settings, text), Err(ReadError::BadLine(1)))
+}
+
+/// An empty line, and one that is longer than any of a report.
+fn expect_bad_lines(rt: &impl Abort, alloc: Global, settings: &Settings) {
+    assert!(rt; is_bad(alloc, settings, b"\n"));
+    let mut long = vec![in alloc; b'x'; 65_536].expect(rt, "memory");
+    long.push(b'\n').expect(rt, "memory");
+    assert!(rt; is_bad(alloc, settings, &long));
 }
 
 /// The greatest report is read and written again where there is memory, and a long line is no want of memory.
@@ -62,10 +74,6 @@ fn the_greatest_report(rt: HostRuntime) {
     let settings = Settings::read(alloc, text.as_bytes()).expect(&rt, "settings");
     let report = greatest_report(alloc).expect(&rt, "memory");
     let answer = read(alloc, &settings, report.as_bytes()).expect(&rt, "an answer");
-    assert!(rt; is_written_again(alloc, &settings, &answer, &report) == Ok(true));
-    let line = vec![in alloc; b'\n'; 1].expect(&rt, "memory");
-    assert!(rt; matches!(read(alloc, &settings, &line), Err(ReadError::BadLine(1))));
-    let mut long = vec![in alloc; b'x'; 65_536].expect(&rt, "memory");
-    long.push(b'\n').expect(&rt, "memory");
-    assert!(rt; matches!(read(alloc, &settings, &long), Err(ReadError::BadLine(1))));
+    expect_written_again(&rt, alloc, &settings, &answer, &report);
+    expect_bad_lines(&rt, alloc, &settings);
 }
