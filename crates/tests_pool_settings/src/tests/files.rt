@@ -2,6 +2,7 @@
 
 use plan_model::{FuncId, MachineId, SlotId};
 use pool_settings::{Settings, SettingsError};
+use refusal::Labelled;
 use std::alloc::{AllocError, Global};
 
 /// Every key, with tables and lists out of order and a function that is listed twice.
@@ -26,39 +27,22 @@ workers = 3
 functions = [\"z\"]
 ";
 
-/// A file of two machines. The parts stand for the version, a top key, a function's key, and the first machine.
-#[derive(Clone, Copy)]
-struct File<'f> {
-    version: &'f str,
-    top: &'f str,
-    function: &'f str,
-    machine: &'f str,
-    workers: &'f str,
-    listed: &'f str,
+/// What a line says in the part of this name, if it has the part.
+fn part<'t>(line: &'t str, name: &str) -> Option<&'t str> {
+    line.split("; ").find_map(|part| part.strip_prefix(name))
 }
 
-const S1: File<'static> = File {
-    version: "1",
-    top: "",
-    function: "",
-    machine: "a",
-    workers: "1",
-    listed: "\"x\"",
-};
-
-/// S1 of version 2, where at most one worker may be on the function.
-const S2: File<'static> = File {
-    version: "2",
-    function: "most = 1",
-    ..S1
-};
-
-impl File<'_> {
-    fn text(&self, alloc: Global) -> Result<String, AllocError> {
-        let (version, top, function) = (self.version, self.top, self.function);
-        let (machine, workers, listed) = (self.machine, self.workers, self.listed);
-        format!(in alloc;
-            "version = {version}
+/// A file of two machines. A line may give the version, a top key, a function's keys, and the first machine's name, workers and
+/// functions otherwise.
+fn file(alloc: Global, line: &str) -> Result<String, AllocError> {
+    let version = part(line, "version ").unwrap_or("1");
+    let top = part(line, "top ").unwrap_or("");
+    let function = part(line, "function ").unwrap_or("");
+    let machine = part(line, "machine ").unwrap_or("a");
+    let workers = part(line, "workers ").unwrap_or("1");
+    let listed = part(line, "listed ").unwrap_or("\"x\"");
+    format!(in alloc;
+        "version = {version}
 {top}
 [functions.x]
 {function}
@@ -70,15 +54,12 @@ functions = [{listed}]
 workers = 1
 functions = [\"x\", \"y\"]
 "
-        )
-    }
+    )
+}
 
-    fn error(&self, alloc: Global) -> Option<SettingsError> {
-        match self.text(alloc) {
-            Ok(text) => error_of(alloc, text.as_bytes()),
-            Err(_) => Some(SettingsError::Memory),
-        }
-    }
+/// The settings of a file that a line gives.
+fn settings(alloc: Global, line: &str) -> Result<Settings, SettingsError> {
+    Settings::read(alloc, file(alloc, line)?.as_bytes())
 }
 
 fn error_of(alloc: Global, text: &[u8]) -> Option<SettingsError> {
@@ -98,99 +79,44 @@ fn refusals_of_texts(rt: HostRuntime) {
     assert!(rt; error_of(alloc, b"version = 1\n") == Some(SettingsError::MissingKey));
 }
 
-/// S1 with its parts put differently, and the refusal of it.
-fn changed_files() -> [(File<'static>, Option<SettingsError>); 13] {
-    [
-        (S1, None),
-        (S2, None),
-        (
-            File {
-                function: "most = 4097",
-                ..S2
-            },
-            Some(SettingsError::BadValue),
-        ),
-        (
-            File {
-                function: "least = 2\nmost = 1",
-                ..S2
-            },
-            None,
-        ),
-        (File { version: "3", ..S2 }, Some(SettingsError::Version)),
-        (
-            File {
-                version: "1.0",
-                ..S1
-            },
-            Some(SettingsError::Version),
-        ),
-        (
-            File {
-                top: "speed = 3",
-                ..S1
-            },
-            Some(SettingsError::UnknownKey),
-        ),
-        (
-            File {
-                function: "most = 3",
-                workers: "-1",
-                ..S1
-            },
-            Some(SettingsError::UnknownKey),
-        ),
-        (
-            File {
-                machine: "\"a/b\"",
-                ..S1
-            },
-            Some(SettingsError::BadName),
-        ),
-        (
-            File {
-                workers: "-1",
-                ..S1
-            },
-            Some(SettingsError::BadValue),
-        ),
-        (
-            File {
-                listed: "\"z\"",
-                ..S1
-            },
-            Some(SettingsError::UnknownFunction),
-        ),
-        (
-            File {
-                workers: "4095",
-                ..S1
-            },
-            None,
-        ),
-        (
-            File {
-                workers: "4096",
-                ..S1
-            },
-            Some(SettingsError::TooMany),
-        ),
-    ]
+/// Files, each behind the refusal of it.
+const FILES: [&str; 13] = [
+    "none: ",
+    "none: version 2; function most = 1",
+    "BadValue: version 2; function most = 4097",
+    "none: version 2; function least = 2\nmost = 1",
+    "Version: version 3; function most = 1",
+    "Version: version 1.0",
+    "UnknownKey: top speed = 3",
+    "UnknownKey: function most = 3; workers -1",
+    "BadName: machine \"a/b\"",
+    "BadValue: workers -1",
+    "UnknownFunction: listed \"z\"",
+    "none: workers 4095",
+    "TooMany: workers 4096",
+];
+
+/// The name of the refusal of a file that a line gives.
+fn refusal(alloc: Global, line: &str) -> &'static str {
+    match settings(alloc, line) {
+        Ok(_) => "none",
+        Err(error) => error.label().name(),
+    }
 }
 
 #[test]
 fn refusals_of_parts(rt: HostRuntime) {
     let alloc = rt.alloc();
-    for (file, error) in changed_files() {
-        assert!(rt; file.error(alloc) == error);
+    for line in FILES {
+        let (wanted, file) = line.split_once(": ").unwrap_or((line, ""));
+        assert_eq!(rt; refusal(alloc, file), wanted, "{file}");
     }
 }
 
 #[test]
 fn defaults(rt: HostRuntime) {
     let alloc = rt.alloc();
-    let text = S1.text(alloc).expect(&rt, "memory");
-    let settings = Settings::read(alloc, text.as_bytes()).expect(&rt, "settings");
+    let settings = settings(alloc, "").expect(&rt, "settings");
     assert!(rt; settings.server() == "127.0.0.1:4730");
     assert!(rt; (settings.job_timeout_ms(), settings.max_runs()) == (60_000, 4_294_967_295));
     assert!(rt;
@@ -234,9 +160,8 @@ fn permissions(rt: HostRuntime) {
     assert!(rt; settings.permitted(MachineId::new(2)).len() == 2);
 }
 
-/// What a file says of the least and the greatest number of its first two functions.
-fn numbers_of(alloc: Global, file: File<'_>) -> Result<[(u32, u32); 2], SettingsError> {
-    let settings = Settings::read(alloc, file.text(alloc)?.as_bytes())?.copy(alloc)?;
+/// The least and the greatest number of the first two functions.
+fn numbers(settings: &Settings) -> Result<[(u32, u32); 2], SettingsError> {
     if settings.functions() < 2 {
         return Err(SettingsError::MissingKey);
     }
@@ -247,36 +172,28 @@ fn numbers_of(alloc: Global, file: File<'_>) -> Result<[(u32, u32); 2], Settings
     ])
 }
 
+/// What a file says of these numbers, in a copy of its settings.
+fn numbers_of(alloc: Global, line: &str) -> Result<[(u32, u32); 2], SettingsError> {
+    let settings = settings(alloc, line)?.copy(alloc)?;
+    numbers(&settings)
+}
+
 /// A function that has no greatest number may have all workers of the file, in either version.
 #[test]
 fn least_and_greatest_numbers(rt: HostRuntime) {
     let alloc = rt.alloc();
-    for (file, numbers) in [
-        (S1, [(0, 2), (0, 2)]),
-        (S2, [(0, 1), (0, 2)]),
-        (
-            File {
-                function: "least = 3\nmost = 0",
-                workers: "4095",
-                ..S2
-            },
-            [(3, 0), (0, 4096)],
-        ),
-        (
-            File {
-                function: "most = 4096",
-                ..S2
-            },
-            [(0, 4096), (0, 2)],
-        ),
-    ] {
-        assert!(rt; numbers_of(alloc, file) == Ok(numbers));
-    }
+    let file = "";
+    assert!(rt; numbers_of(alloc, file) == Ok([(0, 2), (0, 2)]));
+    let file = "version 2; function most = 1";
+    assert!(rt; numbers_of(alloc, file) == Ok([(0, 1), (0, 2)]));
+    let file = "version 2; function least = 3\nmost = 0; workers 4095";
+    assert!(rt; numbers_of(alloc, file) == Ok([(3, 0), (0, 4096)]));
+    let file = "version 2; function most = 4096";
+    assert!(rt; numbers_of(alloc, file) == Ok([(0, 4096), (0, 2)]));
 }
 
-/// The greatest numbers of the planning problem of a file, where all workers are live.
-fn planned_most(alloc: Global, file: File<'_>) -> Result<Vec<u32>, SettingsError> {
-    let settings = Settings::read(alloc, file.text(alloc)?.as_bytes())?;
+/// The greatest numbers of the planning problem, where all workers are live.
+fn planned_most(alloc: Global, settings: &Settings) -> Result<Vec<u32>, SettingsError> {
     if settings.functions() != 2 {
         return Err(SettingsError::MissingKey);
     }
@@ -284,12 +201,18 @@ fn planned_most(alloc: Global, file: File<'_>) -> Result<Vec<u32>, SettingsError
     Ok(Vec::from_slice(alloc, input.most())?)
 }
 
+/// The same of a file.
+fn planned_most_of(alloc: Global, line: &str) -> Result<Vec<u32>, SettingsError> {
+    let settings = settings(alloc, line)?;
+    planned_most(alloc, &settings)
+}
+
 #[test]
 fn planning_problems_with_greatest_numbers(rt: HostRuntime) {
     let alloc = rt.alloc();
-    let most = planned_most(alloc, S2).expect(&rt, "settings");
+    let most = planned_most_of(alloc, "version 2; function most = 1").expect(&rt, "settings");
     assert!(rt; most.as_slice() == [1, 2].as_slice());
-    let most = planned_most(alloc, S1).expect(&rt, "settings");
+    let most = planned_most_of(alloc, "").expect(&rt, "settings");
     assert!(rt; most.as_slice() == [2, 2].as_slice());
 }
 
@@ -328,19 +251,32 @@ fn planning_problems(rt: HostRuntime) {
     assert!(rt; input.waiting().last() == Some(&8));
 }
 
+/// The least file.
+const LEAST: &str = "version = 1\nfunctions = {}\nmachines = {}\n";
+
+/// The copy of the settings of the least file.
+fn least_settings(alloc: Global) -> Result<Settings, SettingsError> {
+    let settings = Settings::read(alloc, LEAST.as_bytes())?;
+    Ok(settings.copy(alloc)?)
+}
+
+/// The least file behind a comment of 65,536 bytes.
+fn great_file(alloc: Global) -> Result<Vec<u8>, AllocError> {
+    let mut great = vec![in alloc; b'#'; 65_536]?;
+    great.push(b'\n')?;
+    great.extend_from_slice(LEAST.as_bytes())?;
+    Ok(great)
+}
+
 /// The least file, and one behind a comment of 65,536 bytes, are taken where there is memory, and so are the settings' copy and the
 /// planning problem that nobody works on. A file of 16,777,216 bytes, the longest that the program reads, takes minutes in a build
 /// that checks each step, and is measured in `bench/`.
 #[test]
 fn least_and_great_files(rt: HostRuntime) {
     let alloc = rt.alloc();
-    let least = b"version = 1\nfunctions = {}\nmachines = {}\n";
-    let settings = Settings::read(alloc, least).expect(&rt, "settings");
-    let copy = settings.copy(alloc).expect(&rt, "memory");
+    let copy = least_settings(alloc).expect(&rt, "settings");
     assert!(rt; (copy.functions(), copy.machines(), copy.slots()) == (0, 0, 0));
     assert!(rt; copy.input(alloc, &[], &[]).is_ok());
-    let mut great = vec![in alloc; b'#'; 65_536].expect(&rt, "memory");
-    great.push(b'\n').expect(&rt, "memory");
-    great.extend_from_slice(least).expect(&rt, "memory");
+    let great = great_file(alloc).expect(&rt, "memory");
     assert!(rt; error_of(alloc, &great) == None);
 }
