@@ -78,6 +78,14 @@ enum Seen {
     Report,
 }
 
+/// Writes a line, or several with a `|` between them.
+fn push_lines(rt: &impl Abort, text: &mut String, lines: &str) {
+    for line in lines.split('|') {
+        text.push_str(line).expect(rt, "memory");
+        text.push_str("\n").expect(rt, "memory");
+    }
+}
+
 /// What was seen is named so.
 fn expect_seen(rt: &impl Abort, alloc: Global, seen: Seen, wanted: &str) {
     let told = format!(in alloc; "{seen:?}").expect(rt, "memory");
@@ -132,16 +140,16 @@ impl Example<'_> {
             at = at.saturating_add(1);
             let kept = if at == number { other } else { Some(line) };
             if let Some(line) = kept {
-                text.push_str(line).expect(rt, "memory");
-                text.push_str("\n").expect(rt, "memory");
+                push_lines(rt, &mut text, line);
             }
         }
         self.see(rt, alloc, &text)
     }
 
-    /// Each change is the number of a line, what becomes of this report, and the line in its place, if any.
-    fn expect_changes(&self, rt: &impl Abort, alloc: Global, changes: &[&str]) {
-        for change in changes {
+    /// Each line of the changes is the number of a line, what becomes of this report, and the line in its place, if any. A `|` is a line
+    /// feed.
+    fn expect_changes(&self, rt: &impl Abort, alloc: Global, changes: &str) {
+        for change in changes.lines() {
             let (number, rest) = change.split_once("; ").expect(rt, "a number");
             let number = number.parse().expect(rt, "a number");
             let (wanted, line) = match rest.split_once("; ") {
@@ -189,48 +197,48 @@ fn reports_are_read_shown_and_written_again(rt: HostRuntime) {
 }
 
 /// Changes of the report of two machines: the number of a line, what becomes of the report, and the line in its place, if any.
-const CHANGES: &[&str] = &[
-    "1; Refused(BadLine(1)); report 2",
-    "1; Refused(BadLine(1)); report  1",
-    "1; Refused(BadLine(1))",
-    "2; Wrong(WrongBacklog); backlog 5",
-    "2; Wrong(WrongBacklog); backlog 7",
-    "2; Wrong(WrongBacklog); unserved 6",
-    "2; Refused(BadLine(2)); backlog 06",
-    "2; Refused(BadLine(2)); backlog +6",
-    "2; Refused(BadLine(2)); backlog 4294967296",
-    "2; Refused(BadLine(2)); unserved 0",
-    "2; Refused(BadLine(3)); noplan",
-    "2; Refused(BadLine(2))",
-    "3; Refused(UnknownName(3)); work a/1 x",
-    "3; Refused(BadLine(3)); work a/00 x",
-    "3; Refused(BadLine(3)); idle a/00",
-    "3; Refused(BadLine(3)); work a x",
-    "3; Refused(UnknownName(3)); work a/0 z",
-    "3; Refused(BadLine(4)); work b/0 x",
-    "3; Wrong(NotPermitted); work a/0 y",
-    "3; Wrong(WrongBacklog); idle a/0",
-    "3; Wrong(WrongBacklog)",
-    "4; Refused(UnknownName(4)); work c/0 y",
-    "4; Refused(BadLine(4)); work a/0 z",
-    "4; Wrong(WrongBacklog); work b/0 x",
-    "5; Altered; short need 4 have 2",
-    "5; Altered; short need 3 have 1",
-    "5; Refused(BadLine(5)); short need 3 have 02",
-    "5; Refused(BadLine(5))",
-    "6; Altered; in x need 3",
-    "6; Refused(UnknownName(6)); in z need 2",
-    "6; Refused(BadLine(7)); in y need 2",
-    "6; Wrong(NotShort)",
-    "7; Altered; in y need 2",
-    "7; Refused(BadLine(7)); in x need 1",
-    "7; Wrong(NotShort)",
-    "7; Wrong(NotShort); stranded y 2",
-    "8; Altered; stranded x 6\nend",
-    "8; Refused(BadLine(8)); End",
-    "8; Refused(BadLine(9)); end\n",
-    "8; Refused(Truncated)",
-];
+const CHANGES: &str = "\
+1; Refused(BadLine(1)); report 2
+1; Refused(BadLine(1)); report  1
+1; Refused(BadLine(1))
+2; Wrong(WrongBacklog); backlog 5
+2; Wrong(WrongBacklog); backlog 7
+2; Wrong(WrongBacklog); unserved 6
+2; Refused(BadLine(2)); backlog 06
+2; Refused(BadLine(2)); backlog +6
+2; Refused(BadLine(2)); backlog 4294967296
+2; Refused(BadLine(2)); unserved 0
+2; Refused(BadLine(3)); noplan
+2; Refused(BadLine(2))
+3; Refused(UnknownName(3)); work a/1 x
+3; Refused(BadLine(3)); work a/00 x
+3; Refused(BadLine(3)); idle a/00
+3; Refused(BadLine(3)); work a x
+3; Refused(UnknownName(3)); work a/0 z
+3; Refused(BadLine(4)); work b/0 x
+3; Wrong(NotPermitted); work a/0 y
+3; Wrong(WrongBacklog); idle a/0
+3; Wrong(WrongBacklog)
+4; Refused(UnknownName(4)); work c/0 y
+4; Refused(BadLine(4)); work a/0 z
+4; Wrong(WrongBacklog); work b/0 x
+5; Altered; short need 4 have 2
+5; Altered; short need 3 have 1
+5; Refused(BadLine(5)); short need 3 have 02
+5; Refused(BadLine(5))
+6; Altered; in x need 3
+6; Refused(UnknownName(6)); in z need 2
+6; Refused(BadLine(7)); in y need 2
+6; Wrong(NotShort)
+7; Altered; in y need 2
+7; Refused(BadLine(7)); in x need 1
+7; Wrong(NotShort)
+7; Wrong(NotShort); stranded y 2
+8; Altered; stranded x 6|end
+8; Refused(BadLine(8)); End
+8; Refused(BadLine(9)); end|
+8; Refused(Truncated)
+";
 
 /// Whole texts for the settings of two machines.
 const TEXTS: &[&str] = &[
@@ -257,30 +265,30 @@ fn changed_reports(rt: HostRuntime) {
 }
 
 /// The same of the report with unserved jobs.
-const UNSERVED_CHANGES: &[&str] = &[
-    "2; Refused(BadLine(2)); work a/0 x",
-    "2; Refused(BadLine(2)); unserved 4294967296",
-    "2; Wrong(WrongBacklog); unserved 4294967295",
-    "4; Altered; short need 18446744073709551615 have 2",
-    "4; Refused(BadLine(4)); short need 18446744073709551616 have 2",
-    "4; Refused(BadLine(4)); short need 2 have 18446744073709551616",
-    "5; Refused(BadLine(5)); short need 2 have 1",
-    "5; Altered; in x need 4294967296",
-    "5; Altered; in x need 18446744073709551615",
-    "5; Refused(BadLine(5)); in x need 18446744073709551616",
-];
+const UNSERVED_CHANGES: &str = "\
+2; Refused(BadLine(2)); work a/0 x
+2; Refused(BadLine(2)); unserved 4294967296
+2; Wrong(WrongBacklog); unserved 4294967295
+4; Altered; short need 18446744073709551615 have 2
+4; Refused(BadLine(4)); short need 18446744073709551616 have 2
+4; Refused(BadLine(4)); short need 2 have 18446744073709551616
+5; Refused(BadLine(5)); short need 2 have 1
+5; Altered; in x need 4294967296
+5; Altered; in x need 18446744073709551615
+5; Refused(BadLine(5)); in x need 18446744073709551616
+";
 
 /// The same of its functions that no live worker may do.
-const STRANDED_CHANGES: &[&str] = &[
-    "7; Refused(BadLine(8)); stranded z 0",
-    "8; Refused(BadLine(8)); stranded t 7",
-    "8; Refused(UnknownName(8)); stranded q 1",
-    "7; Altered; stranded t 4294967295",
-    "7; Refused(BadLine(7)); stranded t 4294967296",
-    "7; Refused(BadLine(7)); stranded ttttttttttttttttttttttttttttttttttttttttttttttttttttttttttttttttt 7",
-    "7; Refused(UnknownName(7)); stranded tttttttttttttttttttttttttttttttttttttttttttttttttttttttttttttttt 7",
-    "9; Refused(BadLine(10)); end\nstranded q 1",
-];
+const STRANDED_CHANGES: &str = "\
+7; Refused(BadLine(8)); stranded z 0
+8; Refused(BadLine(8)); stranded t 7
+8; Refused(UnknownName(8)); stranded q 1
+7; Altered; stranded t 4294967295
+7; Refused(BadLine(7)); stranded t 4294967296
+7; Refused(BadLine(7)); stranded ttttttttttttttttttttttttttttttttttttttttttttttttttttttttttttttttt 7
+7; Refused(UnknownName(7)); stranded tttttttttttttttttttttttttttttttttttttttttttttttttttttttttttttttt 7
+9; Refused(BadLine(10)); end|stranded q 1
+";
 
 #[test]
 fn changed_numbers(rt: HostRuntime) {
@@ -297,13 +305,13 @@ fn changed_stranded_functions(rt: HostRuntime) {
 }
 
 /// The report with a greatest number of one, with another line in the place of one of its lines.
-const MOST_CHANGES: &[&str] = &[
-    "2; Wrong(WrongBacklog); backlog 5",
-    "3; Wrong(WrongBacklog); idle a/0",
-    "4; Wrong(WrongBacklog); work a/1 x",
-    "5; Altered; short need 2 have 2",
-    "6; Altered; in x need 2",
-];
+const MOST_CHANGES: &str = "\
+2; Wrong(WrongBacklog); backlog 5
+3; Wrong(WrongBacklog); idle a/0
+4; Wrong(WrongBacklog); work a/1 x
+5; Altered; short need 2 have 2
+6; Altered; in x need 2
+";
 
 /// Whole texts for the settings with a greatest number of one. Which of the two workers has the function is free.
 const MOST_TEXTS: &[&str] = &[
