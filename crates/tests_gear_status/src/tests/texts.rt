@@ -75,25 +75,44 @@ fn lines_then(alloc: Global, count: u32, last: &[u8]) -> Result<Vec<u8>, AllocEr
     Ok(text)
 }
 
+/// Whether so many jobs wait of this name.
+fn tells(alloc: Global, text: &[u8], name: &[u8], waiting: u32) -> bool {
+    waiting_of(alloc, text, name) == Ok(waiting)
+}
+
+/// Whether the text is not taken, for this reason.
+fn refuses(alloc: Global, text: &[u8], error: StatusError) -> bool {
+    waiting_of(alloc, text, b"x") == Err(error)
+}
+
 #[test]
 fn meanings_of_texts(rt: HostRuntime) {
     let alloc = rt.alloc();
-    assert!(rt; waiting_of(alloc, ROW, b"x") == Ok(6));
-    assert!(rt; waiting_of(alloc, ROW, b"y") == Ok(2));
-    assert!(rt; waiting_of(alloc, ROW, b"z") == Ok(0));
-    assert!(rt; waiting_of(alloc, b"x\t4294967295\t0\t0\n.\n", b"x") == Ok(4294967295));
-    assert!(rt; waiting_of(alloc, b"x\t4294967295\t0\t0\n", b"x") == Err(StatusError::Truncated));
+    assert!(rt; tells(alloc, ROW, b"x", 6));
+    assert!(rt; tells(alloc, ROW, b"y", 2));
+    assert!(rt; tells(alloc, ROW, b"z", 0));
+    assert!(rt; tells(alloc, b"x\t4294967295\t0\t0\n.\n", b"x", 4294967295));
+    assert!(rt; tells(alloc, b"x\t2\t5\t0\n.\n", b"x", 0));
+    assert!(rt; tells(alloc, b"x\t6\t0\t2\r\n.\r\nrest", b"x", 6));
+    assert!(rt; tells(alloc, b"x\t5\t0\t0\nx\t3\t0\t0\n.\n", b"x", 3));
+    assert!(rt; tells(alloc, b"a\tb\t1\t0\t0\n.\n", b"a\tb", 1));
+    assert!(rt; tells(alloc, b"\t007\t0\t0\n.\n", b"", 7));
+}
+
+#[test]
+fn texts_that_are_not_taken(rt: HostRuntime) {
+    let alloc = rt.alloc();
+    assert!(rt; refuses(alloc, b"x\t4294967295\t0\t0\n", StatusError::Truncated));
     assert!(rt;
-        waiting_of(alloc, b"x\t4294967296\t0\t0\n.\n", b"x") == Err(StatusError::BadNumber(1))
+        refuses(
+            alloc,
+            b"x\t4294967296\t0\t0\n.\n",
+            StatusError::BadNumber(1)
+        )
     );
-    assert!(rt; waiting_of(alloc, b"x\t2\t5\t0\n.\n", b"x") == Ok(0));
-    assert!(rt; waiting_of(alloc, b"x\t1\n.\n", b"x") == Err(StatusError::BadLine(1)));
-    assert!(rt; waiting_of(alloc, b"x\t6\t0\t2\r\n.\r\nrest", b"x") == Ok(6));
-    assert!(rt; waiting_of(alloc, b"x\t5\t0\t0\nx\t3\t0\t0\n.\n", b"x") == Ok(3));
-    assert!(rt; waiting_of(alloc, b"a\tb\t1\t0\t0\n.\n", b"a\tb") == Ok(1));
-    assert!(rt; waiting_of(alloc, b"\t007\t0\t0\n.\n", b"") == Ok(7));
+    assert!(rt; refuses(alloc, b"x\t1\n.\n", StatusError::BadLine(1)));
     for cut in 0..ROW.len() {
-        assert!(rt; waiting_of(alloc, &ROW[..cut], b"x") == Err(StatusError::Truncated));
+        assert!(rt; refuses(alloc, &ROW[..cut], StatusError::Truncated));
         assert!(rt; matches!(load_of(alloc, &ROW[..cut]), Err(StatusError::Truncated)));
     }
 }
