@@ -262,14 +262,20 @@ fn is_memory_taken(alloc: Global, taken: &Vec<Vec<u8>>) -> Told {
     }
 }
 
+/// A place for the pass of each slot's worker.
+fn no_passes(alloc: Global, slots: u32) -> Option<Vec<Option<Pass>>> {
+    let mut passes = Vec::new(alloc);
+    for _ in 0..slots {
+        passes.push(None).ok()?;
+    }
+    Some(passes)
+}
+
 impl Course {
     fn new(alloc: Global, text: &str) -> Option<Course> {
         let settings = Settings::read(alloc, text.as_bytes()).ok()?;
         let pool = fresh(alloc, &settings)?;
-        let mut passes = Vec::new(alloc);
-        for _ in 0..pool.slots() {
-            passes.push(None).ok()?;
-        }
+        let passes = no_passes(alloc, pool.slots())?;
         Some(Course {
             alloc,
             settings,
@@ -278,6 +284,14 @@ impl Course {
             found: None,
             taken: Vec::new(alloc),
         })
+    }
+
+    /// As `new`, and once more where memory is refused.
+    fn started(alloc: Global, text: &str) -> Option<Course> {
+        match Course::new(alloc, text) {
+            Some(course) => Some(course),
+            None => Course::new(alloc, text),
+        }
     }
 
     fn join(&mut self, slot: u32) -> Told {
@@ -406,38 +420,50 @@ impl Course {
         }
         self.call(call)
     }
+
+    /// The place of the first call that does not answer what is wanted.
+    fn first_wrong(&mut self, calls: &[(Call, Told)]) -> Option<usize> {
+        for (place, (call, wanted)) in calls.iter().enumerate() {
+            if self.answer(*call) != *wanted {
+                return Some(place);
+            }
+        }
+        None
+    }
+
+    /// What this pool answers that is offered what was found for another one, after the same calls on both.
+    fn offered_by(&mut self, other: &mut Course, calls: &[Call]) -> Option<Told> {
+        for call in calls {
+            let _told = other.answer(*call);
+            let _told = self.answer(*call);
+        }
+        self.found = other.found.take();
+        match self.adopt() {
+            Told::NoMemory => None,
+            told => Some(told),
+        }
+    }
+
+    /// What a pool of these settings answers that is offered what was found for this one.
+    fn offer(&mut self, to: &str, calls: &[Call]) -> Option<Told> {
+        let mut other = Course::new(self.alloc, to)?;
+        other.offered_by(self, calls)
+    }
 }
 
 /// The place of the first call that does not answer what is wanted.
 pub fn first_wrong(alloc: Global, text: &str, calls: &[(Call, Told)]) -> Option<usize> {
-    let mut course = match Course::new(alloc, text) {
-        Some(course) => course,
-        None => match Course::new(alloc, text) {
-            Some(course) => course,
-            None => return Some(0),
-        },
-    };
-    for (place, (call, wanted)) in calls.iter().enumerate() {
-        if course.answer(*call) != *wanted {
-            return Some(place);
-        }
+    match Course::started(alloc, text) {
+        Some(mut course) => course.first_wrong(calls),
+        None => Some(0),
     }
-    None
 }
 
-/// What a pool answers that is offered what was found for another one, after the same calls on both.
+/// What a pool answers that is offered what was found for another one, after the same calls on both. None where memory is
+/// refused.
 fn offered_once(alloc: Global, from: &str, to: &str, calls: &[Call]) -> Option<Told> {
     let mut one = Course::new(alloc, from)?;
-    let mut other = Course::new(alloc, to)?;
-    for call in calls {
-        let _told = one.answer(*call);
-        let _told = other.answer(*call);
-    }
-    other.found = one.found.take();
-    match other.adopt() {
-        Told::NoMemory => None,
-        told => Some(told),
-    }
+    one.offer(to, calls)
 }
 
 /// As `offered_once`, and once more where memory is refused.

@@ -36,27 +36,40 @@ fn plan(alloc: Global, pool: &mut Pool, load: Load) -> Result<(), Fail> {
     Ok(())
 }
 
-/// A worker joins each slot, and grabs a job of this handle and function.
+/// A worker joins the slot, and grabs a job of this handle and function.
+fn take(pool: &mut Pool, slot: u32, handle: &[u8], function: &[u8]) -> Result<(), Fail> {
+    if slot >= pool.slots() {
+        return Err(Fail::from("slot"));
+    }
+    let handle = Handle::new(handle).ok().ok_or("handle")?;
+    let pass = pool.join(SlotId::new(slot)).ok().ok_or("join")?;
+    pool.grab(&pass, handle, function, 0).ok().ok_or("grab")?;
+    Ok(())
+}
+
+/// The same in each slot.
 fn work(pool: &mut Pool, handle: &[u8], function: &[u8]) -> Result<(), Fail> {
     for slot in 0..pool.slots() {
-        if slot < pool.slots() {
-            let pass = pool.join(SlotId::new(slot)).ok().ok_or("join")?;
-            let handle = Handle::new(handle).ok().ok_or("handle")?;
-            pool.grab(&pass, handle, function, 0).ok().ok_or("grab")?;
-        }
+        take(pool, slot, handle, function)?;
     }
     Ok(())
+}
+
+/// Plans before and after the only worker grabs a job.
+fn plan_and_work(alloc: Global, pool: &mut Pool) -> Result<(), Fail> {
+    plan(alloc, pool, Load::new(alloc))?;
+    work(pool, b"H", b"")?;
+    plan(alloc, pool, Load::new(alloc))
 }
 
 #[test]
 fn the_least(rt: HostRuntime) -> Result<(), Fail> {
     let alloc = rt.alloc();
     let mut pool = pool(alloc, ONE)?;
-    plan(alloc, &mut pool, Load::new(alloc))?;
-    work(&mut pool, b"H", b"")?;
-    plan(alloc, &mut pool, Load::new(alloc))?;
-    assert_eq!(rt; pool.totals().grabbed, 1);
-    assert_eq!(rt; pool.totals().rounds, 4);
+    plan_and_work(alloc, &mut pool)?;
+    let totals = pool.totals();
+    assert_eq!(rt; totals.grabbed, 1);
+    assert_eq!(rt; totals.rounds, 4);
     Ok(())
 }
 
