@@ -80,7 +80,7 @@ pub fn load_of(alloc: Global, text: &[u8]) -> Result<Load, StatusError>
     }
 }
 
-/// Reads a piece of no more than so many bytes, or of one if none are left: whether it comes tells a text that ends at a limit
+/// Reads a piece of no more than so many bytes, or of one if none are left: whether it comes distinguishes a text that ends at a limit
 /// from a longer one.
 fn read_up_to<S: Source>(
     left: u64,

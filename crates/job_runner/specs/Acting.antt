@@ -19,7 +19,7 @@ use Rattle.job_runner.specs.Book.{Ledger, after_order}
 use Rattle.job_runner.specs.Course.{GoesOnOrEnds, IsStop, Sends}
 use Rattle.job_runner.specs.Following.{Scene, Follows, meant_for, phase_with}
 
--- a session at one moment: what it knows, what stands on its link, and what its port did
+-- a session at one moment: what it knows, what is on its link, and what its port did
 pub record Moment : Type 0 where
   pub state : State
   pub written : Option (List ℕ)
@@ -37,7 +37,7 @@ pub data Asked : Type 0 where
   skip : Asked
   -- that the session asks to be woken
   sleep : Asked
-  -- that it follows the order that stands
+  -- that it follows the current order
   follow : Asked
   -- that it answers a job
   serve : AssignedJob → Asked
@@ -67,7 +67,7 @@ pub record Sleeps (old new : Moment) (result : Result (Unit {0}) EndCause) : Typ
   pub book : new.book ≡ old.book
   pub state : result ≡ Ok tt → new.state ≡ record old.state { phase = Asleep }
 
--- What stands on a link once a job was answered: the reply. At an end it is all of it or nothing, and where the write failed a front.
+-- What is on a link once a job was answered: the reply. At an end it is all of it or nothing, and if the write failed a prefix.
 abbrev pub Replies : Option (List ℕ) → Option (List ℕ) → List Packet → Result (Unit {0}) EndCause → Type 0
 Replies old new packets (Ok u) = new ≡ and_then old (text_of packets)
 Replies old new packets (Err WriteFault) =
@@ -78,7 +78,7 @@ Replies old new packets (Err cause.HistoryFull) = new ≡ old
 Replies old new packets (Err Memory) = new ≡ old
 Replies old new packets (Err reason) = ⊥
 
--- What a port answered last is told as what it was: a refusal, or that the worker retires, ends the session for that cause.
+-- What a port answered last is reported as what it was: a refusal, or that the worker retires, ends the session for that cause.
 abbrev pub TellsAnswer : Option PortAnswer → Result (Unit {0}) EndCause → Type 0
 TellsAnswer (Some port.Gone) result = result ≡ Err cause.Gone
 TellsAnswer (Some port.HistoryFull) result = result ≡ Err cause.HistoryFull
@@ -86,7 +86,7 @@ TellsAnswer (Some port.Memory) result = result ≡ Err Memory
 TellsAnswer (Some port.Retire) result = result ≡ Err cause.Retired
 TellsAnswer last result = Unit {0}
 
--- A job was answered, and behind its reply an order was read and followed, unless the answer ended the session.
+-- A job was answered, and after its reply an order was read and followed, unless the answer ended the session.
 pub record Serves {J : Type 0} (told : List ℕ → List ℕ → Option Told) (worker : Worker J) (job : AssignedJob) (old new : Moment)
     (result : Result (Unit {0}) EndCause) : Type 0 where
   pub answered : Moment
@@ -113,8 +113,8 @@ IsDue worker state order = (state.phase ≢ Waiting) × (meant_for worker order 
 abbrev pub looked_at : Moment → OrderParts → Moment
 looked_at m order = record m { book = after_order m.book order }
 
--- An order is looked at. A stop for this worker ends the session; where the order is not due nothing is done; and where it is, the one that
--- stands then is followed.
+-- An order is looked at. A stop for this worker ends the session; if the order is not due nothing is done; and if it is, the one that
+-- is current then is followed.
 pub data Looks {J : Type 0} (worker : Worker J) (order : OrderParts) (old new : Moment) (result : Result (Unit {0}) EndCause) : Type 0 where
   sees_stop : IsStop worker.pass.now.generation order → result ≡ Err Stopped → new ≡ looked_at old order → Looks worker order old new result
   stays : (IsStop worker.pass.now.generation order → ⊥) → (IsDue worker old.state order → ⊥)
@@ -127,7 +127,7 @@ pub record Glances {J : Type 0} (worker : Worker J) (old new : Moment) (result :
   pub order : OrderParts
   pub looks : Looks worker order old new result
 
--- A session gave its worker's name, and behind it one order was read and followed, unless sending the name ended it.
+-- A session gave its worker's name, and after it one order was read and followed, unless sending the name ended it.
 pub record Begins {J : Type 0} (worker : Worker J) (name : List ℕ) (old new : Moment) (result : Result (Unit {0}) EndCause) : Type 0 where
   pub named : Option (List ℕ)
   pub answer : Result (Unit {0}) EndCause

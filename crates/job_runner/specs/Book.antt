@@ -1,4 +1,4 @@
--- What a port tells of its calls.
+-- What a port reports of its calls.
 use Rattle.std.specs.Prelude.{ℕ, ◌+◌, List, [], ◌∷◌, ◌++◌, Option, Some, None, Result, Ok, Err}
 use Rattle.worker_state.specs.OrderParts.{OrderParts}
 use Rattle.worker_state.specs.declared.cause.Cause.{Cause}

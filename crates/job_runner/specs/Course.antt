@@ -78,7 +78,7 @@ pub record Wrote (duty : Duty) (bytes : List ℕ) (registered : List (List ℕ))
   pub registered_is : registered_by [] sent ≡ registered
   pub few : length registered ≤ 1
 
--- The bytes are whole packets, which answer these assignments, and a front of a text that was begun and
+-- The bytes are whole packets, which answer these assignments, and a prefix of a text that was begun and
 -- answers `begun`: no assignment, or the next.
 pub record Cut (duty : Duty) (bytes : List ℕ) (answered begun : List AssignedJob) : Type 0 where
   pub sent : List Packet
@@ -193,7 +193,7 @@ IsServing count phase (Some f) = f < count
 abbrev pub IsAccepted : Packet → Type 0
 IsAccepted p = request_refusal p ≡ None
 
--- What sending packets leaves, by what the link told before and after: all of them, a front of their text, or nothing.
+-- What sending packets leaves, by what the link showed before and after: all of them, a prefix of their text, or nothing.
 abbrev pub Sends : Option (List ℕ) → Option (List ℕ) → List Packet → Result (Unit {0}) EndCause → Type 0
 Sends old new packets (Ok r) = (new ≡ and_then old (text_of packets)) × AllByRecursion IsSent packets
 Sends old new packets (Err WriteFault) =

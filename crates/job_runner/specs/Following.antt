@@ -36,7 +36,7 @@ abbrev pub phase_with : Option ℕ → Phase
 phase_with None = Idle
 phase_with (Some f) = Waiting
 
--- what an order bears on: the function registered, what stands on the link, and what the port did
+-- what an order bears on: the function registered, what is on the link, and what the port did
 pub record Scene : Type 0 where
   pub registered : Option ℕ
   pub written : Option (List ℕ)

@@ -50,7 +50,7 @@ StepReason generation m old new book cause.BadPacket = (new.grabbed ≡ old.grab
 StepReason generation m old new book cause.ServerError = (code text : List ℕ) × (m ≡ server_error code text)
 StepReason generation m old new book other = PortReason generation book other
 
--- Now that `written` stands on the link, all messages that were given are served.
+-- Now that `written` is on the link, all messages that were given are served.
 pub record Stands (session : Session) (written : Option (List ℕ)) (reader : Reading) (s : State) (book : Ledger) : Type 0 where
   pub bytes : List ℕ
   pub given : List Message

@@ -34,7 +34,7 @@ pub data Event : Type 0 where
 pub data Stage : Type 0 where
   -- it has not given its name
   unnamed : Stage
-  -- it is to follow the order that stands
+  -- it is to follow the current order
   following : Stage
   -- it hears messages, in a phase
   hearing : Phase → Stage
@@ -149,7 +149,7 @@ pub record Went (duty : Duty) (before written : Option (List ℕ)) (given : List
   pub messages_are : messages_in events ≡ given
   pub orders_are : orders_in events ≡ book.orders
 
--- A session at its end: it took a path, and ended in one way behind it. The packets that it had to write then are written whole or not at
+-- A session at its end: it took a path, and ended in one way after it. The packets that it had to write then are written whole or not at
 -- all, and where the write failed as far as it came.
 pub record Ended (session : Session) (written : Option (List ℕ)) (book : Ledger) (reason : EndCause) : Type 0 where
   pub events : List Event

@@ -37,17 +37,17 @@ pub record Rests (session : Session) (bytes : List ℕ) (given : List Message) (
 abbrev pub HasError : List Message → Type 0
 HasError ms = (code text : List ℕ) × (before after : List Message) × (ms ≡ before ++ server_error code text ∷ after)
 
--- what a link tells of its two sides
+-- what a link shows of its two sides
 pub record Link : Type 0 where
   pub input : Input
   pub output : Output
 
--- what a device tells of its two sides
+-- what a device shows of its two sides
 abbrev pub seen_link : {D : Type 0} → (D → Input) → (D → Output) → D → Link
 seen_link input output device = record { input = input device; output = output device }
 
 -- A step that writes and does not read leaves the input as it was. A write fails only where the step ends as WriteFault, and once then; it
--- is never told as want of memory.
+-- is never reported as out of memory.
 pub record LinkKept {T : Type 0} (old new : Link) (result : Result T EndCause) : Type 0 where
   pub input : new.input ≡ old.input
   pub no_failure : OnOk result (new.output.failures ≡ old.output.failures)
@@ -65,7 +65,7 @@ ReadReason session tally book cause.BadPacket =
 ReadReason session tally book cause.ServerError = HasError (reading session.read).messages
 ReadReason session tally book other = PortReason session.duty.generation book other
 
--- Each cause stands only if its reason did. `old` and `new` are what the link tells before and after.
+-- Each cause is there only if its reason is. `old` and `new` are what the link shows before and after.
 abbrev pub Reason : Session → Link → Link → Tally → Ledger → EndCause → Type 0
 Reason session old new tally book cause.Closed = new.input.has_ended ≡ true
 Reason session old new tally book cause.ReadFault = new.input.failures ≡ old.input.failures + 1

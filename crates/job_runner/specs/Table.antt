@@ -8,7 +8,7 @@ use Rattle.std.specs.Ordering.{nat_cmp}
 use Rattle.std.specs.Str.{bytes_eq}
 use Rattle.job_runner.specs.Told.{Told}
 
--- what the entry of a name tells for an input, and none where there is no such name
+-- what the entry of a name reports for an input, and none where there is no such name
 abbrev pub told_by : {E : Type 0} → (E → List ℕ) → (E → List ℕ → Told) → List E → List ℕ → List ℕ → Option Told
 told_by name_of meaning_of entries name input =
     option_map (λ entry. meaning_of entry input) (find (λ entry. bytes_eq (name_of entry) name) entries)

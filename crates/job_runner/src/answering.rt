@@ -47,7 +47,7 @@ fn run_job<J: Jobs>(
         .run(worker.place.alloc, &function, &payload)
 }
 
-/// Answers an assignment: takes it at the port, runs its job, and writes what it tells once the port has let it.
+/// Answers an assignment: takes it at the port, runs its job, and writes what it reports once the port has let it.
 pub fn answer<L: Sink, P: PoolPort, J: Jobs>(
     worker: &Worker<'_, J>,
     link: &mut L,

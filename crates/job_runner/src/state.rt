@@ -30,7 +30,7 @@ pub struct State {
     pub tally: Tally,
 }
 
-/// Obeys the order that stands.
+/// Obeys the current order.
 pub fn follow<L: Sink, P: PoolPort, J>(
     worker: &Worker<'_, J>,
     link: &mut L,
@@ -57,7 +57,7 @@ pub fn follow<L: Sink, P: PoolPort, J>(
     }
 }
 
-/// Answers an assignment, and then obeys the order that stands.
+/// Answers an assignment, and then obeys the current order.
 pub fn serve_job<L: Sink, P: PoolPort, J: Jobs>(
     worker: &Worker<'_, J>,
     link: &mut L,

@@ -116,7 +116,7 @@ fn limits(rt: HostRuntime) {
     let _reader = expect_read(&rt, &all, reader, stop);
 }
 
-/// The order of a round in the test of threads. Each slot has a generation of its own, and the function tells the round.
+/// The order of a round in the test of threads. Each slot has a generation of its own, and the function is that of the round.
 fn order_of_round(slot: u32, round: u32) -> Order
     requires { slot < 2 }
 {

@@ -26,7 +26,7 @@ pub struct Totals {
     pub events: u32,
 }
 
-/// What a round tells.
+/// What a round reports.
 #[derive(Clone, Copy, Debug, PartialEq, Eq)]
 pub struct Ran {
     /// The round's number, from 1.

@@ -22,7 +22,7 @@ use std::alloc::{AllocError, Global};
 use std::marker::Model;
 use worker_state::{Order, Slot, Standing, Ticket, WorkerName};
 
-/// The right to speak for one worker. Only `join` makes one, and it cannot be copied, so at most one speaker stands for each
+/// The right to speak for one worker. Only `join` makes one, and it cannot be copied, so at most one speaker is there for each
 /// worker. Clauses see it as the worker's name.
 #[derive(Drop)]
 pub struct Pass {
@@ -142,7 +142,7 @@ impl Pool {
         orders[slot.number() as usize]
     }
 
-    /// How the ticket stands, if it was given.
+    /// What became of the ticket, if it was given.
     pub fn standing(&self, ticket: Ticket) -> Option<Standing>
         ensures { result ≡ standing_in self.now.state.standings ticket }
     {

@@ -46,7 +46,7 @@ pub fn has_open(held: Option<Ticket>, ticket: Ticket) -> bool
     }
 }
 
-/// How the ticket stands, if it was given.
+/// What became of the ticket, if it was given.
 pub fn standing_of(standings: &[Standing], ticket: Ticket) -> Option<Standing>
     ensures { result ≡ standing_in standings.now ticket }
 {

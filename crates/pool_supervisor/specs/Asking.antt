@@ -69,7 +69,7 @@ is_planned (attempt.Status error) = false
 is_planned (attempt.Refused (refusal.Load error)) = false
 is_planned other = true
 
--- The line of an attempt follows from its calls for the load: why there was none, that the pool did not take it, or what came behind it.
+-- The line of an attempt follows from its calls for the load: why there was none, that the pool did not take it, or what came after it.
 abbrev pub Follows : Settings → List DialCall → Attempt → Type 0
 Follows settings asked attempt.NoLink = AsksFor (Err attempt.NoLink) asked
 Follows settings asked (attempt.Status error) = AsksFor (Err (attempt.Status error)) asked

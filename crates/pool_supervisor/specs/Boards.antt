@@ -1,4 +1,4 @@
--- What the name of a run stands for.
+-- What the name of a run means.
 use Rattle.std.specs.Prelude.{[]}
 use Rattle.atomic_table.specs.Seated.{TableId}
 use Rattle.pool_settings.specs.Settings.{Settings}

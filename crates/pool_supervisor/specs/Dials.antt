@@ -2,13 +2,13 @@
 use Rattle.std.specs.Prelude.{◌≡◌, List, [], ◌++◌, Option, Some, None, option_map}
 use Rattle.job_runner.specs.Run.{Link}
 
--- One call: a dial that failed, a dial that opened a link, or word that a link was closed, with what it tells of its two sides then.
+-- One call: a dial that failed, a dial that opened a link, or word that a link was closed, with what it shows of its two sides then.
 pub data DialCall : Type 0 where
   failed : DialCall
   opened : DialCall
   closed : Link → DialCall
 
--- the calls so far, where they are told, and these more
+-- the calls so far, if they are shown, and these more
 abbrev pub then_called : Option (List DialCall) → List DialCall → Option (List DialCall)
 then_called before more = option_map (λ calls. calls ++ more) before
 
@@ -16,7 +16,7 @@ abbrev pub dialled : {A : Type 0} → Option A → DialCall
 dialled None = failed
 dialled (Some link) = opened
 
--- nothing was told, where anything is
+-- nothing was reported, if anything is
 abbrev pub IsNothing : {A : Type 0} → Option (List A) → Type 0
 IsNothing told = told ≡ option_map (λ _. []) told
 

@@ -1,4 +1,4 @@
--- The sessions that a run has joined, as what dials is told of them.
+-- The sessions that a run has joined, as they are reported to what dials.
 use Rattle.std.specs.Prelude.{◌≡◌, List, map, Option}
 use Rattle.job_runner.specs.Run.{Link}
 use Rattle.pool_supervisor.specs.Dials.{DialCall, closed, then_called}

@@ -11,7 +11,7 @@ after_call book (call.Begin answer) = after_begin book answer
 after_call book (call.Report answer) = after_report book answer
 after_call book (call.Lose cause) = after_loss book cause
 
--- what a port tells after these calls
+-- what a port reports after these calls
 abbrev pub book_of : Calls → Ledger
 book_of New = no_calls
 book_of (Then' shape before call) = after_call (book_of before) call

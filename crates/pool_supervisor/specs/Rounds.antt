@@ -20,7 +20,7 @@ is_round (attempt.Status error) = false
 is_round (attempt.Refused refusal) = false
 is_round attempt.Memory = false
 
--- It tells a round of a pool of these settings, and the orders of that round were posted, and nothing else.
+-- It reports a round of a pool of these settings, and the orders of that round were posted, and nothing else.
 abbrev pub PostsRound : Settings → Attempt → List Post → List Post → Type 0
 PostsRound settings line before now =
     (ran : Ran) × (state : State) × IsRoundOf settings ran state × (line ≡ attempt_of ran) × ArePosted (round_order ran state) before now
@@ -29,7 +29,7 @@ abbrev pub PostsIf : Bool → Settings → Attempt → List Post → List Post �
 PostsIf true settings line before now = PostsRound settings line before now
 PostsIf false settings line before now = now ≡ before
 
--- An attempt posts the orders of the round that it tells, or nothing if it came to none.
+-- An attempt posts the orders of the round that it reports, or nothing if it came to none.
 abbrev pub Posts : Settings → Attempt → List Post → List Post → Type 0
 Posts settings line before now = PostsIf (is_round line) settings line before now
 
@@ -48,7 +48,7 @@ PostSince settings old new before now =
 abbrev pub StopsAll : Settings → List Post → List Post → Type 0
 StopsAll settings before now = (state : State) × IsReached settings state × ArePosted (stop_order state) before now
 
--- The attempts that were made since then posted so, and behind the last of them Stop was posted.
+-- The attempts that were made since then posted so, and after the last of them Stop was posted.
 abbrev pub PostAndStop : Settings → List Attempt → List Attempt → List Post → List Post → Type 0
 PostAndStop settings old new before now =
     (between : List Post) × PostSince settings old new before between × StopsAll settings between now

@@ -180,7 +180,7 @@ impl<G: RunLedger, D: Ledger> Booked<G, D> {
         self.pool.end_chapter()
     }
 
-    /// The totals of the pool, held against two shares. No share is above its book, and one that is whole stands at its book.
+    /// The totals of the pool, held against two shares. No share is above its book, and one that is whole is equal to its book.
     ///
     /// The totals are the numbers of the Grab and Reported events of the whole history, and account for each job: it is running, reported
     /// or lost.

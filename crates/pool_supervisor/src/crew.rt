@@ -115,7 +115,7 @@ impl<N: RunId, L: Source + Sink> Crew<N, L> {
         self.running[at].has_ended.load(Ordering::SeqCst)
     }
 
-    /// Joins a session, adds up what it did, takes its seat back, and tells how its link ended.
+    /// Joins a session, adds up what it did, takes its seat back, and reports how its link ended.
     fn take_back<J, C, R: Threads + Wait, Y: Dial<L>>(
         &mut self,
         site: &Site<'_, N, J, C, R>,

@@ -8,7 +8,7 @@ use std::snapshot::Snapshot;
 
 /// What makes links to the job server, and gets word of those that were used how they ended.
 ///
-/// One in memory can tell contracts its calls, as a list. Of the system's network nothing is known, and it tells None.
+/// One in memory can show contracts its calls, as a list. Of the system's network nothing is known, and it shows None.
 pub trait Dial<L: Source + Sink> {
     ghost use Rattle.std.specs.Prelude.{List, Option};
     ghost use Rattle.pool_supervisor.specs.Dials.{DialCall};

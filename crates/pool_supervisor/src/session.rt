@@ -77,7 +77,7 @@ pub struct Enrolled<N: RunId> {
     pub place: Place<N>,
 }
 
-/// What a session is given: its worker, and a share of each book, which stands at 0.
+/// What a session is given: its worker, and a share of each book, which is 0.
 #[derive(Drop)]
 pub struct Papers<N: RunId> {
     /// The worker.
@@ -117,7 +117,7 @@ pub struct Returned<N: RunId> {
 }
 
 /// A worker's session over the shared pool, to its end. It promises of what it reads and writes what [`run_session`] does. The
-/// shares begin at 0 and come back at the counts of its end, so the pool has booked just what the session tells.
+/// shares begin at 0 and come back at the counts of its end, so the pool has booked just what the session reports.
 pub fn run_worker<N: RunId, L: Source + Sink, J: Jobs, C: Watch, R: Wait>(
     site: &Site<'_, N, J, C, R>,
     link: &mut L,

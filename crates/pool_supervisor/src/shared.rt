@@ -34,7 +34,7 @@ impl<G: RunLedger, D: Ledger> Shared<G, D> {
         (shared, (grab_share, report_share))
     }
 
-    /// The pool as it stands now, until the guard is dropped. No other thread has it meanwhile.
+    /// The pool as it is now, until the guard is dropped. No other thread has it meanwhile.
     pub fn hold<R: Wait>(&self, rt: &R) -> MutexGuard<'_, Booked<G, D>> {
         self.lock.lock(rt)
     }

@@ -18,7 +18,7 @@ use Rattle.settings_command.specs.Meaning.{meaning}
 use Rattle.settings_command.specs.Place.{line_of_place}
 use Rattle.settings_command.specs.Remarks.{AreFarmRemarks}
 
--- The text is what the settings mean, of which the file gives the keys of this tree, and behind it what a farm of them cannot do.
+-- The text is what the settings mean, of which the file gives the keys of this tree, and after it what a farm of them cannot do.
 abbrev pub IsMeaning : Members → Settings → List ℕ → Type 0
 IsMeaning tree settings text = (remarks : List ℕ) × AreFarmRemarks settings remarks × (text ≡ meaning tree settings ++ remarks)
 
@@ -31,7 +31,7 @@ Means tree settings old new exit =
 abbrev pub TellsPlace : Mistake → Output → Output → Exit → Type 0
 TellsPlace mistake old new exit = Delivers (line_of_place (kept_view mistake.place)) (refused (fault.Settings mistake)) old new exit
 
--- The place of this fault is told, and the command ends by it. Or memory is refused, and nothing is written.
+-- The place of this fault is written, and the command ends by it. Or memory is refused, and nothing is written.
 abbrev pub Locates : SettingsFault → Output → Output → Exit → Type 0
 Locates (first.At e at) old new exit =
     ((mistake : Mistake) × (mistake_view mistake ≡ (e, place_view (λ t. t.now) at)) × TellsPlace mistake old new exit)
@@ -48,7 +48,7 @@ Explains tree old new exit =
 abbrev pub TellsMeaning : List ℕ → Settings → Output → Output → Exit → Type 0
 TellsMeaning file settings old new exit = (tree : Members) × (tree_of file ≡ Some tree) × Means tree settings old new exit
 
--- The file means settings, which are explained. Or it is refused by its first mistake, whose place is told. Or memory is refused, and
+-- The file means settings, which are explained. Or it is refused by its first mistake, whose place is written. Or memory is refused, and
 -- nothing is written.
 abbrev pub TellsSettings : List ℕ → Output → Output → Exit → Type 0
 TellsSettings file old new exit =

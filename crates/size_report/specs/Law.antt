@@ -12,7 +12,7 @@ use Rattle.size_report.specs.Text.{size_text}
 abbrev pub listed_plan : List (ℕ × Option ℕ) → List (ℕ × Option ℕ)
 listed_plan entries = filter (λ entry. is_some entry.1) entries
 
--- the size that its text tells: the same, with its plan listed for the workers that have a function
+-- the size that its text means: the same, with its plan listed for the workers that have a function
 abbrev pub retold : Size → Size
 retold (Enough added entries short) = Enough added (listed_plan entries) short
 retold (Never obstacle) = Never obstacle

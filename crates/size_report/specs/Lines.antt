@@ -1,4 +1,4 @@
--- One line of the text of a size, as it is read: what it tells, less the numbers that a size does not hold.
+-- One line of the text of a size, as it is read: what it says, less the numbers that a size does not hold.
 use Rattle.std.specs.Prelude.{ℕ, ◌^◌, List, Bool, ◌&&◌, nat_lt, Option, Some, None, option_map, option_and_then, codes, if◌then◌else◌}
 use Rattle.std.specs.Option.{option_map_or}
 use Rattle.std.specs.Str.{bytes_eq}
@@ -73,6 +73,6 @@ keyed line =
     (option_map_or too_many_in (after_word (codes "cannot 3 add ") line)
     (option_map (λ line. shared line) (line_of line)))))))
 
--- what a line tells, if it has the shape of one
+-- what a line says, if it has the shape of one
 abbrev pub size_line_of : List ℕ → Option SizeLine
 size_line_of line = if bytes_eq line (codes "size 1") then Some first else keyed line

@@ -1,4 +1,4 @@
--- What the text of a size means: the size that it tells, or its first fault.
+-- What the text of a size means: its size, or its first fault.
 use Rattle.std.specs.Prelude.{ℕ, ◌+◌, ◌==◌, ◌&&◌, List, [], ◌∷◌, ◌++◌, length, replicate, Bool, true, false, not, nat_lt, nat_le}
 use Rattle.std.specs.Prelude.{Option, Some, None, option_map, unwrap_or, Result, Ok, Err, if◌then◌else◌}
 use Rattle.std.specs.List.{slice_split}
@@ -22,7 +22,7 @@ use Rattle.size_report.specs.declared.stage.Stage.{Stage}
 use Rattle.size_report.specs.declared.stage.Stage.TheVariants as stage
 use Rattle.text_pieces.specs.Lines.{is_line_feed}
 
--- what the lines so far have told
+-- what the lines so far have said
 pub record Draft : Type 0 where
   pub stage : Stage
   pub kind : Kind
@@ -210,7 +210,7 @@ place_obstacle settings name obstacle d =
     in_place (at_verdict d.stage)
     (if_known (place_of settings.functions name) (λ f. Ok (moved stage.Barred (kind.Never (obstacle f)) d)))
 
--- what is told after one more line that a report has too
+-- what has been said after one more line that a report has too
 abbrev pub place_shared : Settings → Draft → ReportLine → Result Draft Misread
 place_shared settings d (task worker function) = place_task settings worker function d
 place_shared settings d short = place_short d
@@ -218,7 +218,7 @@ place_shared settings d (needed name) = place_needed settings name d
 place_shared settings d last = place_last d
 place_shared settings d _ = Err misread.Bad
 
--- what is told after one more line
+-- what has been said after one more line
 abbrev pub place : Settings → Draft → SizeLine → Result Draft Misread
 place settings d first = place_first d
 place settings d level = place_level d
@@ -240,14 +240,14 @@ size_with (kind.TooMany many) d = TooMany many (unwrap_or d.set [])
 abbrev pub size_of : Draft → Size
 size_of d = size_with d.kind d
 
--- the fault of line n, or what the lines behind it tell
+-- the fault of line n, or what the lines after it say
 abbrev pub and_read_on : ℕ → Result Draft Misread → (Draft → Result Size ReadError) → Result Size ReadError
 and_read_on n (Ok d) next = next d
 and_read_on n (Err misread.Bad) next = Err (error.BadLine n)
 and_read_on n (Err misread.Unknown) next = Err (error.UnknownName n)
 and_read_on n (Err misread.Memory) next = Err error.Memory
 
--- behind the last line feed: nothing may stand behind the line feed of `end`
+-- after the last line feed: nothing may follow the line feed of `end`
 abbrev pub at_rest : ℕ → Draft → List ℕ → Result Size ReadError
 at_rest n d rest =
     if is_done d.stage then (if length rest == 0 then Ok (size_of d) else Err (error.BadLine n))
@@ -260,6 +260,6 @@ meaning_from settings n d (line ∷ []) = at_rest n d line
 meaning_from settings n d (line ∷ next ∷ rest) =
     and_read_on n (place_line settings d line) (λ more. meaning_from settings (n + 1) more (next ∷ rest))
 
--- the size that a text tells, or its first fault
+-- the size that a text means, or its first fault
 abbrev pub size_meaning : Settings → List ℕ → Result Size ReadError
 size_meaning settings text = meaning_from settings 1 start (slice_split is_line_feed text)

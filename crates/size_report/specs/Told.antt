@@ -1,4 +1,4 @@
--- The line that the code reads, as a definition tells it.
+-- The line that the code reads, as a definition says it.
 use Rattle.pool_report.specs.Told.{line_view}
 use Rattle.size_report.specs.Lines.{SizeLine, first, level, add, on, above_most, no_machine, too_many, shared}
 use Rattle.size_report.specs.declared.line.Line.{Line as LinePart}

@@ -27,7 +27,7 @@ pub const TO_ECHO: &[u8] =
 /// WORK_COMPLETE of `H:a:1` with the data `63 00 61`.
 pub const COMPLETE: &[u8] = b"\0REQ\0\0\0\x0d\0\0\0\x09H:a:1\0c\0a";
 
-/// What a job tells that talks: WORK_STATUS 1 of 2, WORK_DATA `p`, WORK_WARNING `w`, and WORK_COMPLETE as above.
+/// What a job reports that talks: WORK_STATUS 1 of 2, WORK_DATA `p`, WORK_WARNING `w`, and WORK_COMPLETE as above.
 pub const TALKED: &[u8] =
     b"\0REQ\0\0\0\x0c\0\0\0\x09H:a:1\x001\x002\0REQ\0\0\0\x1c\0\0\0\x07H:a:1\0p\
     \0REQ\0\0\0\x1d\0\0\0\x07H:a:1\0w\0REQ\0\0\0\x0d\0\0\0\x09H:a:1\0c\0a";

@@ -58,7 +58,7 @@ fn a_peer_that_does_not_read(rt: HostRuntime) -> Result<(), Fail> {
     Ok(())
 }
 
-/// The peer says nothing: the session reads its order at a lull.
+/// The peer says nothing: the session reads its order at a timeout.
 #[test]
 fn a_peer_that_says_nothing(rt: HostRuntime) -> Result<(), Fail> {
     let (link, peer) = dial(&rt, 1)?;

@@ -1,4 +1,4 @@
-//! What stands in for a clock, a planner and jobs, each of which can be made to wait for what happens in a run.
+//! What takes the place of a clock, a planner and jobs, each of which can be made to wait for what happens in a run.
 
 use crate::tally::{Happening, Tally};
 use job_runner::{End, Job, JobTable, Outcome};

@@ -71,7 +71,7 @@ const ANSWERED: &[Pause] = &[Pause {
     jump_ms: 0,
 }];
 
-/// One job, which is answered before the server tells its second status.
+/// One job, which is answered before the server sends its second status.
 #[test]
 fn one_job_in_two_rounds(rt: HostRuntime) -> Result<(), Fail> {
     let tally = Tally::new();
@@ -333,7 +333,7 @@ const FATES: &[Part] = &[
 ];
 
 /// The first two workers have left and the late job has begun; then an hour passes. Then the late one has left, and its neighbours have
-/// answered; and then the one behind it has retired.
+/// answered; and then the one after it has retired.
 const HOUR: &[Pause] = &[
     Pause {
         until: &[(Happening::Left, 2), (Happening::Begun, 4)],
@@ -354,7 +354,7 @@ const THREE_ALWAYS: &[&[u8]] = &[THREE_WAIT, THREE_WAIT, THREE_WAIT, THREE_WAIT]
 /// The late job goes on once the server is asked for its status again: the attempt has looked for late workers then.
 const UNTIL_LATE: &[(&[u8], Happening, u64)] = &[(b"late", Happening::Asked, 2)];
 
-/// The backlog tells how many workers live: three jobs wait for them.
+/// The backlog shows how many workers live: three jobs wait for them.
 #[test]
 fn workers_die_retire_and_are_late(rt: HostRuntime) -> Result<(), Fail> {
     let tally = Tally::new();
@@ -428,7 +428,7 @@ const EITHER: &str =
 const TOO_FEW: &str =
     "version = 1\nround_ms = 7\n[functions.x]\nleast = 2\n[machines.a]\nworkers = 1\nfunctions = [\"x\"]\n";
 
-/// Settings, how many dials fail, what the server tells, and what comes of it: the lines, rounds, events of the last chapter, and chapters.
+/// Settings, how many dials fail, what the server sends, and what comes of it: the lines, rounds, events of the last chapter, and chapters.
 const ATTEMPTS: [(&str, u64, &[&[u8]], &str, u32, u32, u32); 4] = [
     (
         THREE_EVENTS,

@@ -53,7 +53,7 @@ pub struct Server<'a, R> {
     pub tally: &'a Tally,
     /// What it does with each worker.
     pub parts: &'static [Part],
-    /// What it answers when it is asked for its status, the first time first. Behind them it tells of no function.
+    /// What it answers when it is asked for its status, the first time first. After them it has no function.
     pub statuses: &'static [&'static [u8]],
     /// So many dials fail before the first that does not.
     pub failing_dials: u64,

@@ -24,7 +24,7 @@ pub enum Happening {
     Left,
     /// A plan was asked for.
     Planned,
-    /// An attempt was told, with the number behind that of the one before.
+    /// An attempt was reported, with the number after that of the one before.
     Attempted,
     /// There was a pause of the length that the settings of the tests want.
     Paused,

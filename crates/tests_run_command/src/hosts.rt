@@ -1,4 +1,4 @@
-//! Hosts whose job server tells its status and gives no job.
+//! Hosts whose job server sends its status and gives no job.
 
 use byte_io::doubles::Script;
 use run_command::{Attempt, Host, Progress, Watch};
@@ -7,7 +7,7 @@ use std::sync::Wait;
 use std::sync::atomic::{AtomicU64, Ordering};
 use std::thread::Threads;
 
-/// A host whose job server tells these status texts, one a link, and cannot be reached any more when all are told. Its clock stands,
+/// A host whose job server sends these status texts, one a link, and cannot be reached any more when all are sent. Its clock stands,
 /// and its pauses are over at once.
 #[derive(Drop)]
 pub struct Teller<'a, R: Drop> {

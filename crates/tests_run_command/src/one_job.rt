@@ -87,7 +87,7 @@ impl<R: Clock + Drop> Line<R> {
         }
     }
 
-    /// The first status is told at once, with the job waiting, and each later one when it was answered.
+    /// The first status is sent at once, with the job waiting, and each later one when it was answered.
     fn status(&self) -> &'static [u8] {
         if self.desk.asked.fetch_add(1, Ordering::SeqCst) == 0 {
             return b"reverse\t1\t0\t0\n.\n";
@@ -142,7 +142,7 @@ impl<R: Clock + Drop> Sink for Line<R> {
     }
 }
 
-/// A host that reaches this server. Its clock stands at noon, and its pauses are over at once.
+/// A host that reaches this server. Its clock is always at noon, and its pauses are over at once.
 #[derive(Drop)]
 pub struct OneJob<R: Drop> {
     rt: R,

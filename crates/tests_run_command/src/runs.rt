@@ -65,7 +65,7 @@ attempt 2 round 2 backlog 0
 totals grabbed 1 running 0 reported 1 lost 0 rounds 2 events 9
 ";
 
-/// One job, which is answered before the second status is told.
+/// One job, which is answered before the second status is sent.
 #[test]
 fn one_job_in_two_rounds(rt: HostRuntime) -> Result<(), AllocError> {
     let alloc = rt.alloc();
@@ -123,7 +123,7 @@ chapters 1
 totals grabbed 0 running 0 reported 0 lost 0 rounds 3 events 2
 ";
 
-/// What the server says is told in its line. After four of five events the chapter ends.
+/// What the server says is in its line. After four of five events the chapter ends.
 #[test]
 fn status_texts_in_turn(rt: HostRuntime) {
     let alloc = rt.alloc();
@@ -144,7 +144,7 @@ chapters 1
 totals grabbed 0 running 0 reported 0 lost 0 rounds 0 events 1
 ";
 
-/// What the pool refuses is told in its line.
+/// What the pool refuses is in its line.
 #[test]
 fn calls_that_the_pool_refuses(rt: HostRuntime) {
     let alloc = rt.alloc();

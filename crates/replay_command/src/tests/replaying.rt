@@ -362,7 +362,7 @@ fn inputs_at_their_ends(rt: HostRuntime) {
     assert!(rt; prints(alloc, TWO, b"join a/0\njob 1", b"ok a/0#1\nnone\n"));
 }
 
-/// Whether the line, behind one that is a command, is none, and what the first one answers is written.
+/// Whether the line, after one that is a command, is none, and what the first one answers is written.
 fn stops(alloc: Global, line: &[u8]) -> bool {
     let mut lines = Vec::new(alloc);
     if lines.extend_from_slice(b"join a/0\n").is_err() || lines.extend_from_slice(line).is_err() {
@@ -467,7 +467,7 @@ fn settings_before_input(rt: HostRuntime) -> Result<(), AllocError> {
     Ok(())
 }
 
-/// The exit of `replay` on a line with so many lulls behind it, and what it writes.
+/// The exit of `replay` on a line with so many timeouts after it, and what it writes.
 fn replay_after(alloc: Global, lulls: u32) -> Result<(Exit, Script), AllocError> {
     let mut script = Script::new(alloc);
     script.piece(b"join a/0\n")?;
@@ -543,14 +543,14 @@ fn inputs_of_many_pieces(rt: HostRuntime) {
     assert!(rt; refuses_all(rt.alloc(), 50_000));
 }
 
-/// Whether the pool refused the command of some line for want of memory.
+/// Whether the pool refused the command of some line because memory was refused.
 fn tells_of_memory(answers: &[u8]) -> bool {
     answers
         .split(|byte| *byte == b'\n')
         .any(|line| line.ends_with(b" Memory"))
 }
 
-/// Whether `replay` writes all answers. Where a command is refused for want of memory, or the run ends for it, also the sink's, it
+/// Whether `replay` writes all answers. If a command is refused because memory was refused, or the run ends for it, also the sink's, it
 /// is run once more; a run that ended has to have written the answers of the lines before.
 fn prints_again(alloc: Global) -> bool {
     let mut sink = Script::new(alloc);
@@ -594,7 +594,7 @@ fn meets_unwritten(alloc: Global, lines: &[u8], fault: Fault) -> bool {
     exit == Exit::refused(fault)
 }
 
-/// A write that fails is told and not the line behind it; without an answer nothing is written.
+/// A write that fails is reported and not the line after it; without an answer nothing is written.
 #[test]
 fn writes_before_lines(rt: HostRuntime) {
     let alloc = rt.alloc();

@@ -48,7 +48,7 @@ fn payload_len(response: &Response) -> usize {
     }
 }
 
-/// One assignment and nothing behind it.
+/// One assignment and nothing after it.
 fn expect_assign(
     rt: &impl Abort,
     reader: &mut Reader,
@@ -227,7 +227,7 @@ fn handles_refused(rt: HostRuntime) {
     assert!(rt; matches!(Handle::new(b"H\0"), Err(HandleError::HasNul)));
 }
 
-/// The request is spelled by these bytes, and is what they are read as, whatever follows them.
+/// The request is encoded by these bytes, and is what they are read as, whatever follows them.
 fn expect_spelled(
     rt: &impl Abort,
     alloc: Global,
@@ -425,7 +425,7 @@ fn the_greatest_body_in_small_pieces(rt: HostRuntime) {
     assert_eq!(rt; payload_len(&response), 16_777_212);
 }
 
-/// The empty piece, and one that holds the greatest packet and another behind it.
+/// The empty piece, and one that holds the greatest packet and another after it.
 #[test]
 fn the_least_and_the_greatest_piece(rt: HostRuntime) -> Result<(), Fail> {
     let alloc = rt.alloc();

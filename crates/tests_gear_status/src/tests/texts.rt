@@ -25,7 +25,7 @@ fn waiting_in_two(alloc: Global, text: &[u8], cut: usize) -> Result<u32, StatusE
     Ok(read_status(alloc, &mut script)?.waiting(b"x"))
 }
 
-/// What the text means, read byte by byte with a lull before each of the first 60.
+/// What the text means, read byte by byte with a timeout before each of the first 60.
 fn waiting_in_bytes(alloc: Global, text: &[u8]) -> Result<u32, StatusError> {
     let mut script = Script::new(alloc);
     let mut lulls: u32 = 0;
@@ -167,7 +167,7 @@ fn loads(rt: HostRuntime) {
     );
 }
 
-/// A load of no line, and one of a line of 4,096 bytes in front of the period line: each is read where there is memory.
+/// A load of no line, and one of a line of 4,096 bytes before the period line: each is read where there is memory.
 #[test]
 fn least_and_greatest_lines(rt: HostRuntime) {
     let alloc = rt.alloc();

@@ -146,7 +146,7 @@ fn status_texts_up_to_a_limit(rt: HostRuntime) {
     assert!(rt; is_read_within(alloc, 0) == Some(false));
 }
 
-/// A source of one text that fails where it is read behind its end.
+/// A source of one text that fails if it is read after its end.
 fn ending(alloc: Global, text: &[u8]) -> Result<Script, AllocError>
     ensures { IfOk result (λ script. script.take_failures ≡ 0) }
 {

@@ -15,7 +15,7 @@ fn number(farm: &Farm, size: &Size) -> u32 {
     }
 }
 
-/// What the checker finds wrong with this addition, its plan and its set, beside which none stands if it is empty. 99 where they are none.
+/// What the checker finds wrong with this addition, its plan, and its set or none if that is empty. 99 where they are none.
 fn verdict(
     alloc: Global,
     farm: &Farm,

@@ -28,7 +28,7 @@ pub enum Call {
     /// The worker of this generation in the first slot, at this time.
     Expire(u32, u64),
     EndChapter,
-    /// How the ticket stands.
+    /// What became of the ticket.
     Look(u64),
     Totals,
     /// The order to the first slot.

@@ -36,7 +36,7 @@ fn greatest_report(alloc: Global) -> Result<String, AllocError> {
     Ok(text)
 }
 
-/// The greatest report is that of the answer that it tells.
+/// The greatest report is that of the answer that it gives.
 fn expect_written_again(
     rt: &impl Abort,
     alloc: Global,
@@ -66,7 +66,7 @@ fn expect_bad_lines(rt: &impl Abort, alloc: Global, settings: &Settings) {
     assert!(rt; is_bad(alloc, settings, &long));
 }
 
-/// The greatest report is read and written again where there is memory, and a long line is no want of memory.
+/// The greatest report is read and written again where there is memory, and a long line is not refused for memory.
 #[test]
 fn the_greatest_report(rt: HostRuntime) {
     let alloc = rt.alloc();

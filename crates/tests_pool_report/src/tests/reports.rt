@@ -72,7 +72,7 @@ const LEAST_ABOVE_MOST: Example<'static> = Example {
 enum Seen {
     Refused(ReadError),
     Wrong(Reason),
-    /// It tells an answer that is shown, and is not the text of its report.
+    /// It is that of an answer that is shown, and is not the text of its report.
     Altered,
     /// It is the text of the report of an answer that is shown.
     Report,
@@ -160,7 +160,7 @@ impl Example<'_> {
         }
     }
 
-    /// Each text stands behind what becomes of it.
+    /// Each text comes after what becomes of it.
     fn expect_texts(&self, rt: &impl Abort, alloc: Global, texts: &[&str]) {
         for text in texts {
             let (wanted, text) = text.split_once("; ").expect(rt, "a text");

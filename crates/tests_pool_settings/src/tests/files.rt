@@ -79,7 +79,7 @@ fn refusals_of_texts(rt: HostRuntime) {
     assert!(rt; error_of(alloc, b"version = 1\n") == Some(SettingsError::MissingKey));
 }
 
-/// Files, each behind the refusal of it.
+/// Files, each after its refusal.
 const FILES: [&str; 13] = [
     "none: ",
     "none: version 2; function most = 1",
@@ -260,7 +260,7 @@ fn least_settings(alloc: Global) -> Result<Settings, SettingsError> {
     Ok(settings.copy(alloc)?)
 }
 
-/// The least file behind a comment of 65,536 bytes.
+/// The least file after a comment of 65,536 bytes.
 fn great_file(alloc: Global) -> Result<Vec<u8>, AllocError> {
     let mut great = vec![in alloc; b'#'; 65_536]?;
     great.push(b'\n')?;
@@ -268,7 +268,7 @@ fn great_file(alloc: Global) -> Result<Vec<u8>, AllocError> {
     Ok(great)
 }
 
-/// The least file, and one behind a comment of 65,536 bytes, are taken where there is memory, and so are the settings' copy and the
+/// The least file, and one after a comment of 65,536 bytes, are taken where there is memory, and so are the settings' copy and the
 /// planning problem that nobody works on. A file of 16,777,216 bytes, the longest that the program reads, takes minutes in a build
 /// that checks each step, and is measured in `bench/`.
 #[test]

@@ -26,7 +26,7 @@ fn is_at(alloc: Global, text: &[u8], error: SettingsError, place: Place<&str>) -
     }
 }
 
-/// The same of a file of version 1 with a good function and a good machine, and these lines before and behind them.
+/// The same of a file of version 1 with a good function and a good machine, and these lines before and after them.
 fn is_at_in(
     alloc: Global,
     top: &str,

@@ -109,7 +109,7 @@ fn defaults_and_given_values(rt: HostRuntime) {
     assert!(rt; prints(alloc, SOME, Exit::answered(0), SOME_MEANING));
 }
 
-/// Whether the file is refused so, and this line tells where.
+/// Whether the file is refused so, and this line says where.
 fn refuses(alloc: Global, settings: &[u8], error: SettingsError, place: &[u8]) -> bool {
     let mut sink = VecSink::new(alloc);
     let exit = settings_text(alloc, settings, &mut sink);

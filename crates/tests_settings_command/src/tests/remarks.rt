@@ -99,7 +99,7 @@ functions = [\"y\"]
     assert!(rt; remarks(alloc, settings, lines));
 }
 
-/// One worker joins and takes a job, behind a load and a round: seven events.
+/// One worker joins and takes a job, after a load and a round: seven events.
 #[test]
 fn histories_that_one_job_may_fill(rt: HostRuntime) {
     let alloc = rt.alloc();
