@@ -65,6 +65,18 @@ impl Names {
         }
     }
 
+    /// The number of a name, which is looked for at `guess` first: names in rising order are found at once if each guess is the number
+    /// after the last.
+    pub fn place_from(&self, name: &[u8], guess: u32) -> Option<u32>
+        requires { length self.now < 2 ^ 32 }
+        ensures { result ≡ place_of self.now name.now }
+    {
+        if (guess as usize) < self.len() && self.at(guess).as_bytes() == name {
+            return Some(guess);
+        }
+        self.place_of(name)
+    }
+
     /// The name at a number, and the empty text after the last.
     pub fn at(&self, number: u32) -> &str
         ensures { result.now ≡ name_at self.now number }
