@@ -6,7 +6,7 @@ use Rattle.round_arena.proofs.Lists.{range_more}
 use Rattle.std.proofs.lemmas.Bool.{cases_lt, cond-true, cond-false, lt-ltb, le-ltb}
 use Rattle.std.proofs.Math.Nat.{mul-le-mul_left, mul_comm, two-pow-succ}
 use Rattle.std.proofs.lemmas.List.Elements.{recursion_from_All}
-use Rattle.plan_model.specs.Planning.{Instance, functions, may_do, need, neighbours, LacksWorkers, IsShort, top_level}
+use Rattle.plan_model.specs.Planning.{Instance, may_do, need, neighbours, LacksWorkers, IsShort, top_level}
 use Rattle.plan_model.proofs.Hall.{sum_by-le_each}
 use Rattle.plan_model.proofs.Reached.{need-falls}
 use Rattle.round_arena.specs.declared.tables.Tables.{Tables}
@@ -17,7 +17,7 @@ use Rattle.augment.specs.declared.serving.Served.{Served}
 use Rattle.augment.specs.declared.serving.Served.TheVariants.{All as Full, Short}
 use Rattle.augment.specs.Round.{Hires, IsServed, KeepsServed, IsWithinLooks}
 use Rattle.augment.proofs.Rounds.{SamePairs-trans}
-use Rattle.level_search.specs.Levels.{AreNeeds, Fits, AreMet}
+use Rattle.level_search.specs.Levels.{AreNeeds, ExceedsWorkers, Fits, AreMet}
 use Rattle.level_search.specs.Found.{IsProbed, KeepsMet}
 use Rattle.level_search.specs.Paid.{passes_at}
 
@@ -65,7 +65,7 @@ IsProbed-served i needs level t (Short set) e fits h =
 -- why a level is not served: a set is short there, or more workers are needed than there are
 abbrev pub IsRefused : Instance → ℕ → Option (Bor (List ℕ)) → Type 0
 IsRefused i level (Some set) = IsShort i level set.now
-IsRefused i level None = length i.live < sum_by (need i level) (functions i)
+IsRefused i level None = ExceedsWorkers i level
 
 -- the looks of the probe that was not made, if more workers are needed one level below than there are
 abbrev pub spared : ℕ → ℕ → Option (Bor (List ℕ)) → ℕ
@@ -248,7 +248,7 @@ IsBisecting-short i short before now then low high round middle found more h r l
 
 -- more workers are needed at the middle level than there are
 pub IsBisecting-beyond : (i : Instance) (short : Option (Bor (List ℕ))) (before now : Tables) (low high round middle : ℕ) → IsBisecting i before now low high round short → round < 33 → low < high → middle ≡ low + (high - low) / 2
-    → length i.live < sum_by (need i middle) (functions i)
+    → ExceedsWorkers i middle
     → IsBisecting i before now (middle + 1) high (round + 1) None
 IsBisecting-beyond i short before now low high round middle h r l m beyond =
     let q : ℕ = probe_looks before in
@@ -263,7 +263,7 @@ IsBisecting-beyond i short before now low high round middle h r l m beyond =
       order = omega arith;
       width = omega (arith, h.width);
       met = h.met;
-      refused = λ _. subst (λ (n : ℕ). length i.live < sum_by (need i n) (functions i)) (sym back) beyond;
+      refused = λ _. subst (λ (n : ℕ). ExceedsWorkers i n) (sym back) beyond;
       hired = h.hired;
       looks = omega (arith, h.looks, most);
       left = λ below. omega (arith, h.left below, most);

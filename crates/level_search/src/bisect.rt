@@ -1,11 +1,11 @@
 //! The bisection of levels.
 
-ghost use Rattle.std.specs.Prelude.{◌≡◌, ◌+◌, ◌*◌, ◌^◌, ◌<◌, ◌≤◌, ◌↔◌, length, sum_by, IfOk, IsTrue, OnOk};
-ghost use Rattle.plan_model.specs.Planning.{IsShort, functions, need};
+ghost use Rattle.std.specs.Prelude.{◌≡◌, ◌+◌, ◌*◌, ◌^◌, ◌<◌, ◌≤◌, ◌↔◌, length, IfOk, IsTrue, OnOk};
+ghost use Rattle.plan_model.specs.Planning.{IsShort};
 ghost use Rattle.round_arena.specs.Plan.{pair_total};
 ghost use Rattle.round_arena.specs.Round.{IsConsistent, SamePairs};
 ghost use Rattle.augment.specs.Round.{Hires, IsWithinLooks};
-ghost use Rattle.level_search.specs.Levels.{AreNeeds, Fits};
+ghost use Rattle.level_search.specs.Levels.{AreNeeds, ExceedsWorkers, Fits};
 ghost use Rattle.level_search.specs.Found.{IsProbed, KeepsMet, IsFound};
 ghost use Rattle.level_search.specs.Paid.{passes};
 
@@ -53,9 +53,9 @@ fn probe<'a>(tables: &mut Tables<'a>, input: &Input, level: u64) -> Result<Serve
     Ok(served)
 }
 
-// Whether the functions need more workers at the level than there are.
+// Whether all functions together need more workers at the level than there are. Then no search is needed to know that it cannot be served.
 fn exceeds_workers(input: &Input, level: u64) -> bool
-    ensures { IsTrue result ↔ length input.now.live < sum_by (need input.now level) (functions input.now) }
+    ensures { IsTrue result ↔ ExceedsWorkers input.now level }
 {
     let mut wanted = 0u32;
     for f in 0..input.functions() as u32 {
@@ -72,7 +72,7 @@ fn find_short<'a>(
 ) -> Result<&'a [FuncId], AllocError>
     requires sound { IsConsistent (length input.now.least) tables.old }
     requires fits { Fits input.now tables.old }
-    requires exceeds { length input.now.live < sum_by (need input.now level) (functions input.now) }
+    requires exceeds { ExceedsWorkers input.now level }
     requires looks { tables.old.looks + (length tables.old.owner.now + 1) * pair_total tables.old.pairs < 2 ^ 64 }
     ensures sound { IsConsistent (length input.now.least) tables.new }
     ensures same { SamePairs tables.old tables.new }
@@ -107,7 +107,8 @@ pub fn solve_levels<'a>(tables: &mut Tables<'a>, input: &Input) -> Result<Found<
     }
     let mut low = 0u64;
     let mut high = TOP_LEVEL;
-    // Levels at which more workers are needed than there are cost no search; of these only the last is searched for its set.
+    // The set that is short one level below `low`, if that level was searched. If more workers are needed there than there are, it was not:
+    // such a search moves many workers, whom the next one moves back.
     let mut short: Option<&'a [FuncId]> = None;
     // There are 2^33 levels, so 33 halvings leave one. With a `for` the bound on probes, and so on looks, is in the code.
     for _round in 0..33u32 {

@@ -16,7 +16,7 @@ abbrev pub dialled : {A : Type 0} → Option A → DialCall
 dialled None = failed
 dialled (Some link) = opened
 
--- nothing was reported, if anything is
+-- the list is empty, if it is known
 abbrev pub IsNothing : {A : Type 0} → Option (List A) → Type 0
 IsNothing told = told ≡ option_map (λ _. []) told
 

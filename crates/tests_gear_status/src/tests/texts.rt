@@ -75,8 +75,8 @@ fn lines_then(alloc: Global, count: u32, last: &[u8]) -> Result<Vec<u8>, AllocEr
     Ok(text)
 }
 
-/// Whether so many jobs wait of this name.
-fn tells(alloc: Global, text: &[u8], name: &[u8], waiting: u32) -> bool {
+/// Whether so many jobs wait for the function of this name.
+fn has_waiting(alloc: Global, text: &[u8], name: &[u8], waiting: u32) -> bool {
     waiting_of(alloc, text, name) == Ok(waiting)
 }
 
@@ -88,15 +88,15 @@ fn refuses(alloc: Global, text: &[u8], error: StatusError) -> bool {
 #[test]
 fn meanings_of_texts(rt: HostRuntime) {
     let alloc = rt.alloc();
-    assert!(rt; tells(alloc, ROW, b"x", 6));
-    assert!(rt; tells(alloc, ROW, b"y", 2));
-    assert!(rt; tells(alloc, ROW, b"z", 0));
-    assert!(rt; tells(alloc, b"x\t4294967295\t0\t0\n.\n", b"x", 4294967295));
-    assert!(rt; tells(alloc, b"x\t2\t5\t0\n.\n", b"x", 0));
-    assert!(rt; tells(alloc, b"x\t6\t0\t2\r\n.\r\nrest", b"x", 6));
-    assert!(rt; tells(alloc, b"x\t5\t0\t0\nx\t3\t0\t0\n.\n", b"x", 3));
-    assert!(rt; tells(alloc, b"a\tb\t1\t0\t0\n.\n", b"a\tb", 1));
-    assert!(rt; tells(alloc, b"\t007\t0\t0\n.\n", b"", 7));
+    assert!(rt; has_waiting(alloc, ROW, b"x", 6));
+    assert!(rt; has_waiting(alloc, ROW, b"y", 2));
+    assert!(rt; has_waiting(alloc, ROW, b"z", 0));
+    assert!(rt; has_waiting(alloc, b"x\t4294967295\t0\t0\n.\n", b"x", 4294967295));
+    assert!(rt; has_waiting(alloc, b"x\t2\t5\t0\n.\n", b"x", 0));
+    assert!(rt; has_waiting(alloc, b"x\t6\t0\t2\r\n.\r\nrest", b"x", 6));
+    assert!(rt; has_waiting(alloc, b"x\t5\t0\t0\nx\t3\t0\t0\n.\n", b"x", 3));
+    assert!(rt; has_waiting(alloc, b"a\tb\t1\t0\t0\n.\n", b"a\tb", 1));
+    assert!(rt; has_waiting(alloc, b"\t007\t0\t0\n.\n", b"", 7));
 }
 
 #[test]
