@@ -40,10 +40,11 @@ abbrev pub IsReadFile : Known → List ℕ → Type 0
 IsReadFile known text = IsTextOf known text × (length text ≤ limit)
 
 -- A file of which this is known is not read whole by this error. Any file may lack memory, and a device may fail for any that is there;
--- but for these, one that is known not to be there has no other error, and one whose bytes are known is above the limit.
+-- but for these, one that is known not to be there is not opened, and one whose bytes are known is above the limit.
 abbrev pub IsUnreadFile : Known → InputError → Type 0
 IsUnreadFile unknown error = Unit {0}
 IsUnreadFile absent error.NoFile = Unit {0}
+IsUnreadFile absent error.NoPermission = Unit {0}
 IsUnreadFile (holds all) error.TooLong = limit < length all
 IsUnreadFile (holds all) error.ReadFault = Unit {0}
 IsUnreadFile known error.Memory = Unit {0}

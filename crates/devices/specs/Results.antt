@@ -34,6 +34,11 @@ failed_as meaning.Fault other = other
 abbrev pub failed_by : ErrorKind → InputError → InputError
 failed_by kind other = failed_as (meaning_of kind time.Unset) other
 
+-- why a file is not opened
+abbrev pub unopened_by : ErrorKind → InputError
+unopened_by kind.PermissionDenied = input.NoPermission
+unopened_by other = failed_by other input.NoFile
+
 -- a timeout, or a failure
 abbrev pub IsNoPiece : Result Took DeviceFault → Type 0
 IsNoPiece (Ok took.Lull) = Unit {0}

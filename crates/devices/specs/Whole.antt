@@ -23,3 +23,4 @@ IsNotWhole met error.TooLong = (limit < length met.bytes) × (length met.bytes �
 IsNotWhole met error.ReadFault = (length met.bytes ≤ limit) × GaveUp met
 IsNotWhole met error.Memory = Undisturbed met
 IsNotWhole met error.NoFile = ⊥
+IsNotWhole met error.NoPermission = ⊥

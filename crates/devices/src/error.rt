@@ -7,9 +7,12 @@ use thiserror::Error;
 /// Why a file or an input is not read whole.
 #[derive(Clone, Copy, Debug, PartialEq, Eq, Error)]
 pub enum InputError {
-    /// A file is not there or may not be opened.
-    #[error("there is no such file, or it may not be opened")]
+    /// A file is not there, or cannot be opened.
+    #[error("there is no such file, or it cannot be opened")]
     NoFile,
+    /// A file may not be opened by whoever runs the program.
+    #[error("there is no permission to read the file")]
+    NoPermission,
     /// A read failed, or there was nothing to read for the 65th time.
     #[error("a read failed, or there was nothing to read for too long")]
     ReadFault,

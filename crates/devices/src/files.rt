@@ -1,7 +1,8 @@
 //! Files, read whole and no further than their limit.
 
-ghost use Rattle.std.specs.Prelude.{◌≤◌, IfErr, IfOk, length};
+ghost use Rattle.std.specs.Prelude.{◌≡◌, ◌≤◌, IfErr, IfOk, length};
 ghost use Rattle.devices.specs.Folder.{IsReadFile, IsTextOf, IsUnreadFile, known_of};
+ghost use Rattle.devices.specs.Results.{unopened_by};
 ghost use Rattle.devices.specs.Whole.{limit};
 
 use crate::error::InputError;
@@ -10,7 +11,7 @@ use crate::results::failed_by;
 use std::alloc::Global;
 use std::fs::File;
 use std::io;
-use std::io::Read;
+use std::io::{ErrorKind, Read};
 
 /// What opens files by name: the system, or a text in a test.
 pub trait Folder {
@@ -44,15 +45,25 @@ impl Folder for HostRuntime {
 
 /// A file's bytes. A file that is longer than `LIMIT` is not held whole.
 ///
-/// `NoFile` if the file is not there or may not be opened, `ReadFault` if a read of it fails, `TooLong` above the limit,
-/// `Memory` if memory is refused.
+/// `NoFile` if the file is not there or cannot be opened, `NoPermission` if it may not be, `ReadFault` if a read of it fails, `TooLong`
+/// above the limit, `Memory` if memory is refused.
 pub fn read_file<F: Folder>(files: &F, alloc: Global, name: &str) -> Result<Vec<u8>, InputError>
     ensures whole { IfOk result (λ bytes. IsReadFile (F.file files.now name.now) bytes.items) }
     ensures err { IfErr result (IsUnreadFile (F.file files.now name.now)) }
 {
     match files.open(name) {
         Ok(file) => read_within(alloc, file),
-        Err(error) => Err(failed_by(error.kind(), InputError::NoFile)),
+        Err(error) => Err(unopened(error.kind())),
+    }
+}
+
+/// Why a file is not opened, by the kind of the system's error.
+fn unopened(kind: ErrorKind) -> InputError
+    ensures { result ≡ unopened_by kind }
+{
+    match kind {
+        ErrorKind::PermissionDenied => InputError::NoPermission,
+        _ => failed_by(kind, InputError::NoFile),
     }
 }
 

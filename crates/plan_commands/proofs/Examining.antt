@@ -38,6 +38,7 @@ untaken_at p met input.TooLong taken = taken
 untaken_at p met input.ReadFault taken = taken
 untaken_at p met input.Memory taken = taken
 untaken_at p met input.NoFile taken = absurd taken
+untaken_at p met input.NoPermission taken = absurd taken
 
 -- a problem, and no report
 pub untaken : (posed : Result Problem Fault) (p : Problem) (met : Met) (e : InputError) → IsDue posed (Ok p) → IsNotWhole met e

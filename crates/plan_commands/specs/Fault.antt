@@ -38,6 +38,7 @@ on_line None = []
 -- why a file or standard input was not read whole
 abbrev pub input_words : InputError → List ℕ
 input_words input.NoFile = codes "device 3 NoFile"
+input_words input.NoPermission = codes "device 3 NoFile"
 input_words input.ReadFault = codes "device 1 ReadFault"
 input_words input.TooLong = codes "input 1 TooLong"
 input_words input.Memory = codes "memory"
@@ -75,6 +76,7 @@ file_fault file other = fault.File file other
 
 abbrev pub input_fault : InputError → Fault
 input_fault input.NoFile = fault.ReadFault
+input_fault input.NoPermission = fault.ReadFault
 input_fault input.ReadFault = fault.ReadFault
 input_fault input.TooLong = fault.TooLong
 input_fault input.Memory = fault.Memory

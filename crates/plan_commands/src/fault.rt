@@ -113,7 +113,7 @@ fn input_words(error: InputError) -> &'static str
     ensures { result.now ≡ spec.input_words error }
 {
     match error {
-        InputError::NoFile => "device 3 NoFile",
+        InputError::NoFile | InputError::NoPermission => "device 3 NoFile",
         InputError::ReadFault => "device 1 ReadFault",
         InputError::TooLong => "input 1 TooLong",
         InputError::Memory => "memory",
@@ -182,7 +182,9 @@ impl From<InputError> for Fault {
 
     fn from(error: InputError) -> Fault {
         match error {
-            InputError::NoFile | InputError::ReadFault => Fault::ReadFault,
+            InputError::NoFile | InputError::NoPermission | InputError::ReadFault => {
+                Fault::ReadFault
+            }
             InputError::TooLong => Fault::TooLong,
             InputError::Memory => Fault::Memory,
         }

@@ -33,3 +33,4 @@ untaken text met p good input.TooLong taken = ((p, good), taken)
 untaken text met p good input.ReadFault taken = ((p, good), taken)
 untaken text met p good input.Memory taken = taken
 untaken text met p good input.NoFile taken = absurd taken
+untaken text met p good input.NoPermission taken = absurd taken

@@ -57,7 +57,9 @@ fn files_that_do_not_open(rt: HostRuntime) {
     let no_file = Some(InputError::NoFile);
     assert!(rt; refusal(alloc, "a name", Ok(b""), &[]) == no_file);
     let denied = Err(ErrorKind::PermissionDenied);
-    assert!(rt; refusal(alloc, " a name ", denied, &[]) == no_file);
+    assert!(rt; refusal(alloc, " a name ", denied, &[]) == Some(InputError::NoPermission));
+    let elsewhere = Err(ErrorKind::NotADirectory);
+    assert!(rt; refusal(alloc, " a name ", elsewhere, &[]) == no_file);
     let memory = Err(ErrorKind::OutOfMemory);
     assert!(rt; refusal(alloc, " a name ", memory, &[]) == Some(InputError::Memory));
 }

@@ -174,7 +174,7 @@ poolman: b/0: the settings have no such worker
     assert!(rt; tells_a_person(&host, alloc, &lost, 3, lines)?);
     let none = ["poolman", "check", "settings.toml", "none"];
     let lines = b"poolman: device 3 NoFile
-poolman: none: there is no such file, or it may not be opened
+poolman: none: there is no such file, or it cannot be opened
 ";
     assert!(rt; tells_a_person(&host, alloc, &none, 4, lines)?);
     let swapped = ["poolman", "plan", "status.txt"];

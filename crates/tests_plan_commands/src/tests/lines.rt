@@ -87,6 +87,8 @@ fn lines_of_devices_and_memory(rt: HostRuntime) {
     for file in [NamedFile::Settings, NamedFile::Status] {
         let missing = Fault::File(file, InputError::NoFile);
         assert!(rt; prints(alloc, missing, "device 3 NoFile", 4));
+        let hidden = Fault::File(file, InputError::NoPermission);
+        assert!(rt; prints(alloc, hidden, "device 3 NoFile", 4));
         let unread = Fault::File(file, InputError::ReadFault);
         assert!(rt; prints(alloc, unread, "device 1 ReadFault", 4));
         let too_long = Fault::File(file, InputError::TooLong);
