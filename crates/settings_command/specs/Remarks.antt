@@ -1,6 +1,6 @@
 -- What a farm of these settings cannot do, as a remark each.
-use Rattle.std.specs.Prelude.{◌≡◌, ℕ, ◌+◌, ◌*◌, ◌-◌, ◌/◌, List, [], ◌∷◌, ◌++◌, codes, ◌==◌, nat_lt, slice_index, sum_by, Option, None, Some}
-use Rattle.std.specs.Prelude.{if◌then◌else◌}
+use Rattle.std.specs.Prelude.{◌≡◌, ℕ, ◌+◌, ◌*◌, ◌-◌, ◌/◌, List, [], ◌∷◌, ◌++◌, codes, ◌==◌, length, nat_lt, slice_index, sum_by}
+use Rattle.std.specs.Prelude.{if◌then◌else◌, Option, None, Some}
 use Rattle.std.specs.Fmt.{decimal}
 use Rattle.std.specs.List.{flat_map}
 use Rattle.pool_settings.specs.Names.{name_at}
@@ -8,6 +8,7 @@ use Rattle.pool_settings.specs.Settings.{Settings}
 use Rattle.pool_settings.specs.Slots.{slots}
 use Rattle.settings_command.specs.Farm.{IsShown, hands}
 use Rattle.settings_command.specs.Meaning.{functions, machines}
+use Rattle.stock_jobs.specs.Stock.{is_stock}
 use Rattle.text_pieces.specs.Lines.{ended}
 
 -- ---- a machine without workers
@@ -83,6 +84,21 @@ history_remark settings =
     if nat_lt (attempt_room settings) (attempt_events settings)
     then history_line settings.history (attempt_room settings) (attempt_events settings) else []
 
+-- ---- functions that `run` has no job for
+
+-- the name of such a function, with a space before it
+abbrev pub jobless_name : Settings → ℕ → List ℕ
+jobless_name settings f = if is_stock (name_at settings.functions f) then [] else listed_name settings f
+
+abbrev pub jobless_names : Settings → List ℕ
+jobless_names settings = flat_map (jobless_name settings) (functions settings)
+
+abbrev pub jobless_line : List ℕ → List ℕ
+jobless_line names = codes "remark run has no job for" ++ ended names
+
+abbrev pub jobless_remark : Settings → List ℕ
+jobless_remark settings = if length (jobless_names settings) == 0 then [] else jobless_line (jobless_names settings)
+
 -- ---- all of them
 
 -- The remarks, by kind and then by name, where the set shows that no plan meets the least numbers, if one does.
@@ -90,6 +106,7 @@ abbrev pub farm_remarks : Settings → Option (List ℕ) → List ℕ
 farm_remarks settings short =
     flat_map (workerless_remark settings) (machines settings) ++ flat_map (few_remark settings) (functions settings)
     ++ flat_map (crossed_remark settings) (functions settings) ++ short_remark settings short ++ history_remark settings
+    ++ jobless_remark settings
 
 -- The text is these remarks, with no set or one of which that is shown.
 abbrev pub AreFarmRemarks : Settings → List ℕ → Type 0

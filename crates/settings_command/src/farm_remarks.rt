@@ -7,6 +7,7 @@ ghost use Rattle.settings_command.specs.Meaning.{functions, machines};
 ghost use Rattle.settings_command.specs.Remarks as spec;
 
 use crate::farm::{farm_of, short_set};
+use crate::jobless::push_jobless;
 use plan_model::{FuncId, FuncSet, Input, MachineId, count_neighbours};
 use pool_settings::Settings;
 use std::alloc::{AllocError, Global};
@@ -259,12 +260,13 @@ fn push_all(
     push_few(out, settings, workers)?;
     push_crossed(out, settings)?;
     push_if_short(out, settings, workers, short)?;
-    push_history(out, settings)
+    push_history(out, settings)?;
+    push_jobless(out, settings)
 }
 
 /// What a farm of these settings cannot do, a line each: the machines without workers, the functions that need more workers than may do
-/// them, those whose least number is above their greatest, the functions whose least numbers no plan meets together, and a history that one
-/// job of each worker may fill between two attempts to plan. The only error is out of memory.
+/// them, those whose least number is above their greatest, the functions whose least numbers no plan meets together, a history that one
+/// job of each worker may fill between two attempts to plan, and the functions that `run` has no job for. The only error is out of memory.
 pub fn push_farm_remarks(out: &mut String, settings: &Settings) -> Result<(), AllocError>
     ensures { OnOk result ((text : List ℕ) × spec.AreFarmRemarks settings.now text
         × (string_bytes out.new ≡ string_bytes out.old ++ text)) }

@@ -3,6 +3,7 @@
 
 mod farm;
 mod farm_remarks;
+mod jobless;
 mod meaning;
 mod place;
 mod remarks;

@@ -28,6 +28,7 @@ function x least 0 (default)
 function x most 1 (default)
 machine a workers 1
 may a x
+remark run has no job for x
 ";
 
 /// The most bytes that a file or an input may have.

@@ -43,6 +43,7 @@ machine beta workers 0
 remark no machine lists function thumbnail
 remark machine beta lists no function
 remark machine beta has no workers
+remark run has no job for resize thumbnail
 ";
 
 /// Each key.
@@ -73,6 +74,7 @@ function x most 2
 machine a workers 2
 may a x
 remark history 5 may leave 3 events between two attempts, and one job of each worker takes 12
+remark run has no job for x
 ";
 
 #[test]
@@ -101,6 +103,7 @@ history 1048576 (default)
 function x least 0 (default)
 function x most 2
 remark no machine lists function x
+remark run has no job for x
 ";
 
 #[test]

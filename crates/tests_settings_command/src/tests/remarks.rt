@@ -20,16 +20,16 @@ fn remarks(alloc: Global, settings: &[u8], remarks: &[u8]) -> bool {
 fn machines_without_workers(rt: HostRuntime) {
     let alloc = rt.alloc();
     let settings = b"version = 1
-[functions.x]
+[functions.echo]
 [machines.a]
 workers = 0
-functions = [\"x\"]
+functions = [\"echo\"]
 [machines.b]
 workers = 1
-functions = [\"x\"]
+functions = [\"echo\"]
 [machines.c]
 workers = 0
-functions = [\"x\"]
+functions = [\"echo\"]
 ";
     let lines = b"remark machine a has no workers
 remark machine c has no workers
@@ -42,19 +42,19 @@ remark machine c has no workers
 fn functions_that_too_few_may_do(rt: HostRuntime) {
     let alloc = rt.alloc();
     let settings = b"version = 1
-[functions.x]
+[functions.echo]
 least = 3
-[functions.y]
+[functions.length]
 least = 2
 [machines.a]
 workers = 2
-functions = [\"x\"]
+functions = [\"echo\"]
 [machines.b]
 workers = 2
-functions = [\"y\"]
+functions = [\"length\"]
 ";
-    let lines = b"remark function x needs 3 workers at the least, and 2 may do it
-remark no plan meets the least numbers of x: 3 workers, and 2 may do them
+    let lines = b"remark function echo needs 3 workers at the least, and 2 may do it
+remark no plan meets the least numbers of echo: 3 workers, and 2 may do them
 ";
     assert!(rt; remarks(alloc, settings, lines));
 }
@@ -63,17 +63,17 @@ remark no plan meets the least numbers of x: 3 workers, and 2 may do them
 fn least_numbers_above_the_greatest(rt: HostRuntime) {
     let alloc = rt.alloc();
     let settings = b"version = 2
-[functions.x]
+[functions.echo]
 least = 2
 most = 1
-[functions.y]
+[functions.length]
 least = 1
 most = 1
 [machines.a]
 workers = 3
-functions = [\"x\", \"y\"]
+functions = [\"echo\", \"length\"]
 ";
-    let lines = b"remark function x needs 2 workers at the least, and may have 1 at the most\n";
+    let lines = b"remark function echo needs 2 workers at the least, and may have 1 at the most\n";
     assert!(rt; remarks(alloc, settings, lines));
 }
 
@@ -82,20 +82,21 @@ functions = [\"x\", \"y\"]
 fn least_numbers_that_no_plan_meets(rt: HostRuntime) {
     let alloc = rt.alloc();
     let settings = b"version = 1
-[functions.x]
+[functions.echo]
 least = 2
-[functions.y]
+[functions.length]
 least = 2
-[functions.z]
+[functions.reverse]
 least = 2
 [machines.a]
 workers = 3
-functions = [\"x\", \"z\"]
+functions = [\"echo\", \"reverse\"]
 [machines.b]
 workers = 5
-functions = [\"y\"]
+functions = [\"length\"]
 ";
-    let lines = b"remark no plan meets the least numbers of x z: 4 workers, and 3 may do them\n";
+    let lines =
+        b"remark no plan meets the least numbers of echo reverse: 4 workers, and 3 may do them\n";
     assert!(rt; remarks(alloc, settings, lines));
 }
 
@@ -105,20 +106,37 @@ fn histories_that_one_job_may_fill(rt: HostRuntime) {
     let alloc = rt.alloc();
     let short = b"version = 1
 history = 12
-[functions.x]
+[functions.echo]
 [machines.a]
 workers = 1
-functions = [\"x\"]
+functions = [\"echo\"]
 ";
     let line =
         b"remark history 12 may leave 6 events between two attempts, and one job of each worker takes 7\n";
     assert!(rt; remarks(alloc, short, line));
     let enough = b"version = 1
 history = 13
-[functions.x]
+[functions.echo]
 [machines.a]
 workers = 1
-functions = [\"x\"]
+functions = [\"echo\"]
 ";
     assert!(rt; remarks(alloc, enough, b""));
+}
+
+/// The three functions that `run` has jobs for are not among them.
+#[test]
+fn functions_that_run_has_no_job_for(rt: HostRuntime) {
+    let settings = b"version = 1
+[functions.echo]
+[functions.length]
+[functions.reverse]
+[functions.reversed]
+[functions.ech]
+[machines.a]
+workers = 5
+functions = [\"ech\", \"echo\", \"length\", \"reverse\", \"reversed\"]
+";
+    let line = b"remark run has no job for ech reversed\n";
+    assert!(rt; remarks(rt.alloc(), settings, line));
 }

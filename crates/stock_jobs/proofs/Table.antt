@@ -3,9 +3,9 @@ use Rattle.std.proofs.Common.{◌≡◌, ◌∙◌, ap, sym, ℕ, List, [], ◌�
 use Rattle.std.specs.List.{AllByRecursion}
 use Rattle.std.specs.Str.{bytes_eq}
 use Rattle.job_runner.specs.Table.{told_by}
-use Rattle.run_command.specs.Stock.{stock_name, told_by_job, told_by_name}
-use Rattle.run_command.specs.declared.stock.StockJob.{StockJob}
-use Rattle.run_command.specs.declared.stock.StockJob.TheVariants.{Reverse, Length, Echo}
+use Rattle.stock_jobs.specs.Stock.{stock_name, told_by_job, told_by_name}
+use Rattle.stock_jobs.specs.declared.stock.StockJob.{StockJob}
+use Rattle.stock_jobs.specs.declared.stock.StockJob.TheVariants.{Reverse, Length, Echo}
 
 -- entries that have the names of their jobs tell as the jobs
 pub same_jobs : (entries : List (Vec ℕ Global × StockJob)) → AllByRecursion (λ e. e.0.items ≡ stock_name e.1) entries

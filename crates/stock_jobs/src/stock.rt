@@ -1,7 +1,9 @@
 //! The jobs that the program's workers can do.
 
 ghost use Rattle.std.specs.Prelude.{◌≡◌, ℕ, List, IfOk};
-ghost use Rattle.run_command.specs.Stock as spec;
+ghost use Rattle.std.specs.List.{list_any};
+ghost use Rattle.std.specs.Str.{bytes_eq};
+ghost use Rattle.stock_jobs.specs.Stock as spec;
 
 use job_runner::{End, Job, JobTable, Jobs, Outcome};
 use std::alloc::{AllocError, Global};
@@ -46,7 +48,7 @@ impl StockJob {
 }
 
 impl Job for StockJob {
-    ghost use Rattle.run_command.specs.Stock.{told_by_job};
+    ghost use Rattle.stock_jobs.specs.Stock.{told_by_job};
 
     ghost meaning = { told_by_job };
 
@@ -57,6 +59,23 @@ impl Job for StockJob {
             end: End::Complete(result),
         })
     }
+}
+
+/// All of them.
+const ALL: [StockJob; 3] = [StockJob::Reverse, StockJob::Length, StockJob::Echo];
+
+/// Whether it is the job of this name.
+fn has_name(job: &StockJob, name: &[u8]) -> bool
+    ensures { result ≡ bytes_eq (spec.stock_name job.now) name.now }
+{
+    job.name().as_bytes() == name
+}
+
+/// Whether one of the jobs has this name.
+pub fn is_stock(name: &[u8]) -> bool
+    ensures { result ≡ spec.is_stock name.now }
+{
+    ALL.iter().any(|job| has_name(job, name))
 }
 
 /// A job with its name.

@@ -1,9 +1,9 @@
 use Rattle.std.proofs.Common.{◌≡◌, ◌∙◌, ℕ, List, [], ◌∷◌, ◌++◌, Vec, Global, ap, sym, subst}
 use Rattle.job_runner.specs.Table.{told_by}
-use Rattle.run_command.specs.Stock.{told_by_job, told_by_name}
-use Rattle.run_command.specs.declared.stock.StockJob.{StockJob}
-use Rattle.run_command.proofs.Table.{three_jobs}
-use Rattle.run_command.proofs.stock.stock_jobs.Goals as goal
+use Rattle.stock_jobs.specs.Stock.{told_by_job, told_by_name}
+use Rattle.stock_jobs.specs.declared.stock.StockJob.{StockJob}
+use Rattle.stock_jobs.proofs.Table.{three_jobs}
+use Rattle.stock_jobs.proofs.stock.stock_jobs.Goals as goal
 
 pub returns : goal.returns
 returns c name input =
