@@ -1,6 +1,7 @@
 //! The system's devices: readers as sources, writers as sinks, and files and inputs that are read whole.
 #![tactic(auto)]
 
+mod dial_error;
 mod error;
 mod files;
 mod input;
@@ -9,6 +10,7 @@ mod results;
 mod streams;
 mod tcp;
 
+pub use dial_error::DialError;
 pub use error::InputError;
 pub use files::{Folder, read_file};
 pub use input::{LIMIT, read_whole};

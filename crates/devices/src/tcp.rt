@@ -3,11 +3,12 @@
 ghost use Rattle.std.specs.Prelude.{◌≡◌, ◌≤◌, IfOk};
 ghost use Rattle.byte_io.specs.Sides.{no_input, no_output};
 
+use crate::dial_error::DialError;
 use crate::reads::Reads;
 use crate::results::TimeLimit;
 use byte_io::{Device, DeviceFault, MAX_TIMEOUTS, Sink, Source, Took};
 use std::io;
-use std::io::{ErrorKind, Read, Write};
+use std::io::{Read, Write};
 use std::net::{Net, TcpStream, ToSocketAddrs};
 use std::time::Duration;
 
@@ -54,25 +55,40 @@ impl TcpLink {
         })
     }
 
-    /// Dials `host:port`, each address of the host in turn, for 65 timeouts at most each. The error is the system's answer to the last
-    /// address, or says that there is none.
+    /// Dials `host:port`, each address of the host in turn, for 65 timeouts at most each. The error says why the last address was not
+    /// reached, or that there is none.
     pub fn dial<R: Net<Stream = TcpStream>>(
         net: &R,
         server: &str,
         lull_ms: u32,
-    ) -> io::Result<TcpLink>
+    ) -> Result<TcpLink, DialError>
         ensures input { IfOk result (λ link. ⟦<TcpLink as Device>⟧.input link ≡ no_input) }
         ensures output { IfOk result (λ link. ⟦<TcpLink as Device>⟧.output link ≡ no_output) }
     {
         let patience = Duration::from_millis(lull_ms as u64 * PATIENCE);
-        let mut last = io::Error::from(ErrorKind::InvalidInput);
-        for address in server.to_socket_addrs(net)? {
+        let addresses = match server.to_socket_addrs(net) {
+            Ok(addresses) => addresses,
+            Err(error) => return Err(DialError::of_lookup(&error)),
+        };
+        let mut last = DialError::NoAddress;
+        for address in addresses {
             match TcpStream::connect_timeout(net, &address, patience) {
-                Ok(stream) => return TcpLink::new(stream, lull_ms),
-                Err(error) => last = error,
+                Ok(stream) => return TcpLink::over(stream, lull_ms),
+                Err(error) => last = DialError::of_connect(&error),
             }
         }
         Err(last)
+    }
+
+    /// A link over a stream that was just connected.
+    fn over(stream: TcpStream, lull_ms: u32) -> Result<TcpLink, DialError>
+        ensures input { IfOk result (λ link. ⟦<TcpLink as Device>⟧.input link ≡ no_input) }
+        ensures output { IfOk result (λ link. ⟦<TcpLink as Device>⟧.output link ≡ no_output) }
+    {
+        match TcpLink::new(stream, lull_ms) {
+            Ok(link) => Ok(link),
+            Err(error) => Err(DialError::of_connect(&error)),
+        }
     }
 }
 

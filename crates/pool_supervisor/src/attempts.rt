@@ -9,6 +9,7 @@ ghost use Rattle.pool_supervisor.specs.Tries.{Attempts, Dials, Fills, FillsOne, 
 use crate::attempt::Attempt;
 use crate::crew::Crew;
 use crate::dial::Dial;
+use crate::news::{Attempted, Progress, Queue};
 use crate::place::{Place, RunId};
 use crate::planner::Planner;
 use crate::port::Watch;
@@ -24,12 +25,6 @@ use std::marker::PhantomData;
 use std::sync::Wait;
 use std::thread;
 use std::thread::{Scope, Threads};
-
-/// What is reported of each attempt when it is made.
-pub trait Progress {
-    /// An attempt of this number, from 1, came to this.
-    fn attempted(&self, number: u32, attempt: &Attempt);
-}
 
 /// The supervisor's seats at the board.
 #[derive(Drop)]
@@ -66,6 +61,8 @@ pub struct Supervisor<'e, N: RunId, L: Source + Sink, Y, P, J, C, R> {
     pub crew: Crew<N, L>,
     /// Its seats at the board.
     pub seats: Seats,
+    /// The longest queue per worker under the plan of this attempt. None if it has none yet, or if no job waits.
+    pub longest: Option<Queue>,
     /// The seats are at the run's board.
     pub ghost can_post: { seats.publisher.board ≡ N.board },
     pub ghost can_seat: { seats.source.board ≡ N.board },
@@ -97,6 +94,20 @@ impl<'e, N: RunId, J, C: Watch, R: Wait> Site<'e, N, J, C, R> {
         let mut held = self.shared.hold(self.lent.rt);
         held.facts();
         held.join(slot).ok()
+    }
+
+    /// How many workers are alive.
+    fn alive(&self) -> u32 {
+        let held = self.shared.hold(self.lent.rt);
+        held.facts();
+        let pool = held.pool();
+        let mut alive = 0;
+        for number in 0..pool.slots() {
+            if pool.slot(SlotId::new(number)).is_live() {
+                alive += 1;
+            }
+        }
+        alive
     }
 
     /// Loses each worker whose job is late. It is left out if no time is known.
@@ -240,8 +251,15 @@ impl<
         drop(ended);
         self.start_all(scope)?;
         site.expire_late();
+        self.longest = None;
         let attempt = self.make_round();
-        site.lent.watch.attempted(number, &attempt);
+        site.lent.watch.attempted(&Attempted {
+            settings: site.run.settings,
+            number,
+            attempt: &attempt,
+            alive: site.alive(),
+            longest: self.longest,
+        });
         lines.told.push_reserved(attempt);
         Ok(())
     }
@@ -314,6 +332,7 @@ impl<
             planner: _,
             crew,
             mut seats,
+            longest: _,
         } = self;
         let ended = crew.join_all(&site, &mut seats.source, &mut dial, lines);
         attempted?;

@@ -2,11 +2,14 @@
 ghost use Rattle.std.specs.Prelude.{◌≡◌, ◌+◌, ◌-◌, ◌<◌, ◌≤◌, ◌^◌, IfSome, OnOk, vec_len};
 ghost use Rattle.pool_settings.specs.Slots.{slots as slot_count};
 ghost use Rattle.pool_supervisor.specs.Counted.{CountAHistory};
+ghost use Rattle.pool_supervisor.specs.JobCounts.{answered};
 ghost use Rattle.pool_supervisor.specs.Joined.{Joins};
 
 use crate::attempts::Lines;
 use crate::dial::Dial;
 use crate::ends::EndCounts;
+use crate::job_counts::JobCounts;
+use crate::news::{EndedWorker, Progress};
 use crate::place::{Grabs, Place, Reports, RunId};
 use crate::port::Watch;
 use crate::run::RunEnd;
@@ -22,6 +25,7 @@ use std::sync::ledger::Share;
 use std::sync::{Arc, Wait};
 use std::thread;
 use std::thread::{JoinHandle, Scope, Threads};
+use worker_state::WorkerName;
 
 /// Into how many parts the ledgers of a run are cut: one for each session that runs, and one at least for the crew.
 pub const PARTS: u64 = 1 << 40;
@@ -37,6 +41,8 @@ struct Started<N: RunId, L: Source + Sink> {
     handle: JoinHandle<(Returned<N>, Snapshot<L>)>,
     /// Set by the session as the last that it does.
     has_ended: Arc<AtomicBool>,
+    worker: WorkerName,
+    ghost known: { worker.slot < slot_count N.settings },
 }
 
 /// Room for one more session: what its start needs of memory but for the thread.
@@ -57,12 +63,14 @@ pub struct Crew<N: RunId, L: Source + Sink> {
     reports: Share<Reports<N>>,
     grabbed: u64,
     reported: u64,
+    jobs: JobCounts,
     ends: EndCounts,
     not_started: u64,
 }
 
 impl<N: RunId, L: Source + Sink> Model for Crew<N, L> {
     ghost use Rattle.std.specs.Prelude.{◌≡◌, ◌+◌, ◌^◌, vec_len, vec_capacity};
+    ghost use Rattle.pool_supervisor.specs.JobCounts.{answered};
     ghost use Rattle.pool_supervisor.specs.Sessions.{Sessions};
 
     ghost Value = { Sessions };
@@ -71,7 +79,8 @@ impl<N: RunId, L: Source + Sink> Model for Crew<N, L> {
 
     ghost invariant = { λ c.
         (c.grabs.parts + vec_len c.running + c.not_started ≡ 2 ^ 40) × (c.grabs.amount ≡ c.grabbed)
-        × (c.reports.parts + vec_len c.running + c.not_started ≡ 2 ^ 40) × (c.reports.amount ≡ c.reported) };
+        × (c.reports.parts + vec_len c.running + c.not_started ≡ 2 ^ 40) × (c.reports.amount ≡ c.reported)
+        × (answered c.jobs ≡ c.reported) };
 }
 
 impl<N: RunId, L: Source + Sink> Crew<N, L> {
@@ -86,6 +95,7 @@ impl<N: RunId, L: Source + Sink> Crew<N, L> {
             reports,
             grabbed: 0,
             reported: 0,
+            jobs: JobCounts::none(),
             ends: EndCounts::none(),
             not_started: 0,
         }
@@ -115,8 +125,8 @@ impl<N: RunId, L: Source + Sink> Crew<N, L> {
         self.running[at].has_ended.load(Ordering::SeqCst)
     }
 
-    /// Joins a session, adds up what it did, takes its seat back, and reports how its link ended.
-    fn take_back<J, C, R: Threads + Wait, Y: Dial<L>>(
+    /// Joins a session, adds up what it did, takes its seat back, and reports how it and its link ended.
+    fn take_back<J, C: Progress, R: Threads + Wait, Y: Dial<L>>(
         &mut self,
         site: &Site<'_, N, J, C, R>,
         source: &mut SeatSource,
@@ -135,16 +145,19 @@ impl<N: RunId, L: Source + Sink> Crew<N, L> {
             reports,
             grabbed,
             reported,
+            jobs,
             ends,
             ..
         } = self;
         let Started {
             handle,
             has_ended: _,
+            worker,
         } = running.swap_remove(at);
         let (returned, link) = handle.join(site.lent.rt);
         let Returned {
             end,
+            jobs: jobs_of_session,
             place,
             grabbed: grab_share,
             reported: report_share,
@@ -155,7 +168,13 @@ impl<N: RunId, L: Source + Sink> Crew<N, L> {
         let _ = site.shared.hold(site.lent.rt).settle(grabs, reports);
         *grabbed += end.grabbed;
         *reported += end.reported;
+        jobs.add(jobs_of_session);
         ends.count(end.cause);
+        site.lent.watch.ended(&EndedWorker {
+            settings: site.run.settings,
+            worker,
+            cause: end.cause,
+        });
         let Place { seat, of: _ } = place;
         site.run.board.give_back(seat, source);
         dial.hung_up(link);
@@ -163,7 +182,7 @@ impl<N: RunId, L: Source + Sink> Crew<N, L> {
 
     /// Joins the sessions that have ended, so that none keeps a handle or a thread for longer than an attempt. It waits for no session
     /// that goes on.
-    pub fn join_ended<J, C, R: Threads + Wait, Y: Dial<L>>(
+    pub fn join_ended<J, C: Progress, R: Threads + Wait, Y: Dial<L>>(
         &mut self,
         site: &Site<'_, N, J, C, R>,
         source: &mut SeatSource,
@@ -184,7 +203,7 @@ impl<N: RunId, L: Source + Sink> Crew<N, L> {
 
     /// Joins all sessions, as each ends, and takes the totals: what the run came to, with these lines. None if a session could not be
     /// started.
-    pub fn join_all<J, C, R: Threads + Wait, Y: Dial<L>>(
+    pub fn join_all<J, C: Progress, R: Threads + Wait, Y: Dial<L>>(
         mut self,
         site: &Site<'_, N, J, C, R>,
         source: &mut SeatSource,
@@ -210,6 +229,7 @@ impl<N: RunId, L: Source + Sink> Crew<N, L> {
             mut reports,
             grabbed,
             reported,
+            jobs,
             ends,
             not_started: _,
         } = self;
@@ -226,6 +246,7 @@ impl<N: RunId, L: Source + Sink> Crew<N, L> {
             totals,
             grabbed,
             reported,
+            jobs,
             ends,
             chapters,
             lines: told,
@@ -268,6 +289,7 @@ impl<'e, N: RunId, J: Jobs + Sync, C: Watch + Sync, R: Threads + Wait + Sync> Si
             has_ended,
             of_session,
         } = berth;
+        let name = site.run.worker_of(&papers.worker.pass);
         let work = move || -> (Returned<N>, Snapshot<L>)
             requires slot { papers.worker.pass.slot < slot_count site.run.settings.now }
             requires link { ((L.output link).failures < 2 ^ 64 - 1) × ((L.input link).failures < 2 ^ 64 - 1) }
@@ -284,7 +306,11 @@ impl<'e, N: RunId, J: Jobs + Sync, C: Watch + Sync, R: Threads + Wait + Sync> Si
             .spawn_scoped(scope, work)
         {
             Ok(handle) => {
-                running.push_reserved(Started { handle, has_ended });
+                running.push_reserved(Started {
+                    handle,
+                    has_ended,
+                    worker: name,
+                });
                 Ok(())
             }
             Err(_) => {

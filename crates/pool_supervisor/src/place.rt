@@ -1,13 +1,15 @@
 //! The name of a run, and a session's place at its board.
-ghost use Rattle.std.specs.Prelude.{◌≡◌, ◌≤◌};
+ghost use Rattle.std.specs.Prelude.{◌≡◌, ◌<◌, ◌≤◌};
 ghost use Rattle.atomic_table.specs.Seated.{TableId};
 ghost use Rattle.pool_settings.specs.Slots.{slots};
 
 use order_board::{Board, ReaderSeat};
+use pool_core::Pass;
 use pool_settings::Settings;
 use std::alloc::AllocError;
 use std::marker::{Brand, PhantomData};
 use std::sync::ledger::Ledger;
+use worker_state::WorkerName;
 
 /// The name of a run: its board, the settings of its pool, and the ledgers of its grabs and of its reports. Each call of a program picks
 /// it, so that what a thread hands back is known to be of its own run.
@@ -99,6 +101,17 @@ pub struct RunBoard<'e, N: RunId> {
     pub ghost settings_are: { settings.now ≡ N.settings },
     /// There is a place for each slot.
     pub ghost room: { slots settings.now ≤ board.now.slots },
+}
+
+impl<'e, N: RunId> RunBoard<'e, N> {
+    /// The worker that a pass speaks for, which is one of the run's.
+    pub fn worker_of(&self, pass: &Pass) -> WorkerName
+        requires { pass.now.slot < slots self.now.settings.now }
+        ensures worker { result ≡ pass.now }
+        ensures known { result.slot < slots N.settings }
+    {
+        pass.name()
+    }
 }
 
 impl<'e, N: RunId> Clone for RunBoard<'e, N> {

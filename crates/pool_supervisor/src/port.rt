@@ -1,9 +1,11 @@
 //! A session's way to the shared pool.
 ghost use Rattle.std.specs.Prelude.{◌≡◌, ◌+◌};
 ghost use Rattle.job_runner.specs.Book.{no_calls};
+ghost use Rattle.pool_supervisor.specs.JobCounts.{answered};
 ghost use Rattle.pool_supervisor.specs.PortCalls.{book_of};
 
 use crate::calls::{Call, Calls, note};
+use crate::job_counts::JobCounts;
 use crate::place::{Grabs, Place, Reports, RunId};
 use crate::shared::Shared;
 use gear_packets::Handle;
@@ -30,7 +32,7 @@ pub trait Watch {
 /// that it was given, at the time of the watch; a job that is grabbed when no time is known is never late. A refusal that says that
 /// the worker is not what its session takes it for is reported as [`Gone`].
 ///
-/// It keeps no count: its calls are known to contracts alone ([`Calls`]), and each share is the number of those that succeeded.
+/// Its calls are known to contracts alone ([`Calls`]). Each share is the number of those that succeeded, and it counts how the jobs ended.
 #[derive(Drop)]
 pub struct SharedPort<'a, N: RunId, C, R> {
     rt: &'a R,
@@ -40,12 +42,14 @@ pub struct SharedPort<'a, N: RunId, C, R> {
     place: Place<N>,
     grab_share: Share<Grabs<N>>,
     report_share: Share<Reports<N>>,
+    jobs_done: JobCounts,
     calls: Snapshot<Calls>,
     ghost here: { board.now.id ≡ N.board },
     ghost grab_part: { grab_share.parts ≡ 1 },
     ghost report_part: { report_share.parts ≡ 1 },
     ghost grabs_counted: { grab_share.amount ≡ (book_of calls.value).grabs },
     ghost reports_counted: { report_share.amount ≡ (book_of calls.value).reports },
+    ghost ends_counted: { answered jobs_done ≡ (book_of calls.value).reports },
 }
 
 impl<'a, N: RunId, C: Watch, R: Wait> SharedPort<'a, N, C, R> {
@@ -72,8 +76,16 @@ impl<'a, N: RunId, C: Watch, R: Wait> SharedPort<'a, N, C, R> {
             place,
             grab_share,
             report_share,
+            jobs_done: JobCounts::none(),
             calls: Snapshot::of(&Calls::New),
         }
+    }
+
+    /// What became of the jobs that it was called for.
+    pub fn jobs(&self) -> JobCounts
+        ensures { answered result ≡ (⟦<SharedPort<'a, N, C, R> as PoolPort>⟧.book self.now).reports }
+    {
+        self.jobs_done
     }
 
     /// The shares, whose amounts are the numbers of the jobs that it grabbed and reported, and its place at the board.
@@ -90,6 +102,7 @@ impl<'a, N: RunId, C: Watch, R: Wait> SharedPort<'a, N, C, R> {
             place,
             grab_share,
             report_share,
+            jobs_done: _,
             calls: _,
         } = self;
         (grab_share, report_share, place)
@@ -130,6 +143,7 @@ impl<'a, N: RunId, C: Watch, R: Wait> PoolPort for SharedPort<'a, N, C, R> {
                 Ok(ticket)
             }
             Err(error) => {
+                self.jobs_done.add_given_back();
                 let refusal = refusal_of(error);
                 note(&mut self.calls, Call::Grab(Err(refusal)));
                 Err(refusal)
@@ -155,7 +169,10 @@ impl<'a, N: RunId, C: Watch, R: Wait> PoolPort for SharedPort<'a, N, C, R> {
     ) -> Result<StayOrRetire, Gone> {
         let mut held = self.shared.hold(self.rt);
         let answer = match held.reported(&mut self.report_share, pass, ticket, end) {
-            Ok(told) => Ok(told),
+            Ok(told) => {
+                self.jobs_done.add_end(end);
+                Ok(told)
+            }
             Err(_) => Err(Gone),
         };
         note(&mut self.calls, Call::Report(answer));

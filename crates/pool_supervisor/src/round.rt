@@ -8,6 +8,7 @@ use crate::asking::ask_for_load;
 use crate::attempt::{Attempt, PoolRefusal};
 use crate::attempts::Supervisor;
 use crate::dial::Dial;
+use crate::news::longest_queue;
 use crate::place::RunId;
 use crate::planner::Planner;
 use crate::session::Site;
@@ -85,10 +86,14 @@ impl<'e, N: RunId, L: Source + Sink + Drop, Y: Dial<L>, P: Planner, J, C, R: Wai
         let Some(certified) = planned_for(self.planner, viewed) else {
             return Some(Attempt::Memory);
         };
+        let longest = longest_queue(&certified);
         let mut held = site.shared.hold(site.lent.rt);
         let publisher = &mut self.seats.publisher;
         match site.run.adopt_and_publish(&mut held, publisher, certified) {
-            Ok(ran) => Some(Attempt::of_round(&ran)),
+            Ok(ran) => {
+                self.longest = longest;
+                Some(Attempt::of_round(&ran))
+            }
             Err(AdoptError::Stale) => None,
             Err(error) => Some(Attempt::Refused(PoolRefusal::Adopt(error))),
         }

@@ -3,14 +3,17 @@ ghost use Rattle.std.specs.Prelude.{◌≡◌, ◌+◌, ◌≤◌, ◌^◌, [], 
 ghost use Rattle.pool_settings.specs.Slots.{slots as slot_count};
 ghost use Rattle.pool_core.specs.Book.{totals_of};
 ghost use Rattle.pool_supervisor.specs.Counted.{CountAHistory};
+ghost use Rattle.pool_supervisor.specs.JobCounts.{answered};
 ghost use Rattle.pool_supervisor.specs.Rounds.{TellRun};
 ghost use Rattle.pool_supervisor.specs.Tries.{Dials};
 
 use crate::attempt::Attempt;
-use crate::attempts::{Lines, Progress, Seats, Supervisor};
+use crate::attempts::{Lines, Seats, Supervisor};
 use crate::crew::{Crew, PARTS};
 use crate::dial::Dial;
 use crate::ends::EndCounts;
+use crate::job_counts::JobCounts;
+use crate::news::Progress;
 use crate::place::{Grabs, Reports, RunBoard, RunId};
 use crate::planner::Planner;
 use crate::port::Watch;
@@ -36,6 +39,8 @@ pub struct RunEnd {
     pub grabbed: u64,
     /// How many jobs they reported, added up.
     pub reported: u64,
+    /// What became of the jobs that they were given, added up.
+    pub jobs: JobCounts,
     /// Why the sessions ended.
     pub ends: EndCounts,
     /// How many chapters of the history ended.
@@ -47,6 +52,8 @@ pub struct RunEnd {
     /// The sums are the totals.
     pub ghost grabs_agree: { totals.grabbed ≡ grabbed },
     pub ghost reports_agree: { totals.reported ≡ reported },
+    /// Each job that was reported was completed or failed.
+    pub ghost ends_agree: { answered jobs ≡ reported },
 }
 
 /// What a run makes before its first session starts.
@@ -128,6 +135,7 @@ impl<'e, L: Source + Sink + Send + Drop, Y: Dial<L> + Drop, P: Planner> Tools<'e
             planner,
             crew: Crew::<N, L>::new(lent.alloc, grabs, reports),
             seats,
+            longest: None,
         };
         supervisor.run(lines)
     }
@@ -163,9 +171,9 @@ fn make(alloc: Global, settings: &Settings, rounds: u32) -> Result<Made, AllocEr
     })
 }
 
-/// Runs a pool of these settings for so many attempts, with a session for each slot, and then ends all sessions. The watch is told
-/// of each attempt. What dials is handed back with what the run came to, so that its calls are known. The only error is that memory or a
-/// thread was refused.
+/// Runs a pool of these settings for so many attempts, with a session for each slot, and then ends all sessions. The watch is told of its
+/// beginning, of each attempt, of each worker's end, and of what it came to. What dials is handed back with what the run came to, so that
+/// its calls are known. The only error is that memory or a thread was refused.
 pub fn run_pool<
     L: Source + Sink + Send + Drop,
     Y: Dial<L> + Drop,
@@ -188,6 +196,7 @@ pub fn run_pool<
     ensures counts { IfOk result (λ e. CountAHistory settings e.0.totals) }
     ensures dials { IfOk result (λ e. Dials settings [] e.0.lines.items (Y.calls dial) (Y.calls e.1)) }
 {
+    watch.began(&settings);
     let made = make(alloc, &settings, rounds)?;
     let tools: Tools<'_, L, Y, P> = Tools {
         settings: &settings,
@@ -201,5 +210,14 @@ pub fn run_pool<
         watch,
         jobs,
     };
-    tools.run::<Brand, J, C, R>(lent, made, Blank::new(PARTS), Blank::new(PARTS))
+    let ran = tools.run::<Brand, J, C, R>(lent, made, Blank::new(PARTS), Blank::new(PARTS));
+    report(watch, &ran);
+    ran
+}
+
+/// Reports what a run came to.
+fn report<C: Progress, Y>(watch: &C, ran: &Result<(RunEnd, Y), AllocError>) {
+    if let Ok((ended, _)) = ran {
+        watch.finished(ended);
+    }
 }

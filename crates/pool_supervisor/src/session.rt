@@ -6,7 +6,9 @@ ghost use Rattle.job_runner.specs.Loop.{duty_of};
 ghost use Rattle.job_runner.specs.Course.{session_of};
 ghost use Rattle.job_runner.specs.Run.{Served};
 ghost use Rattle.pool_settings.specs.Slots.{slots};
+ghost use Rattle.pool_supervisor.specs.JobCounts.{answered};
 
+use crate::job_counts::JobCounts;
 use crate::place::{Grabs, Place, Reports, RunBoard, RunId};
 use crate::port::{SharedPort, Watch};
 use crate::shared::Shared;
@@ -102,6 +104,8 @@ const TURNS: u32 = u32::MAX;
 pub struct Returned<N: RunId> {
     /// How it ended, and what it counted.
     pub end: SessionEnd,
+    /// What became of its jobs.
+    pub jobs: JobCounts,
     /// Its place at the board.
     pub place: Place<N>,
     /// Its share of the book of grabs.
@@ -114,6 +118,8 @@ pub struct Returned<N: RunId> {
     /// The shares stand at the counts of its end.
     pub ghost grabs_counted: { grabbed.amount ≡ end.grabbed },
     pub ghost reports_counted: { reported.amount ≡ end.reported },
+    /// Each job that it reported was completed or failed.
+    pub ghost ends_counted: { answered jobs ≡ end.reported },
 }
 
 /// A worker's session over the shared pool, to its end. It promises of what it reads and writes what [`run_session`] does. The
@@ -154,9 +160,11 @@ pub fn run_worker<N: RunId, L: Source + Sink, J: Jobs, C: Watch, R: Wait>(
     let shares = (grabbed, reported);
     let mut port = SharedPort::new(rt, site.shared, watch, board, place, shares);
     let end = run_session(alloc, link, &mut port, jobs, settings, pass, TURNS);
+    let jobs_done = port.jobs();
     let (grabbed, reported, place) = port.into_parts();
     Returned {
         end,
+        jobs: jobs_done,
         place,
         grabbed,
         reported,

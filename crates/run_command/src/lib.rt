@@ -3,12 +3,12 @@
 
 mod host;
 mod running;
-mod stock;
 mod system;
 mod text;
+mod watching;
 
 pub use host::Host;
-pub use pool_supervisor::{Attempt, Progress, Watch};
+pub use pool_supervisor::{Attempt, Attempted, EndedWorker, Progress, RunEnd, Watch};
 pub use running::run_rounds;
-pub use stock::{StockJob, stock_jobs};
+pub use stock_jobs::{StockJob, stock_jobs};
 pub use system::System;

@@ -6,13 +6,13 @@ ghost use Rattle.pool_supervisor.specs.Rounds.{TellRun};
 ghost use Rattle.run_command.specs.Run as spec;
 
 use crate::host::{Host, Route};
-use crate::stock::stock_jobs;
 use crate::text::{run_text, status_after};
 use byte_io::Sink;
 use plan_commands::{Exit, Fault, deliver, read_settings};
 use pool_settings::Settings;
 use pool_supervisor::{ArenaPlanner, RunEnd, run_pool};
 use std::alloc::{AllocError, Global};
+use stock_jobs::stock_jobs;
 
 /// Runs the pool with the stock jobs.
 fn run_stock<H: Host>(

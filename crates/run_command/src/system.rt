@@ -1,12 +1,16 @@
 //! The system as the host of a run.
 
 use crate::host::Host;
-use devices::TcpLink;
-use pool_supervisor::{Attempt, Progress, Watch, attempt_line};
-use std::alloc::Global;
+use crate::watching::{attempt_note, end_notes, job_note, worker_note};
+use devices::{DialError, TcpLink};
+use jiff::Timestamp;
+use pool_settings::Settings;
+use pool_supervisor::{Attempted, EndedWorker, Progress, RunEnd, Watch};
+use std::alloc::{AllocError, Global};
 use std::net::{Net, TcpStream};
 use std::rt::{Clock, Env};
 use std::sync::Wait;
+use std::sync::atomic::{AtomicU8, Ordering};
 use std::thread::Threads;
 use std::time::Duration;
 use std::{env, thread};
@@ -16,13 +20,25 @@ const WATCH: &str = "POOLMAN_WATCH";
 
 /// The system as the host of a run: its threads, TCP, its monotonic clock, and its standard error.
 ///
-/// Each attempt's line is written to standard error when it is made, if the run is watched, and else nothing is. A line that cannot be
-/// written is left out.
+/// If the run is watched, each attempt, each end of a worker, and what the run came to are written to standard error when they are
+/// reported, each line behind the time, as RFC 3339 writes it; else nothing is. A line that cannot be written is left out.
 #[derive(Drop)]
 pub struct System<R> {
     rt: R,
     is_watched: bool,
+    /// Why the last dial failed, by its place among all reasons from 1, and 0 if it did not.
+    unreached: AtomicU8,
 }
+
+/// All reasons for which a dial fails.
+const REASONS: [DialError; 6] = [
+    DialError::NoAddress,
+    DialError::Refused,
+    DialError::NoAnswer,
+    DialError::TooManyFiles,
+    DialError::Memory,
+    DialError::Failed,
+];
 
 impl<R: Env + Alloc> System<R> {
     /// The system, whose runs are watched if the variable `POOLMAN_WATCH` is `1`.
@@ -31,7 +47,59 @@ impl<R: Env + Alloc> System<R> {
             Ok(value) => value.as_str() == "1",
             Err(_) => false,
         };
-        System { rt, is_watched }
+        System {
+            rt,
+            is_watched,
+            unreached: AtomicU8::new(0),
+        }
+    }
+}
+
+impl<R> System<R> {
+    /// Why the last dial failed, if it did.
+    fn last_failure(&self) -> Option<DialError> {
+        let place = self.unreached.load(Ordering::SeqCst).checked_sub(1)?;
+        REASONS.get(place as usize).copied()
+    }
+
+    /// Keeps why a dial failed.
+    fn keep_failure(&self, error: DialError) {
+        let place = REASONS.iter().position(|reason| *reason == error);
+        let number = place.map_or(0, |place| place as u8 + 1);
+        self.unreached.store(number, Ordering::SeqCst);
+    }
+}
+
+impl<R: Clock + Eprint + Alloc<A = Global>> System<R> {
+    /// The time, in whole seconds.
+    fn time(&self) -> Option<Timestamp> {
+        let now = Timestamp::now(&self.rt).ok()?;
+        Timestamp::from_second(now.as_second()).ok()
+    }
+
+    /// Writes a line to standard error, behind the time.
+    fn write(&self, line: &str) {
+        let written = match self.time() {
+            Some(time) => self.rt.eprintln(format_args!("{time} {line}")),
+            None => self.rt.eprintln(line),
+        };
+        let _ = written;
+    }
+
+    /// Writes this line, if there was memory for it.
+    fn write_line(&self, line: Result<String, AllocError>) {
+        if let Ok(line) = line {
+            self.write(line.as_str());
+        }
+    }
+
+    /// Writes these lines, if there was memory for them.
+    fn write_lines(&self, lines: Result<Vec<String>, AllocError>) {
+        if let Ok(lines) = lines {
+            for line in &lines {
+                self.write(line.as_str());
+            }
+        }
     }
 }
 
@@ -50,13 +118,30 @@ impl<R: Clock> Watch for System<R> {
     }
 }
 
-impl<R: Eprint + Alloc<A = Global>> Progress for System<R> {
-    fn attempted(&self, number: u32, attempt: &Attempt) {
-        if !self.is_watched {
-            return;
+impl<R: Clock + Eprint + Alloc<A = Global>> Progress for System<R> {
+    fn began(&self, settings: &Settings) {
+        if self.is_watched {
+            if let Ok(Some(line)) = job_note(self.rt.alloc(), settings) {
+                self.write(line.as_str());
+            }
         }
-        if let Ok(line) = attempt_line(self.rt.alloc(), number, attempt) {
-            let _ = self.rt.eprintln(line);
+    }
+
+    fn attempted(&self, made: &Attempted<'_>) {
+        if self.is_watched {
+            self.write_line(attempt_note(self.rt.alloc(), made, self.last_failure()));
+        }
+    }
+
+    fn ended(&self, ended: &EndedWorker<'_>) {
+        if self.is_watched {
+            self.write_line(worker_note(self.rt.alloc(), ended));
+        }
+    }
+
+    fn finished(&self, ended: &RunEnd) {
+        if self.is_watched {
+            self.write_lines(end_notes(self.rt.alloc(), ended));
         }
     }
 }
@@ -66,6 +151,15 @@ impl<R: Threads + Wait + Clock + Eprint + Alloc<A = Global> + Net<Stream = TcpSt
     type Link = TcpLink;
 
     fn reach(&self, server: &str, lull_ms: u32) -> Option<TcpLink> {
-        TcpLink::dial(&self.rt, server, lull_ms).ok()
+        match TcpLink::dial(&self.rt, server, lull_ms) {
+            Ok(link) => {
+                self.unreached.store(0, Ordering::SeqCst);
+                Some(link)
+            }
+            Err(error) => {
+                self.keep_failure(error);
+                None
+            }
+        }
     }
 }

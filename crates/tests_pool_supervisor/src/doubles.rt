@@ -3,7 +3,7 @@
 use crate::tally::{Happening, Tally};
 use job_runner::{End, Job, JobTable, Outcome};
 use plan_model::{Answer, Input, Plan};
-use pool_supervisor::{ArenaPlanner, Attempt, Planner, Progress, Watch};
+use pool_supervisor::{ArenaPlanner, Attempted, Planner, Progress, Watch};
 use std::alloc::{AllocError, Global};
 use std::sync::atomic::{AtomicU64, Ordering};
 use std::time::Clock;
@@ -60,8 +60,8 @@ impl<R: Clock> Watch for Stage<'_, R> {
 }
 
 impl<R> Progress for Stage<'_, R> {
-    fn attempted(&self, number: u32, _attempt: &Attempt) {
-        if self.tally.count(Happening::Attempted).saturating_add(1) == u64::from(number) {
+    fn attempted(&self, made: &Attempted<'_>) {
+        if self.tally.count(Happening::Attempted).saturating_add(1) == u64::from(made.number) {
             let _before = self.tally.add(Happening::Attempted);
         }
     }

@@ -211,7 +211,9 @@ fn each_worker_has_its_own_order(rt: HostRuntime) -> Result<(), Fail> {
     scenario.pauses = BOTH_ANSWERED;
     let ended = scenario.run(&rt, rt.alloc(), &tally)?;
     let lines = "attempt 1 round 1 backlog 6\n";
-    expect(&rt, rt.alloc(), &tally, &ended, lines, (2, 0, 2, 0, 1, 12))
+    expect(&rt, rt.alloc(), &tally, &ended, lines, (2, 0, 2, 0, 1, 12))?;
+    assert_eq!(rt; (ended.jobs.completed, ended.jobs.failed), (1, 1));
+    Ok(())
 }
 
 /// Two workers, which retire after one run. A chapter ends after 20 events.

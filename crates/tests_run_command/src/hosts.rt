@@ -1,7 +1,7 @@
 //! Hosts whose job server sends its status and gives no job.
 
 use byte_io::doubles::Script;
-use run_command::{Attempt, Host, Progress, Watch};
+use run_command::{Attempted, Host, Progress, Watch};
 use std::alloc::Global;
 use std::sync::Wait;
 use std::sync::atomic::{AtomicU64, Ordering};
@@ -48,8 +48,10 @@ impl<'a, R: Drop> Watch for Teller<'a, R> {
 }
 
 impl<'a, R: Drop> Progress for Teller<'a, R> {
-    fn attempted(&self, number: u32, _attempt: &Attempt) {
-        let _ = self.attempts.fetch_add(u64::from(number), Ordering::SeqCst);
+    fn attempted(&self, made: &Attempted<'_>) {
+        let _ = self
+            .attempts
+            .fetch_add(u64::from(made.number), Ordering::SeqCst);
     }
 }
 

@@ -1,7 +1,7 @@
 //! A host whose job server has one job.
 
 use byte_io::{Device, DeviceFault, Sink, Source, Took};
-use run_command::{Attempt, Host, Progress, Watch};
+use run_command::{Attempted, Host, Progress, Watch};
 use std::alloc::{AllocError, Global};
 use std::sync::atomic::{AtomicU64, Ordering};
 use std::sync::{Arc, Wait};
@@ -173,7 +173,7 @@ impl<R: Drop> Watch for OneJob<R> {
 }
 
 impl<R: Drop> Progress for OneJob<R> {
-    fn attempted(&self, _number: u32, _attempt: &Attempt) {}
+    fn attempted(&self, _made: &Attempted<'_>) {}
 }
 
 impl<R: Threads + Wait + Clock + Copy + Send + Sync + Drop> Host for OneJob<R> {

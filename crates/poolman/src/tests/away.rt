@@ -1,7 +1,7 @@
 //! A host from which no job server can be reached.
 
 use byte_io::doubles::Script;
-use run_command::{Attempt, Host, Progress, Watch};
+use run_command::{Attempted, Host, Progress, Watch};
 use std::sync::Wait;
 use std::thread::Threads;
 
@@ -25,7 +25,7 @@ impl<R: Drop> Watch for Away<R> {
 }
 
 impl<R: Drop> Progress for Away<R> {
-    fn attempted(&self, _number: u32, _attempt: &Attempt) {}
+    fn attempted(&self, _made: &Attempted<'_>) {}
 }
 
 impl<R: Threads + Wait + Sync + Drop> Host for Away<R> {

@@ -1,0 +1,64 @@
+//! Why a server is not reached.
+
+use std::io;
+use std::io::ErrorKind;
+use thiserror::Error;
+
+/// The system's number for a process that may open no more files, and the one for a system that may not (`EMFILE` and `ENFILE`).
+const TOO_MANY_FILES: [i32; 2] = [24, 23];
+
+/// Why a server is not reached.
+#[derive(Clone, Copy, Debug, PartialEq, Eq, Error)]
+pub enum DialError {
+    /// Its name has no address, or cannot be looked up now.
+    #[error("the server's name has no address")]
+    NoAddress,
+    /// It refused the connection.
+    #[error("the server refused the connection")]
+    Refused,
+    /// Nothing came back in the time of a dial, or no way leads to it.
+    #[error("the server did not answer")]
+    NoAnswer,
+    /// No more files may be open, in this process or on this machine.
+    #[error("too many files are open")]
+    TooManyFiles,
+    /// There was no memory.
+    #[error("out of memory")]
+    Memory,
+    /// The system said something else.
+    #[error("the connection failed")]
+    Failed,
+}
+
+impl DialError {
+    /// Why a name was not looked up.
+    pub fn of_lookup(error: &io::Error) -> DialError {
+        match DialError::of_connect(error) {
+            DialError::Failed | DialError::Refused | DialError::NoAnswer => DialError::NoAddress,
+            lacking => lacking,
+        }
+    }
+
+    /// Why a connection was not made.
+    pub fn of_connect(error: &io::Error) -> DialError {
+        match error.kind() {
+            ErrorKind::ConnectionRefused => DialError::Refused,
+            ErrorKind::TimedOut
+            | ErrorKind::WouldBlock
+            | ErrorKind::HostUnreachable
+            | ErrorKind::NetworkUnreachable
+            | ErrorKind::NetworkDown => DialError::NoAnswer,
+            ErrorKind::OutOfMemory => DialError::Memory,
+            _ if lacks_files(error) => DialError::TooManyFiles,
+            _ => DialError::Failed,
+        }
+    }
+}
+
+/// Whether no more files may be open.
+fn lacks_files(error: &io::Error) -> bool {
+    match error.raw_os_error() {
+        Some(number) => TOO_MANY_FILES.contains(&number),
+        None => false,
+    }
+}

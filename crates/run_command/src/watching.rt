@@ -1,0 +1,116 @@
+//! What is told of a run to whoever watches it, in lines.
+
+use devices::DialError;
+use job_runner::EndCause;
+use plan_model::FuncId;
+use pool_settings::Settings;
+use pool_supervisor::{Attempt, Attempted, EndCounts, EndedWorker, RunEnd, attempt_line};
+use refusal::Labelled;
+use std::alloc::{AllocError, Global};
+use std::fmt::Write;
+use stock_jobs::is_stock;
+
+/// A line with the functions that no job of the run serves. None if there are none. The only error is out of memory.
+pub fn job_note(alloc: Global, settings: &Settings) -> Result<Option<String>, AllocError> {
+    let mut names = String::new(alloc);
+    for number in 0..settings.functions() {
+        let name = settings.function_name(FuncId::new(number));
+        if !is_stock(name.as_bytes()) {
+            write!(names, " {name}")?;
+        }
+    }
+    if names.is_empty() {
+        return Ok(None);
+    }
+    Ok(Some(format!(in alloc; "remark run has no job for{names}")?))
+}
+
+/// The line of an attempt, how many workers are alive, and the function with the longest queue per worker. Without a link the line says why
+/// the server was not reached, if that is known. The only error is out of memory.
+pub fn attempt_note(
+    alloc: Global,
+    made: &Attempted<'_>,
+    unreached: Option<DialError>,
+) -> Result<String, AllocError> {
+    let mut line = attempt_line(alloc, made.number, made.attempt)?;
+    if let (Attempt::NoLink, Some(error)) = (made.attempt, unreached) {
+        write!(line, " ({error})")?;
+    }
+    let alive = made.alive;
+    write!(line, " alive {alive}")?;
+    if let Some(queue) = &made.longest {
+        let name = made.settings.function_name(queue.function);
+        let waiting = queue.waiting;
+        let workers = queue.workers;
+        write!(line, " longest {name} waiting {waiting} workers {workers}")?;
+    }
+    Ok(line)
+}
+
+/// Which worker ended, and why. The only error is out of memory.
+pub fn worker_note(alloc: Global, ended: &EndedWorker<'_>) -> Result<String, AllocError> {
+    let worker = ended
+        .settings
+        .worker_text(alloc, ended.worker.slot, ended.worker.generation)?;
+    let cause = ended.cause.label().name();
+    let why = reason(ended.cause);
+    format!(in alloc; "ended {worker} {cause} ({why})")
+}
+
+/// Why a session ends for this cause.
+fn reason(cause: EndCause) -> &'static str {
+    match cause {
+        EndCause::Retired => "it has made all its runs",
+        EndCause::Gone => "its job took too long",
+        EndCause::BadPacket => "the server sent no packet, or a job that was not asked for",
+        EndCause::ServerError => "the server sent an error",
+        EndCause::ReadFault => "a read from the server failed",
+        EndCause::WriteFault => "a write to the server failed",
+        EndCause::TurnsUsed => "it has made all its reads",
+        EndCause::Memory => "out of memory",
+        EndCause::HistoryFull => "the history has no room for another job",
+        EndCause::Closed => "the server closed the connection",
+        EndCause::Stopped => "the run is over",
+    }
+}
+
+/// All causes, in the order of their numbers.
+const CAUSES: [EndCause; 11] = [
+    EndCause::Retired,
+    EndCause::Gone,
+    EndCause::BadPacket,
+    EndCause::ServerError,
+    EndCause::ReadFault,
+    EndCause::WriteFault,
+    EndCause::TurnsUsed,
+    EndCause::Memory,
+    EndCause::HistoryFull,
+    EndCause::Closed,
+    EndCause::Stopped,
+];
+
+/// How many workers ended for each cause, if any did.
+fn causes_note(alloc: Global, ends: &EndCounts) -> Result<String, AllocError> {
+    let mut line = String::from_str(alloc, "ends")?;
+    for cause in &CAUSES {
+        let count = ends.of(*cause);
+        if count > 0 {
+            let name = cause.label().name();
+            write!(line, " {name} {count}")?;
+        }
+    }
+    Ok(line)
+}
+
+/// What became of the run's workers and of their jobs. The only error is out of memory.
+pub fn end_notes(alloc: Global, ended: &RunEnd) -> Result<Vec<String>, AllocError> {
+    let mut lines = Vec::new(alloc);
+    lines.push(causes_note(alloc, &ended.ends)?)?;
+    let completed = ended.jobs.completed;
+    let failed = ended.jobs.failed;
+    let given_back = ended.jobs.given_back;
+    lines.push(format!(in alloc;
+        "jobs completed {completed} failed {failed} given back {given_back}"
+    )?)?;
+    Ok(lines)
+}
