@@ -13,6 +13,7 @@ import time
 CAN_DO, SUBMIT_JOB, JOB_CREATED, WORK_COMPLETE, WORK_FAIL, SUBMIT_JOB_BG, ERROR, JOB_ASSIGN_UNIQ = 1, 7, 8, 13, 14, 18, 19, 31
 HOST = "127.0.0.1"
 FAILED = None
+JOBS = re.compile(r"jobs completed (\d+) failed (\d+) given back (\d+)")
 TOTALS = re.compile(r"totals grabbed (\d+) running (\d+) reported (\d+) lost (\d+) rounds (\d+) events (\d+)")
 
 
@@ -122,10 +123,14 @@ class Pool:
             preexec_fn=limit,
         )
 
-    def seen(self):
-        """The lines of the attempts so far."""
+    def watched(self):
+        """What standard error says so far, without the times."""
         with open(self.err.name) as it:
-            return it.read().splitlines()
+            return [line.partition(" ")[2] for line in it.read().splitlines()]
+
+    def seen(self):
+        """The lines of the attempts so far, as the output has them."""
+        return [re.sub(r"( \(.*\))? alive .*", "", line) for line in self.watched() if line.startswith("attempt ")]
 
     def goes_on(self):
         """Holds that the run has not ended."""
@@ -155,10 +160,10 @@ class Pool:
             held(False, f"the run did not end within {seconds} seconds")
         with open(self.out.name) as it:
             lines = it.read().splitlines()
-        watched = self.seen()
+        watched, last = self.seen(), self.watched()[-1:]
         self.out.close(), self.err.close()
         self.folder.cleanup()
-        return Ended(status, lines, watched, self.rounds)
+        return Ended(status, lines, watched, last, self.rounds)
 
     def drop(self):
         """Kills it, where it still runs, and leaves out what it printed."""
@@ -172,8 +177,8 @@ class Pool:
 class Ended:
     """What a run came to."""
 
-    def __init__(self, status, lines, watched, rounds):
-        held(status == 0, f"exit status {status}: {watched[-1:]}")
+    def __init__(self, status, lines, watched, last, rounds):
+        held(status == 0, f"exit status {status}: {last}")
         self.attempts = [line for line in lines if line.startswith("attempt ")]
         held(self.attempts == watched, "what was watched is not what was printed")
         held([int(line.split()[1]) for line in self.attempts] == list(range(1, rounds + 1)), "the attempts do not count on")
@@ -184,6 +189,8 @@ class Ended:
         held(self.running == 0, "jobs run at the end")
         held(self.grabbed == self.reported + self.lost, "grabbed is not reported and lost together")
         held(self.rounds == sum(" round " in line for line in self.attempts), "the rounds are not the lines with a round")
+        self.completed, self.failed, self.given_back = map(int, JOBS.fullmatch(last[0]).groups())
+        held(self.reported == self.completed + self.failed, "reported is not completed and failed together")
 
     def account(self, grabbed, lost=0):
         """Holds the totals to what was submitted."""

@@ -106,9 +106,9 @@ fn longest_of(input: &Input, workers: &[u32]) -> Option<Queue> {
         };
         let is_longest = match &longest {
             Some(other) => queue.is_longer(other),
-            None => queue.waiting > 0,
+            None => true,
         };
-        if is_longest {
+        if queue.waiting > 0 && is_longest {
             longest = Some(queue);
         }
     }

@@ -62,7 +62,8 @@ fn reason(cause: EndCause) -> &'static str {
     match cause {
         EndCause::Retired => "it has made all its runs",
         EndCause::Gone => "its job took too long",
-        EndCause::BadPacket => "the server sent no packet, or a job that was not asked for",
+        EndCause::BadPacket =>
+            "the server sent a malformed or too long packet, or a job that was not asked for",
         EndCause::ServerError => "the server sent an error",
         EndCause::ReadFault => "a read from the server failed",
         EndCause::WriteFault => "a write to the server failed",
