@@ -100,9 +100,9 @@ class Gearmand:
 
 
 class Pool:
-    """A `poolman run`, watched."""
+    """A `poolman run`, watched, or with other words another program that runs workers."""
 
-    def __init__(self, program, settings, rounds, descriptors=None, environment=()):
+    def __init__(self, program, settings, rounds, descriptors=None, environment=(), words=("run",)):
         self.folder = tempfile.TemporaryDirectory(prefix="poolman-")
         path = f"{self.folder.name}/settings.toml"
         with open(path, "w") as it:
@@ -115,7 +115,7 @@ class Pool:
                 resource.setrlimit(resource.RLIMIT_NOFILE, (descriptors, descriptors))
 
         self.process = subprocess.Popen(
-            [program, "run", path, str(rounds)],
+            [program, *words, path, str(rounds)],
             stdin=subprocess.DEVNULL,
             stdout=self.out,
             stderr=self.err,

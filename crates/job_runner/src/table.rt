@@ -1,12 +1,13 @@
 //! Jobs by name.
 
-ghost use Rattle.std.specs.Prelude.{◌≡◌, ℕ, List, Option, IfOk, is_err, map};
+ghost use Rattle.std.specs.Prelude.{◌≡◌, ℕ, List, Option, IfOk, is_err, is_some, map};
 ghost use Rattle.std.specs.Option.{option_map};
 ghost use Rattle.job_runner.specs.Told.{Told, told_of};
 ghost use Rattle.std.specs.Cmp.Lexicographic.{slice_cmp};
-ghost use Rattle.std.specs.List.{IsAllAdjacentAnswer};
+ghost use Rattle.std.specs.List.{IsAllAdjacentAnswer, find};
 ghost use Rattle.std.specs.List.Sorted.{IsStrictlySortedBy-prop};
 ghost use Rattle.std.specs.Ordering.{is_lt, nat_cmp};
+ghost use Rattle.std.specs.Str.{bytes_eq};
 ghost use Rattle.job_runner.specs.Table.{is_named_twice, told_by, RiseByName};
 
 use crate::job::{Job, Outcome};
@@ -22,6 +23,10 @@ pub trait Jobs {
     /// Runs the job of that name. None if there is no such name. The only error is out of memory.
     fn run(&self, alloc: Global, name: &[u8], input: &[u8]) -> Result<Option<Outcome>, AllocError>
         ensures { IfOk result (λ outcome. option_map told_of outcome ≡ told self.now name.now input.now) };
+
+    /// Whether there is a job of that name.
+    fn serves(&self, name: &[u8]) -> bool
+        ensures { (input : List ℕ) → result ≡ is_some (told self.now name.now input) };
 }
 
 /// Two jobs have one name.
@@ -73,15 +78,31 @@ impl<J: Job> JobTable<J> {
     }
 }
 
+impl<J> JobTable<J> {
+    /// The entry of a name.
+    fn entry(&self, name: &[u8]) -> Option<&(Vec<u8>, J)>
+        ensures { option_map (λ entry. entry.now) result ≡ find (λ entry. bytes_eq entry.0.items name.now) self.now.jobs.items }
+    {
+        match self.jobs.binary_search_by(|entry| at_name(entry, name)) {
+            Ok(place) => Some(&self.jobs[place]),
+            Err(_) => None,
+        }
+    }
+}
+
 impl<J: Job> Jobs for JobTable<J> {
     ghost use Rattle.job_runner.specs.Table.{told_by};
 
     ghost told = { λ table. told_by (λ entry. entry.0.items) (λ entry. J.meaning entry.1) table.jobs.items };
 
     fn run(&self, alloc: Global, name: &[u8], input: &[u8]) -> Result<Option<Outcome>, AllocError> {
-        match self.jobs.binary_search_by(|entry| at_name(entry, name)) {
-            Ok(place) => Ok(Some(self.jobs[place].1.run(alloc, input)?)),
-            Err(_) => Ok(None),
+        match self.entry(name) {
+            Some(entry) => Ok(Some(entry.1.run(alloc, input)?)),
+            None => Ok(None),
         }
+    }
+
+    fn serves(&self, name: &[u8]) -> bool {
+        self.entry(name).is_some()
     }
 }

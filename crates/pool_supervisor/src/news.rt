@@ -50,8 +50,8 @@ pub struct EndedWorker<'a> {
 
 /// What is reported of a run while it goes on. No contract says that it is.
 pub trait Progress {
-    /// A run by these settings begins.
-    fn began(&self, _settings: &Settings) {}
+    /// A run by these settings begins, and has no job for the function. Jobs of it are answered as failed.
+    fn lacks_job(&self, _settings: &Settings, _function: FuncId) {}
 
     /// An attempt was made.
     fn attempted(&self, made: &Attempted<'_>);

@@ -22,6 +22,7 @@ use crate::shared::Shared;
 use byte_io::{Sink, Source};
 use job_runner::Jobs;
 use order_board::Board;
+use plan_model::FuncId;
 use pool_core::{Pool, Totals};
 use pool_settings::Settings;
 use std::alloc::{AllocError, Global};
@@ -171,8 +172,8 @@ fn make(alloc: Global, settings: &Settings, rounds: u32) -> Result<Made, AllocEr
     })
 }
 
-/// Runs a pool of these settings for so many attempts, with a session for each slot, and then ends all sessions. The watch is told of its
-/// beginning, of each attempt, of each worker's end, and of what it came to. What dials is handed back with what the run came to, so that
+/// Runs a pool of these settings for so many attempts, with a session for each slot, and then ends all sessions. The watch is told of each
+/// function without a job, of each attempt, of each worker's end, and of what the run came to. What dials is handed back with what the run came to, so that
 /// its calls are known. The only error is that memory or a thread was refused.
 pub fn run_pool<
     L: Source + Sink + Send + Drop,
@@ -196,7 +197,7 @@ pub fn run_pool<
     ensures counts { IfOk result (λ e. CountAHistory settings e.0.totals) }
     ensures dials { IfOk result (λ e. Dials settings [] e.0.lines.items (Y.calls dial) (Y.calls e.1)) }
 {
-    watch.began(&settings);
+    report_lacking(watch, jobs, &settings);
     let made = make(alloc, &settings, rounds)?;
     let tools: Tools<'_, L, Y, P> = Tools {
         settings: &settings,
@@ -213,6 +214,16 @@ pub fn run_pool<
     let ran = tools.run::<Brand, J, C, R>(lent, made, Blank::new(PARTS), Blank::new(PARTS));
     report(watch, &ran);
     ran
+}
+
+/// Reports each function of the settings that no job serves.
+fn report_lacking<C: Progress, J: Jobs>(watch: &C, jobs: &J, settings: &Settings) {
+    for number in 0..settings.functions() {
+        let function = FuncId::new(number);
+        if !jobs.serves(settings.function_name(function).as_bytes()) {
+            watch.lacks_job(settings, function);
+        }
+    }
 }
 
 /// Reports what a run came to.

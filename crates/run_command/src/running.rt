@@ -8,16 +8,18 @@ ghost use Rattle.run_command.specs.Run as spec;
 use crate::host::{Host, Route};
 use crate::text::{run_text, status_after};
 use byte_io::Sink;
+use job_runner::Jobs;
 use plan_commands::{Exit, Fault, deliver, read_settings};
 use pool_settings::Settings;
 use pool_supervisor::{ArenaPlanner, RunEnd, run_pool};
 use std::alloc::{AllocError, Global};
 use stock_jobs::stock_jobs;
 
-/// Runs the pool with the stock jobs.
-fn run_stock<H: Host>(
+/// Runs the pool with these jobs.
+fn run_with<H: Host, J: Jobs + Sync>(
     host: &H,
     alloc: Global,
+    jobs: &J,
     settings: Settings,
     rounds: u32,
 ) -> Result<RunEnd, AllocError>
@@ -25,14 +27,13 @@ fn run_stock<H: Host>(
     ensures told { IfOk result (λ ended. TellRun settings [] ended.lines.items []) }
     ensures counts { IfOk result (λ ended. CountAHistory settings ended.totals) }
 {
-    let jobs = stock_jobs(alloc)?;
     let route = Route {
         host,
         server: String::from_str(alloc, settings.server())?,
         lull_ms: settings.lull_ms(),
     };
     let planner = ArenaPlanner::new(alloc);
-    let (ended, _route) = run_pool(host, alloc, route, host, &planner, &jobs, settings, rounds)?;
+    let (ended, _route) = run_pool(host, alloc, route, host, &planner, jobs, settings, rounds)?;
     Ok(ended)
 }
 
@@ -44,9 +45,10 @@ struct Told {
 }
 
 /// Runs the pool of these settings.
-fn run_told<H: Host>(
+fn run_told<H: Host, J: Jobs + Sync>(
     host: &H,
     alloc: Global,
+    jobs: &J,
     settings_text: &[u8],
     rounds: u32,
 ) -> Result<Told, Fault>
@@ -56,22 +58,43 @@ fn run_told<H: Host>(
     ensures kept { IfErr result (spec.IsKeptFrom settings_text.now) }
 {
     let settings = read_settings(alloc, settings_text)?;
-    let ended = run_stock(host, alloc, settings, rounds)?;
+    let ended = run_with(host, alloc, jobs, settings, rounds)?;
     let text = run_text(alloc, &ended)?;
     Ok(Told { ended, text })
 }
 
 /// Runs a pool of workers by these settings against their job server: `rounds` attempts to plan, a session in a thread for each worker, and
-/// the stock jobs (`StockJob`). When all sessions have ended it writes what the run came to: a line for each attempt, from the first
-/// on; the line of the chapters of the history that ended, if one did; and the line of the pool's totals, which account for each job
-/// that was grabbed: it runs, was reported or was lost. The exit status is 1 if some round had no plan, and else 0. An unreachable
-/// server, a bad status text or a refused call is reported in the attempt's line; the exit status stays 0.
+/// these jobs. When all sessions have ended it writes what the run came to: a line for each attempt, from the first on; the line of the
+/// chapters of the history that ended, if one did; and the line of the pool's totals, which account for each job that was grabbed: it runs,
+/// was reported or was lost. The exit status is 1 if some round had no plan, and else 0. An unreachable server, a bad status text or a
+/// refused call is reported in the attempt's line; the exit status stays 0.
 ///
 /// Faults are looked for in the settings, before anything is dialled. If memory is refused, or a thread, so that the run cannot go on,
 /// the sessions are ended and the fault is `Memory`. Nothing is written before the run has ended: after a `WriteFault`, which comes
 /// only if the sink failed, a prefix of the text was written and not all of it, and after any other fault nothing.
 ///
 /// It returns once all sessions have ended, so it waits for jobs that are running.
+pub fn run_jobs<H: Host, J: Jobs + Sync, S: Sink>(
+    host: &H,
+    alloc: Global,
+    jobs: &J,
+    settings_text: &[u8],
+    rounds: u32,
+    sink: &mut S,
+) -> Exit
+    requires sink { (S.output sink.old).failures < 2 ^ 64 - 1 }
+    ensures supervises { spec.Supervises settings_text.now rounds (S.output sink.old) (S.output sink.new) result }
+{
+    match run_told(host, alloc, jobs, settings_text, rounds) {
+        Ok(told) => {
+            let done = Exit::answered(status_after(&told.ended.lines));
+            deliver(sink, told.text.as_bytes(), done)
+        }
+        Err(fault) => Exit::refused(fault),
+    }
+}
+
+/// [`run_jobs`] with the stock jobs (`StockJob`).
 pub fn run_rounds<H: Host, S: Sink>(
     host: &H,
     alloc: Global,
@@ -82,11 +105,8 @@ pub fn run_rounds<H: Host, S: Sink>(
     requires sink { (S.output sink.old).failures < 2 ^ 64 - 1 }
     ensures supervises { spec.Supervises settings_text.now rounds (S.output sink.old) (S.output sink.new) result }
 {
-    match run_told(host, alloc, settings_text, rounds) {
-        Ok(told) => {
-            let done = Exit::answered(status_after(&told.ended.lines));
-            deliver(sink, told.text.as_bytes(), done)
-        }
-        Err(fault) => Exit::refused(fault),
+    match stock_jobs(alloc) {
+        Ok(jobs) => run_jobs(host, alloc, &jobs, settings_text, rounds, sink),
+        Err(_) => Exit::refused(Fault::Memory),
     }
 }

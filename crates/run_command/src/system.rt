@@ -4,6 +4,7 @@ use crate::host::Host;
 use crate::watching::{attempt_note, end_notes, job_note, worker_note};
 use devices::{DialError, TcpLink};
 use jiff::Timestamp;
+use plan_model::FuncId;
 use pool_settings::Settings;
 use pool_supervisor::{Attempted, EndedWorker, Progress, RunEnd, Watch};
 use std::alloc::{AllocError, Global};
@@ -119,11 +120,9 @@ impl<R: Clock> Watch for System<R> {
 }
 
 impl<R: Clock + Eprint + Alloc<A = Global>> Progress for System<R> {
-    fn began(&self, settings: &Settings) {
+    fn lacks_job(&self, settings: &Settings, function: FuncId) {
         if self.is_watched {
-            if let Ok(Some(line)) = job_note(self.rt.alloc(), settings) {
-                self.write(line.as_str());
-            }
+            self.write_line(job_note(self.rt.alloc(), settings, function));
         }
     }
 

@@ -8,21 +8,15 @@ use pool_supervisor::{Attempt, Attempted, EndCounts, EndedWorker, RunEnd, attemp
 use refusal::Labelled;
 use std::alloc::{AllocError, Global};
 use std::fmt::Write;
-use stock_jobs::is_stock;
 
-/// A line with the functions that no job of the run serves. None if there are none. The only error is out of memory.
-pub fn job_note(alloc: Global, settings: &Settings) -> Result<Option<String>, AllocError> {
-    let mut names = String::new(alloc);
-    for number in 0..settings.functions() {
-        let name = settings.function_name(FuncId::new(number));
-        if !is_stock(name.as_bytes()) {
-            write!(names, " {name}")?;
-        }
-    }
-    if names.is_empty() {
-        return Ok(None);
-    }
-    Ok(Some(format!(in alloc; "remark run has no job for{names}")?))
+/// The line of a function that no job of the run serves. The only error is out of memory.
+pub fn job_note(
+    alloc: Global,
+    settings: &Settings,
+    function: FuncId,
+) -> Result<String, AllocError> {
+    let name = settings.function_name(function);
+    format!(in alloc; "remark run has no job for {name}")
 }
 
 /// The line of an attempt, how many workers are alive, and the function with the longest queue per worker. Without a link the line says why
