@@ -173,7 +173,7 @@ fn make(alloc: Global, settings: &Settings, rounds: u32) -> Result<Made, AllocEr
 }
 
 /// Runs a pool of these settings for so many attempts, with a session for each slot, and then ends all sessions. The watch is told of each
-/// function without a job, of each attempt, of each worker's end, and of what the run came to. What dials is handed back with what the run came to, so that
+/// function without a job, of each attempt, of each worker's end, and of what the run came to. What dials is handed back with that, so that
 /// its calls are known. The only error is that memory or a thread was refused.
 pub fn run_pool<
     L: Source + Sink + Send + Drop,
