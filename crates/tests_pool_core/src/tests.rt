@@ -3,6 +3,7 @@
 //! Where memory is refused a call is made once more, and the readers have to answer as before in between. So
 //! `rt try --test --fail-alloc N` may refuse the Nth request of each test.
 
+mod close_without_memory;
 mod course;
 mod extremes;
 mod history;
