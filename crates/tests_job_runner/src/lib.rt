@@ -1,4 +1,4 @@
-//! Tests of worker sessions, over real sockets and a pool in memory.
+//! What tests of worker sessions use: jobs, and the orders of a port. The tests are in `tests/run_only/tests_job_runner`.
 #![tactic(auto)]
 
 mod jobs;
@@ -6,12 +6,3 @@ mod orders;
 
 pub use jobs::TestJob;
 pub use orders::{Orders, note};
-
-#[cfg(test)]
-mod packets;
-#[cfg(test)]
-mod pool_port;
-#[cfg(test)]
-mod scenario;
-#[cfg(test)]
-mod sockets;
