@@ -13,7 +13,7 @@ import time
 CAN_DO, SUBMIT_JOB, JOB_CREATED, WORK_COMPLETE, WORK_FAIL, SUBMIT_JOB_BG, ERROR, JOB_ASSIGN_UNIQ = 1, 7, 8, 13, 14, 18, 19, 31
 HOST = "127.0.0.1"
 FAILED = None
-JOBS = re.compile(r"jobs completed (\d+) failed (\d+) given back (\d+)")
+JOBS = re.compile(r"jobs completed (\d+) failed (\d+) lost (\d+) given back (\d+)")
 TOTALS = re.compile(r"totals grabbed (\d+) running (\d+) reported (\d+) lost (\d+) rounds (\d+) events (\d+)")
 
 
@@ -189,8 +189,8 @@ class Ended:
         held(self.running == 0, "jobs run at the end")
         held(self.grabbed == self.reported + self.lost, "grabbed is not reported and lost together")
         held(self.rounds == sum(" round " in line for line in self.attempts), "the rounds are not the lines with a round")
-        self.completed, self.failed, self.given_back = map(int, JOBS.fullmatch(last[0]).groups())
-        held(self.reported == self.completed + self.failed, "reported is not completed and failed together")
+        self.completed, self.failed, lost, self.given_back = map(int, JOBS.fullmatch(last[0]).groups())
+        held((self.reported, self.lost) == (self.completed + self.failed, lost), "reported is not completed and failed together")
 
     def account(self, grabbed, lost=0):
         """Holds the totals to what was submitted."""

@@ -10,8 +10,11 @@ const TOO_MANY_FILES: [i32; 2] = [24, 23];
 /// Why a server is not reached.
 #[derive(Clone, Copy, Debug, PartialEq, Eq, Error)]
 pub enum DialError {
+    /// It is named in another form than `host:port`.
+    #[error("the server is not named as host:port")]
+    BadName,
     /// Its name has no address, or cannot be looked up now.
-    #[error("the server's name has no address")]
+    #[error("the server's name was not found")]
     NoAddress,
     /// It refused the connection.
     #[error("the server refused the connection")]
@@ -33,9 +36,11 @@ pub enum DialError {
 impl DialError {
     /// Why a name was not looked up.
     pub fn of_lookup(error: &io::Error) -> DialError {
-        match DialError::of_connect(error) {
-            DialError::Failed | DialError::Refused | DialError::NoAnswer => DialError::NoAddress,
-            lacking => lacking,
+        match error.kind() {
+            ErrorKind::InvalidInput => DialError::BadName,
+            ErrorKind::OutOfMemory => DialError::Memory,
+            _ if lacks_files(error) => DialError::TooManyFiles,
+            _ => DialError::NoAddress,
         }
     }
 

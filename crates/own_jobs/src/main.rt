@@ -37,7 +37,11 @@ fn serve<H: Host>(rt: &HostRuntime, host: &H, jobs: &JobTable, file: &str, round
         return 2;
     };
     let sink = &mut OutputSink::new(io::writer(rt));
-    run_jobs(host, rt.alloc(), jobs, &settings, rounds, sink).status
+    let exit = run_jobs(host, rt.alloc(), jobs, &settings, rounds, sink);
+    if let Some(fault) = &exit.fault {
+        let _ = rt.eprintln(fault);
+    }
+    exit.status
 }
 
 /// Does what the words ask for, with the two jobs by name.

@@ -9,8 +9,8 @@ use std::snapshot::Snapshot;
 use std::sync::Wait;
 use std::thread::Threads;
 
-/// What a run is lent by the machine that it is on: threads, links to a job server, a clock, and somebody who is told of each
-/// attempt when it is made.
+/// What a run is lent by the machine that it is on: threads, links to a job server, a clock, and somebody who is told what
+/// happens.
 pub trait Host: Threads + Wait + Watch + Progress + Sync {
     /// A link to a job server.
     type Link: Source + Sink + Send + Drop;

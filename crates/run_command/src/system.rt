@@ -21,8 +21,9 @@ const WATCH: &str = "POOLMAN_WATCH";
 
 /// The system as the host of a run: its threads, TCP, its monotonic clock, and its standard error.
 ///
-/// If the run is watched, each attempt, each end of a worker, and what the run came to are written to standard error when they are
-/// reported, each line behind the time, as RFC 3339 writes it; else nothing is. A line that cannot be written is left out.
+/// If the run is watched, each function without a job, each attempt, each end of a worker, and what the run came to are written to standard
+/// error when they are reported, each line behind the time, as RFC 3339 writes it; else nothing is. A line whose write fails is left out. A
+/// write waits while nobody reads standard error, and so do the attempts; workers go on.
 #[derive(Drop)]
 pub struct System<R> {
     rt: R,
@@ -32,7 +33,8 @@ pub struct System<R> {
 }
 
 /// All reasons for which a dial fails.
-const REASONS: [DialError; 6] = [
+const REASONS: [DialError; 7] = [
+    DialError::BadName,
     DialError::NoAddress,
     DialError::Refused,
     DialError::NoAnswer,

@@ -85,7 +85,7 @@ const CAUSES: [EndCause; 11] = [
 ];
 
 /// How many workers ended for each cause, if any did.
-fn causes_note(alloc: Global, ends: &EndCounts) -> Result<String, AllocError> {
+pub fn causes_note(alloc: Global, ends: &EndCounts) -> Result<String, AllocError> {
     let mut line = String::from_str(alloc, "ends")?;
     for cause in &CAUSES {
         let count = ends.of(*cause);
@@ -103,9 +103,10 @@ pub fn end_notes(alloc: Global, ended: &RunEnd) -> Result<Vec<String>, AllocErro
     lines.push(causes_note(alloc, &ended.ends)?)?;
     let completed = ended.jobs.completed;
     let failed = ended.jobs.failed;
+    let lost = ended.totals.lost;
     let given_back = ended.jobs.given_back;
     lines.push(format!(in alloc;
-        "jobs completed {completed} failed {failed} given back {given_back}"
+        "jobs completed {completed} failed {failed} lost {lost} given back {given_back}"
     )?)?;
     Ok(lines)
 }
