@@ -10,6 +10,7 @@ use fault_detail::Reader;
 use lent::Lent;
 use program::program;
 use run_command::System;
+use std::fs::{File, OpenOptions};
 use std::process::ExitCode;
 use std::{env, fs, io};
 
@@ -35,7 +36,23 @@ fn is_terminal(name: &str) -> bool {
     name.starts_with("/dev/pts/") || name.starts_with("/dev/tty") || name == "/dev/console"
 }
 
+/// Takes the number of a standard stream that is closed, so that no socket or file gets it and is read or written in its place. What takes
+/// it can be read or written, but not as the stream is, so a use of the stream fails as before.
+fn hold_if_closed(rt: &HostRuntime, stream: &str, options: &OpenOptions) -> Option<File> {
+    match fs::read_link(rt, stream) {
+        Ok(_) => None,
+        Err(_) => options.open(rt, "/dev/null").ok(),
+    }
+}
+
 fn main(rt: HostRuntime) -> ExitCode {
+    let mut for_writing = OpenOptions::new();
+    for_writing.write(true);
+    let mut for_reading = OpenOptions::new();
+    for_reading.read(true);
+    let _input = hold_if_closed(&rt, "/proc/self/fd/0", &for_writing);
+    let _output = hold_if_closed(&rt, "/proc/self/fd/1", &for_reading);
+    let _errors = hold_if_closed(&rt, "/proc/self/fd/2", &for_reading);
     let lent = Lent {
         files: &rt,
         host: &System::new(&rt),
