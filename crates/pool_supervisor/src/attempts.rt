@@ -9,10 +9,11 @@ ghost use Rattle.pool_supervisor.specs.Tries.{Attempts, Dials, Fills, FillsOne, 
 use crate::attempt::Attempt;
 use crate::crew::Crew;
 use crate::dial::Dial;
-use crate::news::{Attempted, Progress, Queue};
+use crate::news::{Attempted, Progress};
 use crate::place::{Place, RunId};
 use crate::planner::Planner;
 use crate::port::Watch;
+use crate::queue::Queue;
 use crate::run::RunEnd;
 use crate::session::{Enrolled, Site};
 use byte_io::{Sink, Source};
@@ -100,14 +101,7 @@ impl<'e, N: RunId, J, C: Watch, R: Wait> Site<'e, N, J, C, R> {
     fn alive(&self) -> u32 {
         let held = self.shared.hold(self.lent.rt);
         held.facts();
-        let pool = held.pool();
-        let mut alive = 0;
-        for number in 0..pool.slots() {
-            if pool.slot(SlotId::new(number)).is_live() {
-                alive += 1;
-            }
-        }
-        alive
+        self.run.alive(&held)
     }
 
     /// Loses each worker whose job is late. It is left out if no time is known.

@@ -6,6 +6,21 @@ use job_runner::EndCause;
 /// How many causes there are for which a session ends.
 const CAUSES: usize = 11;
 
+/// All causes, in the order of their counts.
+const ALL: [EndCause; CAUSES] = [
+    EndCause::Retired,
+    EndCause::Gone,
+    EndCause::BadPacket,
+    EndCause::ServerError,
+    EndCause::ReadFault,
+    EndCause::WriteFault,
+    EndCause::TurnsUsed,
+    EndCause::Memory,
+    EndCause::HistoryFull,
+    EndCause::Closed,
+    EndCause::Stopped,
+];
+
 /// How many sessions ended for each cause.
 #[derive(Clone, Copy, Debug, PartialEq, Eq)]
 pub struct EndCounts {
@@ -42,6 +57,11 @@ impl EndCounts {
     /// How many sessions ended for this cause.
     pub fn of(&self, cause: EndCause) -> u64 {
         self.counts[place_of(cause)]
+    }
+
+    /// Each cause with its count, in the order of the causes' numbers.
+    pub fn each(&self) -> [(EndCause, u64); CAUSES] {
+        ALL.map(|cause| (cause, self.of(cause)))
     }
 
     /// One more session has ended for this cause. A count stays at the greatest number that it can hold.

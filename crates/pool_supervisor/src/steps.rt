@@ -1,5 +1,5 @@
 //! The steps of an attempt, each on what lies under the lock in one hold of it.
-ghost use Rattle.std.specs.Prelude.{◌≡◌, ◌↔◌, ◌<◌, ℕ, not, IsSome, IfSome, IfNone, IfOk, OnErr};
+ghost use Rattle.std.specs.Prelude.{◌≡◌, ◌↔◌, ◌<◌, ℕ, not, count_by, IsSome, IfSome, IfNone, IfOk, OnErr};
 ghost use Rattle.pool_settings.specs.Slots.{slots as slot_count};
 ghost use Rattle.worker_state.specs.Slots.{is_live};
 ghost use Rattle.worker_state.specs.declared.slot.Slot.TheVariants.{Empty};
@@ -43,6 +43,21 @@ impl<'e, N: RunId> RunBoard<'e, N> {
     {
         held.facts();
         !held.pool().slot(slot).is_live()
+    }
+
+    /// How many workers are alive.
+    pub fn alive(&self, held: &Booked<Grabs<N>, Reports<N>>) -> u32
+        ensures { result ≡ count_by is_live held.now.state.slots }
+    {
+        held.facts();
+        let slots = self.settings.slots();
+        let mut alive = 0;
+        for number in 0..slots {
+            if !self.is_empty(held, SlotId::new(number)) {
+                alive += 1;
+            }
+        }
+        alive
     }
 
     /// Loses the worker of the slot if its job is late by this clock. The error says that the slot has none, or that it has no job, or one

@@ -10,8 +10,7 @@ use pool_supervisor::{Attempted, EndedWorker, Progress, RunEnd, Watch};
 use std::alloc::{AllocError, Global};
 use std::net::{Net, TcpStream};
 use std::rt::{Clock, Env};
-use std::sync::Wait;
-use std::sync::atomic::{AtomicU8, Ordering};
+use std::sync::{Mutex, Wait};
 use std::thread::Threads;
 use std::time::Duration;
 use std::{env, thread};
@@ -28,20 +27,9 @@ const WATCH: &str = "POOLMAN_WATCH";
 pub struct System<R> {
     rt: R,
     is_watched: bool,
-    /// Why the last dial failed, by its place among all reasons from 1, and 0 if it did not.
-    unreached: AtomicU8,
+    /// Why the last dial failed, if it did.
+    unreached: Mutex<Option<DialError>>,
 }
-
-/// All reasons for which a dial fails.
-const REASONS: [DialError; 7] = [
-    DialError::BadName,
-    DialError::NoAddress,
-    DialError::Refused,
-    DialError::NoAnswer,
-    DialError::TooManyFiles,
-    DialError::Memory,
-    DialError::Failed,
-];
 
 impl<R: Env + Alloc> System<R> {
     /// The system, whose runs are watched if the variable `POOLMAN_WATCH` is `1`.
@@ -53,23 +41,20 @@ impl<R: Env + Alloc> System<R> {
         System {
             rt,
             is_watched,
-            unreached: AtomicU8::new(0),
+            unreached: Mutex::new(None),
         }
     }
 }
 
-impl<R> System<R> {
+impl<R: Wait> System<R> {
     /// Why the last dial failed, if it did.
     fn last_failure(&self) -> Option<DialError> {
-        let place = self.unreached.load(Ordering::SeqCst).checked_sub(1)?;
-        REASONS.get(place as usize).copied()
+        *self.unreached.lock(&self.rt)
     }
 
-    /// Keeps why a dial failed.
-    fn keep_failure(&self, error: DialError) {
-        let place = REASONS.iter().position(|reason| *reason == error);
-        let number = place.map_or(0, |place| place as u8 + 1);
-        self.unreached.store(number, Ordering::SeqCst);
+    /// Keeps what became of a dial.
+    fn keep(&self, failure: Option<DialError>) {
+        *self.unreached.lock(&self.rt) = failure;
     }
 }
 
@@ -121,7 +106,7 @@ impl<R: Clock> Watch for System<R> {
     }
 }
 
-impl<R: Clock + Eprint + Alloc<A = Global>> Progress for System<R> {
+impl<R: Wait + Clock + Eprint + Alloc<A = Global>> Progress for System<R> {
     fn lacks_job(&self, settings: &Settings, function: FuncId) {
         if self.is_watched {
             self.write_line(job_note(self.rt.alloc(), settings, function));
@@ -154,11 +139,11 @@ impl<R: Threads + Wait + Clock + Eprint + Alloc<A = Global> + Net<Stream = TcpSt
     fn reach(&self, server: &str, lull_ms: u32) -> Option<TcpLink> {
         match TcpLink::dial(&self.rt, server, lull_ms) {
             Ok(link) => {
-                self.unreached.store(0, Ordering::SeqCst);
+                self.keep(None);
                 Some(link)
             }
             Err(error) => {
-                self.keep_failure(error);
+                self.keep(Some(error));
                 None
             }
         }

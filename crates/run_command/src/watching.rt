@@ -69,26 +69,10 @@ fn reason(cause: EndCause) -> &'static str {
     }
 }
 
-/// All causes, in the order of their numbers.
-const CAUSES: [EndCause; 11] = [
-    EndCause::Retired,
-    EndCause::Gone,
-    EndCause::BadPacket,
-    EndCause::ServerError,
-    EndCause::ReadFault,
-    EndCause::WriteFault,
-    EndCause::TurnsUsed,
-    EndCause::Memory,
-    EndCause::HistoryFull,
-    EndCause::Closed,
-    EndCause::Stopped,
-];
-
 /// How many workers ended for each cause, if any did.
 pub fn causes_note(alloc: Global, ends: &EndCounts) -> Result<String, AllocError> {
     let mut line = String::from_str(alloc, "ends")?;
-    for cause in &CAUSES {
-        let count = ends.of(*cause);
+    for (cause, count) in ends.each() {
         if count > 0 {
             let name = cause.label().name();
             write!(line, " {name} {count}")?;
