@@ -7,7 +7,7 @@ use Rattle.std.proofs.lemmas.List.{append-nil, append_assoc}
 use Rattle.gear_packets.specs.Request.{Packet, IsSent}
 use Rattle.gear_packets.specs.Text.{assignments, sent, text_of, is_work, register, registered_by, registered, work_requests, SaysItsPackets}
 use Rattle.job_runner.specs.declared.end.EndCause.TheVariants.{WriteFault}
-use Rattle.job_runner.specs.Told.{replies}
+use Rattle.job_runner.specs.Told.{Telling, replies}
 use Rattle.job_runner.specs.declared.end.EndCause.{EndCause}
 use Rattle.job_runner.specs.declared.end.SessionEnd.{SessionEnd}
 use Rattle.worker_state.specs.declared.cause.Cause.{Cause}
@@ -20,12 +20,16 @@ use Rattle.byte_io.specs.Sides.{and_then}
 use Rattle.job_runner.specs.Loop.{Halts}
 use Rattle.job_runner.specs.Path.{Ended}
 
-ends_lost : (duty : Duty) (bytes : List ℕ) (taken : List AssignedJob) (t : Tally) (b : Ledger) (reason : EndCause) (c : Cause) → Ends duty bytes taken t b reason → Ends duty bytes taken t (after_loss b c) reason
-ends_lost duty bytes taken t b reason c e = record {
+ends_lost : (duty : Duty) (bytes : List ℕ) (told : List Telling) (taken : List AssignedJob) (t : Tally) (b : Ledger) (reason : EndCause) (c : Cause) → Ends duty bytes told taken t b reason → Ends duty bytes told taken t (after_loss b c) reason
+ends_lost duty bytes told taken t b reason c e = record {
   answered = e.answered;
   begun = e.begun;
+  unwritten = e.unwritten;
   later = e.later;
+  told_are = e.told_are;
+  undone = e.undone;
   in_order = e.in_order;
+  booked = e.booked;
   cut = e.cut;
   whole = e.whole;
   proper = e.proper;
@@ -67,17 +71,17 @@ fronts_sent [] qs h = tt
 fronts_sent (p ∷ ps) qs h = (h.0, fronts_sent ps qs h.1)
 
 -- whole packets are read as they were sent
-pub read_again : SaysItsPackets → (duty : Duty) (bytes : List ℕ) (taken : List AssignedJob) (t : Tally) (b : Ledger) (reason : EndCause) (e : Ends duty bytes taken t b reason) → reason ≢ WriteFault → (sent bytes).packets ≡ e.cut.sent
-read_again law duty bytes taken t b reason e other =
+pub read_again : SaysItsPackets → (duty : Duty) (bytes : List ℕ) (told : List Telling) (taken : List AssignedJob) (t : Tally) (b : Ledger) (reason : EndCause) (e : Ends duty bytes told taken t b reason) → reason ≢ WriteFault → (sent bytes).packets ≡ e.cut.sent
+read_again law duty bytes told taken t b reason e other =
     let same : bytes ≡ text_of e.cut.sent = e.cut.bytes_are ∙ ap (λ (x : List ℕ). text_of e.cut.sent ++ x) (e.whole other) ∙ append-nil (text_of e.cut.sent) in
     ap (λ (x : List ℕ). (sent x).packets) same ∙ law e.cut.sent (fronts_sent e.cut.sent e.cut.next e.cut.each_sent)
 
 -- so the work in them is the replies to the first jobs
-pub work_done : SaysItsPackets → (duty : Duty) (bytes : List ℕ) (taken : List AssignedJob) (t : Tally) (b : Ledger) (reason : EndCause) → Ends duty bytes taken t b reason → reason ≢ WriteFault → work_requests bytes ≡ replies duty.told (take t.answered taken)
-work_done law duty bytes taken t b reason e other =
-    let first : take t.answered taken ≡ e.answered =
-    ap (λ (n : ℕ). take n taken) e.chain.answered_is ∙ ap (take (length e.answered)) e.in_order ∙ take-append_seam e.answered (e.begun ++ e.later) in
-    ap (filter is_work) (read_again law duty bytes taken t b reason e other) ∙ e.cut.works ∙ ap (replies duty.told) (sym first)
+pub work_done : SaysItsPackets → (duty : Duty) (bytes : List ℕ) (told : List Telling) (taken : List AssignedJob) (t : Tally) (b : Ledger) (reason : EndCause) → Ends duty bytes told taken t b reason → reason ≢ WriteFault → work_requests bytes ≡ replies (take t.answered told)
+work_done law duty bytes told taken t b reason e other =
+    let first : take t.answered told ≡ e.answered =
+    ap (λ (n : ℕ). take n told) e.chain.answered_is ∙ ap (take (length e.answered)) e.told_are ∙ take-append_seam e.answered (e.begun ++ e.unwritten) in
+    ap (filter is_work) (read_again law duty bytes told taken t b reason e other) ∙ e.cut.works ∙ ap replies (sym first)
 
 take_sent : (k : ℕ) (ps : List Packet) → AllByRecursion IsSent ps → AllByRecursion IsSent (take k ps)
 take_sent zero ps h = tt
@@ -90,8 +94,8 @@ one_within (suc k) names [] few h = few
 one_within (suc k) names (p ∷ ps) few h = one_within k (register names p) ps h.0 h.2
 
 -- after each whole packet at most one function is registered
-pub one_registered : SaysItsPackets → (duty : Duty) (bytes : List ℕ) (taken : List AssignedJob) (t : Tally) (b : Ledger) (reason : EndCause) (e : Ends duty bytes taken t b reason) (k : ℕ) → length (registered (text_of (take k (e.cut.sent ++ e.cut.next)))) ≤ 1
-one_registered law duty bytes taken t b reason e k =
+pub one_registered : SaysItsPackets → (duty : Duty) (bytes : List ℕ) (told : List Telling) (taken : List AssignedJob) (t : Tally) (b : Ledger) (reason : EndCause) (e : Ends duty bytes told taken t b reason) (k : ℕ) → length (registered (text_of (take k (e.cut.sent ++ e.cut.next)))) ≤ 1
+one_registered law duty bytes told taken t b reason e k =
     let ps = e.cut.sent ++ e.cut.next in
     subst (λ (x : List Packet). length (registered_by [] x) ≤ 1) (sym (law (take k ps) (take_sent k ps e.cut.each_sent))) (one_within k [] ps (omega arith) e.cut.one)
 
@@ -100,29 +104,31 @@ one_asked names [] after p h asked = h.1 asked
 one_asked names (q ∷ before) after p h asked = one_asked (register names q) before after p h.2 asked
 
 -- and exactly one where the packet asks for it
-pub one_where_asked : SaysItsPackets → (duty : Duty) (bytes : List ℕ) (taken : List AssignedJob) (t : Tally) (b : Ledger) (reason : EndCause) (e : Ends duty bytes taken t b reason) (before after : List Packet) (p : Packet) → e.cut.sent ++ e.cut.next ≡ before ++ p ∷ after
+pub one_where_asked : SaysItsPackets → (duty : Duty) (bytes : List ℕ) (told : List Telling) (taken : List AssignedJob) (t : Tally) (b : Ledger) (reason : EndCause) (e : Ends duty bytes told taken t b reason) (before after : List Packet) (p : Packet) → e.cut.sent ++ e.cut.next ≡ before ++ p ∷ after
     → asks p ≡ true → length (registered (text_of (before ++ p ∷ []))) ≡ 1
-one_where_asked law duty bytes taken t b reason e before after p same asked =
+one_where_asked law duty bytes told taken t b reason e before after p same asked =
     let front = before ++ p ∷ [] in
     let split : before ++ p ∷ after ≡ front ++ after = sym (append_assoc before (p ∷ []) after) in
     let each = fronts_sent front after (subst (AllByRecursion IsSent) (same ∙ split) e.cut.each_sent) in
     subst (λ (x : List Packet). length (registered_by [] x) ≡ 1) (sym (law front each)) (one_asked [] before after p (subst (OneAtATime []) same e.cut.one) asked)
 
 -- what a session promises, as one fact over what was written
-abbrev pub Promised : Duty → List ℕ → Option (List ℕ) → Link → Link → Ledger → SessionEnd → Type 0
-Promised duty read before old new book e = (bytes : List ℕ) × (new.output.got ≡ and_then before bytes) × Served (session_of duty before read) bytes old new book e
+abbrev pub Promised : Duty → (EndCause → List Telling → Type 0) → List ℕ → Option (List ℕ) → Link → Link → Ledger → SessionEnd → Type 0
+Promised duty End read before old new book e = (bytes : List ℕ) × (told : List Telling) × (new.output.got ≡ and_then before bytes) × End e.cause told × Served (session_of duty before read) told bytes old new book e
 
 -- with no loss
-pub promised_kept : SaysItsPackets → (duty : Duty) (read : List ℕ) (before : Option (List ℕ)) (old new : Link) (b : Ledger) (e : SessionEnd) → Halts (session_of duty before read) new.output.got (tally_of e) b e.cause × Reason (session_of duty before read) old new (tally_of e) b e.cause → b.losses ≡ 0 → loss_of e.cause ≡ None → Promised duty read before old new b e
-promised_kept law duty read before old new b e ran none is = (
+pub promised_kept : SaysItsPackets → (duty : Duty) (End : EndCause → List Telling → Type 0) (read : List ℕ) (before : Option (List ℕ)) (old new : Link) (b : Ledger) (e : SessionEnd) → Halts (session_of duty before read) End new.output.got (tally_of e) b e.cause × Reason (session_of duty before read) old new (tally_of e) b e.cause → b.losses ≡ 0 → loss_of e.cause ≡ None → Promised duty End read before old new b e
+promised_kept law duty End read before old new b e ran none is = (
   ran.0.bytes,
+  ran.0.told,
   ran.0.at,
+  ran.0.ran,
   record {
     ends = ran.0.ends;
-    whole = read_again law duty ran.0.bytes (assignments read) (tally_of e) b e.cause ran.0.ends;
-    work = work_done law duty ran.0.bytes (assignments read) (tally_of e) b e.cause ran.0.ends;
-    registers = one_registered law duty ran.0.bytes (assignments read) (tally_of e) b e.cause ran.0.ends;
-    asking = one_where_asked law duty ran.0.bytes (assignments read) (tally_of e) b e.cause ran.0.ends;
+    whole = read_again law duty ran.0.bytes ran.0.told (assignments read) (tally_of e) b e.cause ran.0.ends;
+    work = work_done law duty ran.0.bytes ran.0.told (assignments read) (tally_of e) b e.cause ran.0.ends;
+    registers = one_registered law duty ran.0.bytes ran.0.told (assignments read) (tally_of e) b e.cause ran.0.ends;
+    asking = one_where_asked law duty ran.0.bytes ran.0.told (assignments read) (tally_of e) b e.cause ran.0.ends;
     path = ran.0.ended;
     reason = ran.1;
     lost = subst (λ (o : Option Cause). Lost o b) (sym is) none;
@@ -130,16 +136,18 @@ promised_kept law duty read before old new b e ran none is = (
 )
 
 -- with one
-pub promised_lost : SaysItsPackets → (duty : Duty) (read : List ℕ) (before : Option (List ℕ)) (old new : Link) (b after : Ledger) (e : SessionEnd) (c : Cause) → Halts (session_of duty before read) new.output.got (tally_of e) b e.cause × Reason (session_of duty before read) old new (tally_of e) b e.cause → b.losses ≡ 0 → loss_of e.cause ≡ Some c → after ≡ after_loss b c → Promised duty read before old new after e
-promised_lost law duty read before old new b after e c ran none is same = subst (λ (x : Ledger). Promised duty read before old new x e) (sym same) (
+pub promised_lost : SaysItsPackets → (duty : Duty) (End : EndCause → List Telling → Type 0) (read : List ℕ) (before : Option (List ℕ)) (old new : Link) (b after : Ledger) (e : SessionEnd) (c : Cause) → Halts (session_of duty before read) End new.output.got (tally_of e) b e.cause × Reason (session_of duty before read) old new (tally_of e) b e.cause → b.losses ≡ 0 → loss_of e.cause ≡ Some c → after ≡ after_loss b c → Promised duty End read before old new after e
+promised_lost law duty End read before old new b after e c ran none is same = subst (λ (x : Ledger). Promised duty End read before old new x e) (sym same) (
   ran.0.bytes,
+  ran.0.told,
   ran.0.at,
+  ran.0.ran,
   record {
-    ends = ends_lost duty ran.0.bytes (assignments read) (tally_of e) b e.cause c ran.0.ends;
-    whole = read_again law duty ran.0.bytes (assignments read) (tally_of e) (after_loss b c) e.cause (ends_lost duty ran.0.bytes (assignments read) (tally_of e) b e.cause c ran.0.ends);
-    work = work_done law duty ran.0.bytes (assignments read) (tally_of e) b e.cause ran.0.ends;
-    registers = one_registered law duty ran.0.bytes (assignments read) (tally_of e) (after_loss b c) e.cause (ends_lost duty ran.0.bytes (assignments read) (tally_of e) b e.cause c ran.0.ends);
-    asking = one_where_asked law duty ran.0.bytes (assignments read) (tally_of e) (after_loss b c) e.cause (ends_lost duty ran.0.bytes (assignments read) (tally_of e) b e.cause c ran.0.ends);
+    ends = ends_lost duty ran.0.bytes ran.0.told (assignments read) (tally_of e) b e.cause c ran.0.ends;
+    whole = read_again law duty ran.0.bytes ran.0.told (assignments read) (tally_of e) (after_loss b c) e.cause (ends_lost duty ran.0.bytes ran.0.told (assignments read) (tally_of e) b e.cause c ran.0.ends);
+    work = work_done law duty ran.0.bytes ran.0.told (assignments read) (tally_of e) b e.cause ran.0.ends;
+    registers = one_registered law duty ran.0.bytes ran.0.told (assignments read) (tally_of e) (after_loss b c) e.cause (ends_lost duty ran.0.bytes ran.0.told (assignments read) (tally_of e) b e.cause c ran.0.ends);
+    asking = one_where_asked law duty ran.0.bytes ran.0.told (assignments read) (tally_of e) (after_loss b c) e.cause (ends_lost duty ran.0.bytes ran.0.told (assignments read) (tally_of e) b e.cause c ran.0.ends);
     path = path_lost (session_of duty before read) new.output.got b e.cause c ran.0.ended;
     reason = ran.1;
     lost = subst (λ (o : Option Cause). Lost o (after_loss b c)) (sym is) (ap (λ (n : ℕ). n + 1) none, refl);

@@ -19,3 +19,4 @@ gone_label cause.Memory kept other = absurd cc
 gone_label cause.HistoryFull kept other = absurd cc
 gone_label cause.Closed kept other = absurd cc
 gone_label cause.Stopped kept other = absurd cc
+gone_label cause.Unserved kept other = absurd cc

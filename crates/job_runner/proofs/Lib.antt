@@ -10,6 +10,7 @@ pub mod Reasons
 pub mod Asking
 pub mod Paths
 pub mod Turning
+pub mod Telling
 pub mod Ending
 pub mod Replies
 pub mod Changes

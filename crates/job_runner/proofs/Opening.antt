@@ -9,7 +9,7 @@ use Rattle.job_runner.specs.declared.end.EndCause.TheVariants as cause
 use Rattle.job_runner.specs.declared.end.EndCause.TheVariants.{WriteFault, Memory}
 use Rattle.job_runner.specs.declared.order.Phase.TheVariants.{Waiting, Asleep}
 use Rattle.job_runner.specs.declared.answering.Tally.{Tally}
-use Rattle.job_runner.specs.Told.{Told}
+use Rattle.job_runner.specs.Told.{Telling, jobs_of}
 use Rattle.job_runner.specs.Book.{Ledger, no_calls}
 use Rattle.job_runner.specs.Course.{Duty, Even, Ends, Sends, known, IsServing}
 use Rattle.job_runner.specs.Run.{AreAnswered}
@@ -22,8 +22,8 @@ use Rattle.job_runner.proofs.Orders.{even_chain, sent_whole, sent_part}
 
 -- ---- one packet
 
-pub sleep_leads : (told : List ℕ → List ℕ → Option Told) (names : List (List ℕ)) → length names ≡ 1 → Leads told names (pre_sleep ∷ []) names []
-sleep_leads told names h = record { registered_is = refl; one = (omega (arith, h), λ asked. h, tt); works = refl; few = omega (arith, h) }
+pub sleep_leads : (names : List (List ℕ)) → length names ≡ 1 → Leads names (pre_sleep ∷ []) names []
+sleep_leads names h = record { registered_is = refl; one = (omega (arith, h), λ asked. h, tt); works = refl; few = omega (arith, h) }
 
 -- a session that waits has one function
 pub waits_known : (functions : List (List ℕ)) (registered : Option ℕ) → IsServing (length functions) Waiting registered → length (known functions registered) ≡ 1
@@ -40,21 +40,21 @@ still_serves count None h = absurd h
 still_serves count (Some f) h = h
 
 -- PRE_SLEEP was sent
-pub slept : (duty : Duty) (before : Option (List ℕ)) (bytes : List ℕ) (old new : Option (List ℕ)) (done : List AssignedJob) (registered : Option ℕ) (t : Tally) (b : Ledger) → Sends old new (pre_sleep ∷ []) (Ok tt) → old ≡ and_then before bytes
+pub slept : (duty : Duty) (before : Option (List ℕ)) (bytes : List ℕ) (old new : Option (List ℕ)) (done : List Telling) (registered : Option ℕ) (t : Tally) (b : Ledger) → Sends old new (pre_sleep ∷ []) (Ok tt) → old ≡ and_then before bytes
     → AreAnswered duty bytes done (record { registered = registered; phase = Waiting; tally = t }) b
-    → (more : List ℕ) × (new ≡ and_then before more) × AreAnswered duty more done (record { registered = registered; phase = Asleep; tally = t }) b
+    → (more : List ℕ) × (new ≡ and_then before more) × (AreAnswered duty more done (record { registered = registered; phase = Asleep; tally = t }) b × (jobs_of done ≡ jobs_of done))
 slept duty before bytes old new done registered t b sends at holds =
     let names = known duty.functions registered in
-    let s = sent_whole duty before bytes old new names names (pre_sleep ∷ []) done sends at holds.wrote (sleep_leads duty.told names (waits_known duty.functions registered holds.serving)) in
-    (s.0, s.1, record { wrote = s.2; even = holds.even; serving = still_serves (length duty.functions) registered holds.serving })
+    let s = sent_whole duty before bytes old new names names (pre_sleep ∷ []) done sends at holds.wrote (sleep_leads names (waits_known duty.functions registered holds.serving)) in
+    (s.0, s.1, (record { wrote = s.2; even = holds.even; serving = still_serves (length duty.functions) registered holds.serving }, refl))
 
 -- or it was not
-pub not_slept : (duty : Duty) (before : Option (List ℕ)) (bytes : List ℕ) (old new : Option (List ℕ)) (done : List AssignedJob) (registered : Option ℕ) (t : Tally) (b : Ledger) (e : EndCause) → Sends old new (pre_sleep ∷ []) (Err e) → old ≡ and_then before bytes
+pub not_slept : (duty : Duty) (before : Option (List ℕ)) (bytes : List ℕ) (old new : Option (List ℕ)) (done : List Telling) (registered : Option ℕ) (t : Tally) (b : Ledger) (e : EndCause) → Sends old new (pre_sleep ∷ []) (Err e) → old ≡ and_then before bytes
     → AreAnswered duty bytes done (record { registered = registered; phase = Waiting; tally = t }) b
-    → Left duty before new done t b e
+    → Left duty before new done (jobs_of done) t b e
 not_slept duty before bytes old new done registered t b e sends at holds =
     let names = known duty.functions registered in
-    sent_part duty before bytes old new names names (pre_sleep ∷ []) done t b e sends at holds.wrote (sleep_leads duty.told names (waits_known duty.functions registered holds.serving)) holds.even
+    sent_part duty before bytes old new names names (pre_sleep ∷ []) done t b e sends at holds.wrote (sleep_leads names (waits_known duty.functions registered holds.serving)) holds.even
 
 pub send_fault : (old new : Option (List ℕ)) (ps : List Packet) (e : EndCause) → Sends old new ps (Err e) → IsSendFault e
 send_fault old new ps WriteFault h = tt
@@ -68,6 +68,7 @@ send_fault old new ps cause.TurnsUsed h = absurd h
 send_fault old new ps cause.HistoryFull h = absurd h
 send_fault old new ps cause.Closed h = absurd h
 send_fault old new ps cause.Stopped h = absurd h
+send_fault old new ps cause.Unserved h = absurd h
 
 -- ---- the introduction
 
@@ -97,7 +98,7 @@ introduced duty old new b sends fresh =
     )
 
 -- or it was not
-pub not_introduced : (duty : Duty) (old new : Option (List ℕ)) (b : Ledger) (e : EndCause) → Sends old new (set_client_id duty.worker ∷ []) (Err e) → b ≡ no_calls → (more : List ℕ) × (new ≡ and_then old more) × Ends duty more [] first_state.tally b e
+pub not_introduced : (duty : Duty) (old new : Option (List ℕ)) (b : Ledger) (e : EndCause) → Sends old new (set_client_id duty.worker ∷ []) (Err e) → b ≡ no_calls → (more : List ℕ) × (new ≡ and_then old more) × Ends duty more [] [] first_state.tally b e
 not_introduced duty old new b WriteFault sends fresh =
     let p = set_client_id duty.worker in
     let text = text_of (p ∷ []) in
@@ -107,8 +108,12 @@ not_introduced duty old new b WriteFault sends fresh =
       record {
         answered = [];
         begun = [];
+        unwritten = [];
         later = [];
+        told_are = refl;
+        undone = λ e. refl;
         in_order = refl;
+        booked = omega arith;
         cut = record {
           sent = [];
           next = p ∷ [];
@@ -134,8 +139,12 @@ not_introduced duty old new b Memory sends fresh = (
   record {
     answered = [];
     begun = [];
+    unwritten = [];
     later = [];
+    told_are = refl;
+    undone = λ e. refl;
     in_order = refl;
+    booked = omega arith;
     cut = record {
       sent = [];
       next = [];
@@ -164,3 +173,4 @@ not_introduced duty old new b cause.TurnsUsed sends fresh = absurd sends
 not_introduced duty old new b cause.HistoryFull sends fresh = absurd sends
 not_introduced duty old new b cause.Closed sends fresh = absurd sends
 not_introduced duty old new b cause.Stopped sends fresh = absurd sends
+not_introduced duty old new b cause.Unserved sends fresh = absurd sends

@@ -14,7 +14,7 @@ use Rattle.job_runner.specs.declared.end.EndCause.TheVariants as cause
 use Rattle.job_runner.specs.declared.end.EndCause.TheVariants.{WriteFault, Memory}
 use Rattle.worker_state.specs.OrderParts.{OrderParts}
 use Rattle.job_runner.specs.declared.answering.Tally.{Tally}
-use Rattle.job_runner.specs.Told.{Told}
+use Rattle.job_runner.specs.Told.{Telling, jobs_of}
 use Rattle.job_runner.specs.Book.{Ledger, after_order}
 use Rattle.byte_io.specs.Sides.{and_then}
 use Rattle.job_runner.specs.Course.{Duty, OneAtATime, Wrote, Even, Chain, Ends, Sends, obeying, name_of, known, IsServing}
@@ -72,8 +72,8 @@ few_named : (o : Option (List ℕ)) → length (option_to_list o) ≤ 1
 few_named None = omega arith
 few_named (Some name) = omega arith
 
-pub order_leads : (told : List ℕ → List ℕ → Option Told) (from to : Option (List ℕ)) → Leads told (option_to_list from) (obeying from to) (option_to_list to) []
-order_leads told from to =
+pub order_leads : (from to : Option (List ℕ)) → Leads (option_to_list from) (obeying from to) (option_to_list to) []
+order_leads from to =
     let keeps = obeying_keeps from to in
     record { registered_is = keeps.registered_is; one = keeps.one; works = keeps.works; few = few_named to }
 
@@ -92,30 +92,35 @@ even_chain t b n even = record {
 }
 
 -- an end at rest
-pub ends_at_rest : (duty : Duty) (bytes : List ℕ) (registered : List (List ℕ)) (done : List AssignedJob) (t : Tally) (b : Ledger) (cause : EndCause) → Wrote duty bytes registered done → Even t b (length done) → cause ≢ WriteFault → Ends duty bytes done t b cause
-ends_at_rest duty bytes registered done t b cause w even no-fault = ends_whole duty bytes registered done [] done t b cause w (sym (append-nil done)) (even_chain t b (length done) even) no-fault
+pub ends_at_rest : (duty : Duty) (bytes : List ℕ) (registered : List (List ℕ)) (done : List Telling) (t : Tally) (b : Ledger) (cause : EndCause) → Wrote duty bytes registered done → Even t b (length done) → cause ≢ WriteFault → Ends duty bytes done (jobs_of done) t b cause
+ends_at_rest duty bytes registered done t b cause w even no-fault =
+    let all : done ++ [] ≡ done = append-nil done in
+    subst (λ (x : List Telling). Ends duty bytes x (jobs_of done) t b cause) all
+    (ends_whole duty bytes registered done [] [] (jobs_of done) t b cause w (λ e. refl) (ap jobs_of (sym all) ∙ sym (append-nil (jobs_of (done ++ [])))) (subst (λ (x : List Telling). length x ≤ t.grabbed) (sym all) (omega (arith, even.grabbed))) (even_chain t b (length done) even) no-fault)
 
 -- ---- packets that were sent
 
 -- whole
-pub sent_whole : (duty : Duty) (before : Option (List ℕ)) (bytes : List ℕ) (old new : Option (List ℕ)) (from to : List (List ℕ)) (packets : List Packet) (done : List AssignedJob) → Sends old new packets (Ok tt) → old ≡ and_then before bytes
-    → Wrote duty bytes from done → Leads duty.told from packets to [] → (more : List ℕ) × (new ≡ and_then before more) × Wrote duty more to done
+pub sent_whole : (duty : Duty) (before : Option (List ℕ)) (bytes : List ℕ) (old new : Option (List ℕ)) (from to : List (List ℕ)) (packets : List Packet) (done : List Telling) → Sends old new packets (Ok tt) → old ≡ and_then before bytes
+    → Wrote duty bytes from done → Leads from packets to [] → (more : List ℕ) × (new ≡ and_then before more) × Wrote duty more to done
 sent_whole duty before bytes old new from to packets done sends at w leads =
     let more = bytes ++ text_of packets in (
       more,
       goes_behind before bytes (text_of packets) old new at sends.0,
-      subst (λ (d : List AssignedJob). Wrote duty more to d) (append-nil done) (wrote_on duty bytes from to packets done [] w sends.1 leads),
+      subst (λ (d : List Telling). Wrote duty more to d) (append-nil done) (wrote_on duty bytes from to packets done [] w sends.1 leads),
     )
 
 -- or not: the session ends
-pub sent_part : (duty : Duty) (before : Option (List ℕ)) (bytes : List ℕ) (old new : Option (List ℕ)) (from to : List (List ℕ)) (packets : List Packet) (done : List AssignedJob) (t : Tally) (b : Ledger) (e : EndCause) → Sends old new packets (Err e) → old ≡ and_then before bytes
-    → Wrote duty bytes from done → Leads duty.told from packets to [] → Even t b (length done) → Left duty before new done t b e
+pub sent_part : (duty : Duty) (before : Option (List ℕ)) (bytes : List ℕ) (old new : Option (List ℕ)) (from to : List (List ℕ)) (packets : List Packet) (done : List Telling) (t : Tally) (b : Ledger) (e : EndCause) → Sends old new packets (Err e) → old ≡ and_then before bytes
+    → Wrote duty bytes from done → Leads from packets to [] → Even t b (length done) → Left duty before new done (jobs_of done) t b e
 sent_part duty before bytes old new from to packets done t b WriteFault sends at w leads even =
-    let part = take sends.0 (text_of packets) in (
+    let part = take sends.0 (text_of packets) in
+    let all : done ++ [] ≡ done = append-nil done in (
       bytes ++ part,
       goes_behind before bytes part old new at sends.2,
-      cut_on duty bytes from to packets done [] done part (drop sends.0 (text_of packets)) t b w sends.3 leads (sym (take-append-drop sends.0 (text_of packets))) (left_over sends.0 (text_of packets) sends.1)
-          (sym (append-nil done)) (even_chain t b (length done) even),
+      subst (λ (x : List Telling). Ends duty (bytes ++ part) x (jobs_of done) t b WriteFault) all
+          (cut_on duty bytes from to packets done [] (jobs_of done) part (drop sends.0 (text_of packets)) t b w sends.3 leads (sym (take-append-drop sends.0 (text_of packets))) (left_over sends.0 (text_of packets) sends.1)
+          (ap jobs_of (sym all)) (subst (λ (x : List Telling). length x ≤ t.grabbed) (sym all) (omega (arith, even.grabbed))) (even_chain t b (length done) even)),
     )
 sent_part duty before bytes old new from to packets done t b Memory sends at w leads even = (bytes, sends ∙ at, ends_at_rest duty bytes from done t b Memory w even (λ e. cc))
 sent_part duty before bytes old new from to packets done t b cause.Retired sends at w leads even = absurd sends
@@ -127,3 +132,4 @@ sent_part duty before bytes old new from to packets done t b cause.TurnsUsed sen
 sent_part duty before bytes old new from to packets done t b cause.HistoryFull sends at w leads even = absurd sends
 sent_part duty before bytes old new from to packets done t b cause.Closed sends at w leads even = absurd sends
 sent_part duty before bytes old new from to packets done t b cause.Stopped sends at w leads even = absurd sends
+sent_part duty before bytes old new from to packets done t b cause.Unserved sends at w leads even = absurd sends

@@ -6,9 +6,9 @@ use Rattle.gear_packets.specs.Request.{Packet, can_do, cant_do, pre_sleep, grab_
 use Rattle.gear_packets.specs.Response.{AssignedJob}
 use Rattle.gear_packets.specs.Text.{text_of, is_work, register, registered_by}
 use Rattle.job_runner.specs.declared.end.EndCause.{EndCause}
-use Rattle.job_runner.specs.declared.end.EndCause.TheVariants.{WriteFault}
+use Rattle.job_runner.specs.declared.end.EndCause.TheVariants.{WriteFault, Unserved}
 use Rattle.job_runner.specs.declared.answering.Tally.{Tally}
-use Rattle.job_runner.specs.Told.{Told, Remark, piece, warning, progress, Finish, complete, fail, remark_packet, finish_packet, told_packets, can_send, answer_to, reply, replies}
+use Rattle.job_runner.specs.Told.{Told, Remark, piece, warning, progress, Finish, complete, fail, remark_packet, finish_packet, told_packets, can_send, answer_to, Telling, jobs_of, reply, replies}
 use Rattle.job_runner.specs.Book.{Ledger}
 use Rattle.job_runner.specs.Course.{Duty, asks, OneAtATime, Introduces, MayIntroduce, Wrote, Chain, Ends}
 
@@ -42,9 +42,9 @@ pub introduces_append : (worker : List ℕ) (ps qs : List Packet) → Introduces
 introduces_append worker [] qs h = absurd h
 introduces_append worker (p ∷ ps) qs h = h
 
-replies_append : (told : List ℕ → List ℕ → Option Told) (xs bs : List AssignedJob) → replies told (xs ++ bs) ≡ replies told xs ++ replies told bs
-replies_append told [] bs = refl
-replies_append told (a ∷ xs) bs = ap (λ (t : List Packet). reply told a ++ t) (replies_append told xs bs) ∙ sym (append_assoc (reply told a) (replies told xs) (replies told bs))
+replies_append : (xs bs : List Telling) → replies (xs ++ bs) ≡ replies xs ++ replies bs
+replies_append [] bs = refl
+replies_append (a ∷ xs) bs = ap (λ (t : List Packet). reply a ++ t) (replies_append xs bs) ∙ sym (append_assoc (reply a) (replies xs) (replies bs))
 
 -- ---- packets that answer
 
@@ -117,10 +117,10 @@ answer_work handle (Some told) =
 -- ---- packets that lead on
 
 -- Packets lead from some registered functions to others, with one function at a time, and answer these assignments_in.
-pub record Leads (told : List ℕ → List ℕ → Option Told) (from : List (List ℕ)) (packets : List Packet) (to : List (List ℕ)) (answered : List AssignedJob) : Type 0 where
+pub record Leads (from : List (List ℕ)) (packets : List Packet) (to : List (List ℕ)) (answered : List Telling) : Type 0 where
   pub registered_is : registered_by from packets ≡ to
   pub one : OneAtATime from packets
-  pub works : filter is_work packets ≡ replies told answered
+  pub works : filter is_work packets ≡ replies answered
   pub few : length to ≤ 1
 
 pub may_introduce : (worker : List ℕ) (ps : List Packet) → Introduces worker ps → MayIntroduce worker ps
@@ -128,29 +128,33 @@ may_introduce worker [] h = tt
 may_introduce worker (p ∷ ps) h = h
 
 -- what was written goes on by packets that lead on
-pub wrote_on : (duty : Duty) (bytes : List ℕ) (from to : List (List ℕ)) (packets : List Packet) (done more : List AssignedJob) → Wrote duty bytes from done → AllByRecursion IsSent packets → Leads duty.told from packets to more
+pub wrote_on : (duty : Duty) (bytes : List ℕ) (from to : List (List ℕ)) (packets : List Packet) (done more : List Telling) → Wrote duty bytes from done → AllByRecursion IsSent packets → Leads from packets to more
     → Wrote duty (bytes ++ text_of packets) to (done ++ more)
 wrote_on duty bytes from to packets done more w each l = record {
   sent = w.sent ++ packets;
   bytes_are = ap (λ (t : List ℕ). t ++ text_of packets) w.bytes_are ∙ sym (text_append w.sent packets);
   each_sent = all_append IsSent w.sent packets w.each_sent each;
   introduces = introduces_append duty.worker w.sent packets w.introduces;
-  works = works_append w.sent packets ∙ ap (λ (x : List Packet). x ++ filter is_work packets) w.works ∙ ap (λ (x : List Packet). replies duty.told done ++ x) l.works ∙ sym (replies_append duty.told done more);
+  works = works_append w.sent packets ∙ ap (λ (x : List Packet). x ++ filter is_work packets) w.works ∙ ap (λ (x : List Packet). replies done ++ x) l.works ∙ sym (replies_append done more);
   one = one_append [] w.sent packets w.one (subst (λ (names : List (List ℕ)). OneAtATime names packets) (sym w.registered_is) l.one);
   registered_is = registered_append [] w.sent packets ∙ ap (λ (names : List (List ℕ)). registered_by names packets) w.registered_is ∙ l.registered_is;
   few = l.few;
 }
 
 -- or is cut within them
-pub cut_on : (duty : Duty) (bytes : List ℕ) (from to : List (List ℕ)) (packets : List Packet) (done more taken : List AssignedJob) (part lost : List ℕ) (tally : Tally) (book : Ledger) → Wrote duty bytes from done → AllByRecursion IsSent packets → Leads duty.told from packets to more
-    → text_of packets ≡ part ++ lost → 0 < length lost → taken ≡ done ++ (more ++ []) → Chain tally book (length done) (length more) → Ends duty (bytes ++ part) taken tally book WriteFault
-cut_on duty bytes from to packets done more taken part lost tally book w each l text proper order chain =
+pub cut_on : (duty : Duty) (bytes : List ℕ) (from to : List (List ℕ)) (packets : List Packet) (done more : List Telling) (taken : List AssignedJob) (part lost : List ℕ) (tally : Tally) (book : Ledger) → Wrote duty bytes from done → AllByRecursion IsSent packets → Leads from packets to more
+    → text_of packets ≡ part ++ lost → 0 < length lost → taken ≡ jobs_of (done ++ more) → length (done ++ more) ≤ tally.grabbed → Chain tally book (length done) (length more) → Ends duty (bytes ++ part) (done ++ more) taken tally book WriteFault
+cut_on duty bytes from to packets done more taken part lost tally book w each l text proper order booked chain =
     let starts = introduces_append duty.worker w.sent packets w.introduces in
     record {
       answered = done;
       begun = more;
+      unwritten = [];
       later = [];
-      in_order = order;
+      told_are = ap (λ (x : List Telling). done ++ x) (sym (append-nil more));
+      undone = λ e. absurd cc;
+      in_order = order ∙ sym (append-nil (jobs_of (done ++ more)));
+      booked = booked;
       cut = record {
         sent = w.sent;
         next = packets;
@@ -170,15 +174,19 @@ cut_on duty bytes from to packets done more taken part lost tally book w each l 
       chain = chain;
     }
 
--- a session that ends with whole packets
-pub ends_whole : (duty : Duty) (bytes : List ℕ) (registered : List (List ℕ)) (done later taken : List AssignedJob) (tally : Tally) (book : Ledger) (cause : EndCause) → Wrote duty bytes registered done → taken ≡ done ++ later → Chain tally book (length done) 0 → cause ≢ WriteFault → Ends duty bytes taken tally book cause
-ends_whole duty bytes registered done later taken tally book cause w order chain no-fault =
+-- a session that ends with whole packets, and with nothing of what jobs told since
+pub ends_whole : (duty : Duty) (bytes : List ℕ) (registered : List (List ℕ)) (done since : List Telling) (later taken : List AssignedJob) (tally : Tally) (book : Ledger) (cause : EndCause) → Wrote duty bytes registered done → (cause ≡ Unserved → since ≡ []) → taken ≡ jobs_of (done ++ since) ++ later → length (done ++ since) ≤ tally.grabbed → Chain tally book (length done) 0 → cause ≢ WriteFault → Ends duty bytes (done ++ since) taken tally book cause
+ends_whole duty bytes registered done since later taken tally book cause w none order booked chain no-fault =
     let starts : Introduces duty.worker (w.sent ++ []) = introduces_append duty.worker w.sent [] w.introduces in
     record {
       answered = done;
       begun = [];
+      unwritten = since;
       later = later;
+      told_are = refl;
+      undone = none;
       in_order = order;
+      booked = booked;
       cut = record {
         sent = w.sent;
         next = [];
@@ -199,10 +207,10 @@ ends_whole duty bytes registered done later taken tally book cause w order chain
     }
 
 -- an answer leads on
-pub reply_leads : (told : List ℕ → List ℕ → Option Told) (registered : List (List ℕ)) (a : AssignedJob) → length registered ≤ 1 → Leads told registered (reply told a) registered (a ∷ [])
-reply_leads told registered a few =
-    let answer = reply told a in
-    let work = answer_work a.handle (told a.function a.payload) in
+pub reply_leads : (registered : List (List ℕ)) (t : Telling) → length registered ≤ 1 → Leads registered (reply t) registered (t ∷ [])
+reply_leads registered t few =
+    let answer = reply t in
+    let work = answer_work t.job.handle t.told in
     record {
       registered_is = work_registered registered answer work;
       one = work_one registered answer few work;
@@ -210,20 +218,16 @@ reply_leads told registered a few =
       few = few;
     }
 
-pub wrote_answer : (duty : Duty) (bytes : List ℕ) (registered : List (List ℕ)) (done : List AssignedJob) (a : AssignedJob) → Wrote duty bytes registered done → AllByRecursion IsSent (reply duty.told a)
-    → Wrote duty (bytes ++ text_of (reply duty.told a)) registered (done ++ a ∷ [])
-wrote_answer duty bytes registered done a w each = wrote_on duty bytes registered registered (reply duty.told a) done (a ∷ []) w each (reply_leads duty.told registered a w.few)
+pub wrote_answer : (duty : Duty) (bytes : List ℕ) (registered : List (List ℕ)) (done : List Telling) (t : Telling) → Wrote duty bytes registered done → AllByRecursion IsSent (reply t)
+    → Wrote duty (bytes ++ text_of (reply t)) registered (done ++ t ∷ [])
+wrote_answer duty bytes registered done t w each = wrote_on duty bytes registered registered (reply t) done (t ∷ []) w each (reply_leads registered t w.few)
 
 -- a session that ends within an answer
-pub ends_cut : (duty : Duty) (bytes : List ℕ) (registered : List (List ℕ)) (done : List AssignedJob) (a : AssignedJob) (part lost : List ℕ) (tally : Tally) (book : Ledger) → Wrote duty bytes registered done → AllByRecursion IsSent (reply duty.told a)
-    → text_of (reply duty.told a) ≡ part ++ lost → 0 < length lost → Chain tally book (length done) 1 → Ends duty (bytes ++ part) (done ++ a ∷ []) tally book WriteFault
-ends_cut duty bytes registered done a part lost tally book w each text proper chain =
-    cut_on duty bytes registered registered (reply duty.told a) done (a ∷ []) (done ++ a ∷ []) part lost tally book w each (reply_leads duty.told registered a w.few) text proper refl chain
+pub ends_cut : (duty : Duty) (bytes : List ℕ) (registered : List (List ℕ)) (done : List Telling) (t : Telling) (part lost : List ℕ) (tally : Tally) (book : Ledger) → Wrote duty bytes registered done → AllByRecursion IsSent (reply t)
+    → text_of (reply t) ≡ part ++ lost → 0 < length lost → length (done ++ t ∷ []) ≤ tally.grabbed → Chain tally book (length done) 1 → Ends duty (bytes ++ part) (done ++ t ∷ []) (jobs_of (done ++ t ∷ [])) tally book WriteFault
+ends_cut duty bytes registered done t part lost tally book w each text proper booked chain =
+    cut_on duty bytes registered registered (reply t) done (t ∷ []) (jobs_of (done ++ t ∷ [])) part lost tally book w each (reply_leads registered t w.few) text proper refl booked chain
 
 -- what is left behind a front
 pub left_over : (count : ℕ) (text : List ℕ) → count < length text → 0 < length (drop count text)
 left_over count text h = rw (length-drop count text) (omega (arith, h))
-
--- what was spelled is the reply
-pub is_reply : (duty : Duty) (told : List ℕ → List ℕ → Option Told) (a : AssignedJob) (o : Option Told) → duty.told ≡ told → o ≡ told a.function a.payload → answer_to a.handle o ≡ reply duty.told a
-is_reply duty told a o h e = ap (answer_to a.handle) (e ∙ ap (λ (t : List ℕ → List ℕ → Option Told). t a.function a.payload) (sym h))

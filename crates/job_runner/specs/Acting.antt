@@ -14,7 +14,7 @@ use Rattle.job_runner.specs.declared.state.State.{State}
 use Rattle.job_runner.specs.declared.worker.Worker.{Worker}
 use Rattle.job_runner.specs.declared.port.PortAnswer.{PortAnswer}
 use Rattle.job_runner.specs.declared.port.PortAnswer.TheVariants as port
-use Rattle.job_runner.specs.Told.{Told, reply}
+use Rattle.job_runner.specs.Told.{Told, answer_to}
 use Rattle.job_runner.specs.Book.{Ledger, after_order}
 use Rattle.job_runner.specs.Course.{GoesOnOrEnds, IsStop, Sends}
 use Rattle.job_runner.specs.Following.{Scene, Follows, meant_for, phase_with}
@@ -56,7 +56,7 @@ asked_by (server_error code text) phase = end ServerError
 asked_by (other kind) phase = skip
 
 -- One order was read and followed, by the whole of what a session knows: its counts stay, and what it waits for is what the function says.
-pub record FollowsOrder {J : Type 0} (worker : Worker J) (old new : Moment) (result : Result (Unit {0}) EndCause) : Type 0 where
+pub record FollowsOrder (worker : Worker) (old new : Moment) (result : Result (Unit {0}) EndCause) : Type 0 where
   pub follows : Follows worker (scene_of old) (scene_of new) result
   pub tally : new.state.tally ≡ old.state.tally
   pub phase : result ≡ Ok tt → new.state.phase ≡ phase_with new.state.registered
@@ -76,6 +76,7 @@ Replies old new packets (Err cause.Retired) = new ≡ and_then old (text_of pack
 Replies old new packets (Err cause.Gone) = (new ≡ old) ⊎ (new ≡ and_then old (text_of packets))
 Replies old new packets (Err cause.HistoryFull) = new ≡ old
 Replies old new packets (Err Memory) = new ≡ old
+Replies old new packets (Err cause.Unserved) = new ≡ old
 Replies old new packets (Err reason) = ⊥
 
 -- What a port answered last is reported as what it was: a refusal, or that the worker retires, ends the session for that cause.
@@ -87,26 +88,25 @@ TellsAnswer (Some port.Retire) result = result ≡ Err cause.Retired
 TellsAnswer last result = Unit {0}
 
 -- A job was answered, and after its reply an order was read and followed, unless the answer ended the session.
-pub record Serves {J : Type 0} (told : List ℕ → List ℕ → Option Told) (worker : Worker J) (job : AssignedJob) (old new : Moment)
-    (result : Result (Unit {0}) EndCause) : Type 0 where
+pub record Serves (worker : Worker) (job : AssignedJob) (old new : Moment) (result : Result (Unit {0}) EndCause) : Type 0 where
   pub answered : Moment
+  pub told : Option Told
   pub answer : Result (Unit {0}) EndCause
-  pub replies : Replies old.written answered.written (reply told job) answer
+  pub replies : Replies old.written answered.written (answer_to job.handle told) answer
   pub registered : answered.state.registered ≡ old.state.registered
   pub orders : answered.book.orders ≡ old.book.orders
   pub goes_on : GoesOnOrEnds (FollowsOrder worker answered new result) (λ cause. (new ≡ answered) × (result ≡ Err cause)) answer
 
 -- a session did what was asked
-abbrev pub Does : {J : Type 0} → (List ℕ → List ℕ → Option Told) → Worker J → Asked → Moment → Moment → Result (Unit {0}) EndCause
-    → Type 0
-Does told worker skip old new result = (result ≡ Ok tt) × (new ≡ old)
-Does told worker sleep old new result = Sleeps old new result
-Does told worker follow old new result = FollowsOrder worker old new result
-Does told worker (serve job) old new result = Serves told worker job old new result
-Does told worker (end cause) old new result = (result ≡ Err cause) × (new ≡ old)
+abbrev pub Does : Worker → Asked → Moment → Moment → Result (Unit {0}) EndCause → Type 0
+Does worker skip old new result = (result ≡ Ok tt) × (new ≡ old)
+Does worker sleep old new result = Sleeps old new result
+Does worker follow old new result = FollowsOrder worker old new result
+Does worker (serve job) old new result = Serves worker job old new result
+Does worker (end cause) old new result = (result ≡ Err cause) × (new ≡ old)
 
 -- A session that has not asked for a job has to change: the order means another function than the one registered, or none.
-abbrev pub IsDue : {J : Type 0} → Worker J → State → OrderParts → Type 0
+abbrev pub IsDue : Worker → State → OrderParts → Type 0
 IsDue worker state order = (state.phase ≢ Waiting) × (meant_for worker order ≢ state.registered)
 
 -- nothing was done but to read this order
@@ -115,7 +115,7 @@ looked_at m order = record m { book = after_order m.book order }
 
 -- An order is looked at. A stop for this worker ends the session; if the order is not due nothing is done; and if it is, the one that
 -- is current then is followed.
-pub data Looks {J : Type 0} (worker : Worker J) (order : OrderParts) (old new : Moment) (result : Result (Unit {0}) EndCause) : Type 0 where
+pub data Looks (worker : Worker) (order : OrderParts) (old new : Moment) (result : Result (Unit {0}) EndCause) : Type 0 where
   sees_stop : IsStop worker.pass.now.generation order → result ≡ Err Stopped → new ≡ looked_at old order → Looks worker order old new result
   stays : (IsStop worker.pass.now.generation order → ⊥) → (IsDue worker old.state order → ⊥)
       → result ≡ Ok tt → new ≡ looked_at old order → Looks worker order old new result
@@ -123,12 +123,12 @@ pub data Looks {J : Type 0} (worker : Worker J) (order : OrderParts) (old new : 
       → FollowsOrder worker (looked_at old order) new result → Looks worker order old new result
 
 -- nothing came in the time of one read, and one order was looked at
-pub record Glances {J : Type 0} (worker : Worker J) (old new : Moment) (result : Result (Unit {0}) EndCause) : Type 0 where
+pub record Glances (worker : Worker) (old new : Moment) (result : Result (Unit {0}) EndCause) : Type 0 where
   pub order : OrderParts
   pub looks : Looks worker order old new result
 
 -- A session gave its worker's name, and after it one order was read and followed, unless sending the name ended it.
-pub record Begins {J : Type 0} (worker : Worker J) (name : List ℕ) (old new : Moment) (result : Result (Unit {0}) EndCause) : Type 0 where
+pub record Begins (worker : Worker) (name : List ℕ) (old new : Moment) (result : Result (Unit {0}) EndCause) : Type 0 where
   pub named : Option (List ℕ)
   pub answer : Result (Unit {0}) EndCause
   pub sends : Sends old.written named (set_client_id name ∷ []) answer

@@ -20,12 +20,11 @@ use Rattle.job_runner.specs.declared.answering.Tally.{Tally}
 use Rattle.byte_io.specs.Sides.{and_then}
 use Rattle.worker_state.specs.Registration.{change_of}
 use Rattle.pool_settings.specs.Names.{is_name}
-use Rattle.job_runner.specs.Told.{Told, replies}
+use Rattle.job_runner.specs.Told.{Telling, jobs_of, replies}
 use Rattle.job_runner.specs.Book.{Ledger}
 
--- what a session is for: the meaning of its jobs, its worker's name and generation, and the functions by number
+-- what a session is for: its worker's name and generation, and the functions by number
 pub record Duty : Type 0 where
-  pub told : List ℕ → List ℕ → Option Told
   pub worker : List ℕ
   pub generation : ℕ
   pub functions : List (List ℕ)
@@ -67,20 +66,19 @@ abbrev pub MayIntroduce : List ℕ → List Packet → Type 0
 MayIntroduce worker [] = Unit {0}
 MayIntroduce worker (p ∷ ps) = p ≡ set_client_id worker
 
--- The bytes are whole packets, which answer these assignments and leave these functions registered.
-pub record Wrote (duty : Duty) (bytes : List ℕ) (registered : List (List ℕ)) (answered : List AssignedJob) : Type 0 where
+-- The bytes are whole packets, which answer these jobs and leave these functions registered.
+pub record Wrote (duty : Duty) (bytes : List ℕ) (registered : List (List ℕ)) (answered : List Telling) : Type 0 where
   pub sent : List Packet
   pub bytes_are : bytes ≡ text_of sent
   pub each_sent : AllByRecursion IsSent sent
   pub introduces : Introduces duty.worker sent
-  pub works : filter is_work sent ≡ replies duty.told answered
+  pub works : filter is_work sent ≡ replies answered
   pub one : OneAtATime [] sent
   pub registered_is : registered_by [] sent ≡ registered
   pub few : length registered ≤ 1
 
--- The bytes are whole packets, which answer these assignments, and a prefix of a text that was begun and
--- answers `begun`: no assignment, or the next.
-pub record Cut (duty : Duty) (bytes : List ℕ) (answered begun : List AssignedJob) : Type 0 where
+-- The bytes are whole packets, which answer these jobs, and a prefix of a text that was begun and answers `begun`: no job, or the next.
+pub record Cut (duty : Duty) (bytes : List ℕ) (answered begun : List Telling) : Type 0 where
   pub sent : List Packet
   pub next : List Packet
   pub part : List ℕ
@@ -89,8 +87,8 @@ pub record Cut (duty : Duty) (bytes : List ℕ) (answered begun : List AssignedJ
   pub next_is : text_of next ≡ part ++ lost
   pub each_sent : AllByRecursion IsSent (sent ++ next)
   pub introduces : MayIntroduce duty.worker (sent ++ next)
-  pub works : filter is_work sent ≡ replies duty.told answered
-  pub next_works : filter is_work next ≡ replies duty.told begun
+  pub works : filter is_work sent ≡ replies answered
+  pub next_works : filter is_work next ≡ replies begun
   pub one : OneAtATime [] (sent ++ next)
 
 -- Between two assignments all counts agree.
@@ -114,18 +112,24 @@ CanBook book = (book.grabs + 1 < 2 ^ 64) × (book.begins + 1 < 2 ^ 64) × (book.
 pub record Chain (tally : Tally) (book : Ledger) (answered begun : ℕ) : Type 0 where
   pub answered_is : tally.answered ≡ answered
   pub reported : tally.reported ≤ tally.answered
-  pub begins : tally.answered + begun ≤ book.begins
+  pub begins : book.begins ≡ tally.answered + begun
   pub grabbed : book.begins ≤ tally.grabbed
   pub one_open : tally.grabbed ≤ tally.reported + 1
   pub grabs : book.grabs ≡ tally.grabbed
   pub reports : book.reports ≡ tally.reported
 
--- a session that ends: `done` were answered before, `bytes` were written in all
-pub record Ends (duty : Duty) (bytes : List ℕ) (taken : List AssignedJob) (tally : Tally) (book : Ledger) (reason : EndCause) : Type 0 where
-  pub answered : List AssignedJob
-  pub begun : List AssignedJob
+-- A session that ends: `bytes` were written in all, and of the jobs assigned the first were run, in order, and told this. No job was run
+-- that the port had not booked. If the session ends since a job was not served, each job that told something is answered.
+pub record Ends (duty : Duty) (bytes : List ℕ) (told : List Telling) (taken : List AssignedJob) (tally : Tally) (book : Ledger)
+    (reason : EndCause) : Type 0 where
+  pub answered : List Telling
+  pub begun : List Telling
+  pub unwritten : List Telling
   pub later : List AssignedJob
-  pub in_order : taken ≡ answered ++ (begun ++ later)
+  pub told_are : told ≡ answered ++ (begun ++ unwritten)
+  pub undone : reason ≡ cause.Unserved → begun ++ unwritten ≡ []
+  pub in_order : taken ≡ jobs_of told ++ later
+  pub booked : length told ≤ tally.grabbed
   pub cut : Cut duty bytes answered begun
   pub whole : reason ≢ WriteFault → cut.part ≡ []
   pub proper : reason ≡ WriteFault → 0 < length cut.lost
@@ -179,7 +183,13 @@ PortReason generation book cause.ReadFault = ⊥
 PortReason generation book cause.BadPacket = ⊥
 PortReason generation book cause.ServerError = ⊥
 PortReason generation book cause.TurnsUsed = ⊥
+PortReason generation book cause.Unserved = ⊥
 PortReason generation book other = Unit {0}
+
+-- the same if a job was run as well
+abbrev pub AnswerReason : ℕ → Ledger → EndCause → Type 0
+AnswerReason generation book cause.Unserved = Unit {0}
+AnswerReason generation book other = PortReason generation book other
 
 -- a session that waits or sleeps has a function registered
 abbrev pub IsServing : ℕ → Phase → Option ℕ → Type 0

@@ -20,6 +20,7 @@ loss_of cause.Memory = Some loss.Memory
 loss_of cause.HistoryFull = Some loss.HistoryFull
 loss_of cause.Closed = Some loss.Closed
 loss_of cause.Stopped = Some loss.Stopped
+loss_of cause.Unserved = Some loss.Unserved
 
 -- the label of an end that loses no worker
 abbrev pub kept_label : EndCause → Label

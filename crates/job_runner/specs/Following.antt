@@ -23,11 +23,11 @@ abbrev pub meant_by : ℕ → ℕ → OrderParts → Option ℕ
 meant_by generation count order = if order.generation == generation then function_of count order.what else None
 
 -- the function that an order means for a worker in its session
-abbrev pub meant_for : {J : Type 0} → Worker J → OrderParts → Option ℕ
+abbrev pub meant_for : Worker → OrderParts → Option ℕ
 meant_for worker order = meant_by worker.pass.now.generation (length worker.place.settings.now.functions) order
 
 -- the packets that lead a worker from the function that it has registered to the one that an order means, and ask for a job of it
-abbrev pub leading : {J : Type 0} → Worker J → Option ℕ → OrderParts → List Packet
+abbrev pub leading : Worker → Option ℕ → OrderParts → List Packet
 leading worker from order =
     obeying (name_of worker.place.settings.now.functions from) (name_of worker.place.settings.now.functions (meant_for worker order))
 
@@ -47,14 +47,14 @@ scene registered written book = record { registered = registered; written = writ
 
 -- An order is followed. A stop for this worker ends the session with nothing written; else the packets that lead to the order's function
 -- are sent, and no others, and that function is registered.
-pub data Obeys {J : Type 0} (worker : Worker J) (order : OrderParts) (old new : Scene) (result : Result (Unit {0}) EndCause) : Type 0 where
+pub data Obeys (worker : Worker) (order : OrderParts) (old new : Scene) (result : Result (Unit {0}) EndCause) : Type 0 where
   stops : IsStop worker.pass.now.generation order → result ≡ Err Stopped → new.written ≡ old.written → Obeys worker order old new result
   goes : (IsStop worker.pass.now.generation order → ⊥)
       → Sends old.written new.written (leading worker old.registered order) result
       → OnOk result (new.registered ≡ meant_for worker order) → Obeys worker order old new result
 
 -- one order was read, and followed
-pub record Follows {J : Type 0} (worker : Worker J) (old new : Scene) (result : Result (Unit {0}) EndCause) : Type 0 where
+pub record Follows (worker : Worker) (old new : Scene) (result : Result (Unit {0}) EndCause) : Type 0 where
   pub order : OrderParts
   pub read : new.book ≡ after_order old.book order
   pub obeys : Obeys worker order old new result

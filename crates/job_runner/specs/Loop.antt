@@ -12,7 +12,7 @@ use Rattle.job_runner.specs.declared.order.Phase.TheVariants.{Idle}
 use Rattle.job_runner.specs.declared.state.State.{State}
 use Rattle.job_runner.specs.declared.answering.Tally.{Tally}
 use Rattle.job_runner.specs.declared.worker.Worker.{Worker}
-use Rattle.job_runner.specs.Told.{Told}
+use Rattle.job_runner.specs.Told.{Telling}
 use Rattle.job_runner.specs.Book.{Ledger}
 use Rattle.job_runner.specs.Course.{Duty, Session, session_of, Ends, PortReason}
 use Rattle.job_runner.specs.Run.{Rests}
@@ -21,22 +21,17 @@ use Rattle.job_runner.specs.Path.{Went, Ended, place_of}
 abbrev pub first_state : State
 first_state = record { registered = None; phase = Idle; tally = record { grabbed = 0; answered = 0; reported = 0 } }
 
-abbrev pub duty_of : (List ℕ → List ℕ → Option Told) → Settings → WorkerName → Duty
-duty_of told settings worker =
-    record {
-      told = told;
-      worker = worker_text settings worker.slot worker.generation;
-      generation = worker.generation;
-      functions = settings.functions;
-    }
+abbrev pub duty_of : Settings → WorkerName → Duty
+duty_of settings worker =
+    record { worker = worker_text settings worker.slot worker.generation; generation = worker.generation; functions = settings.functions }
 
 -- what the session of a worker is for
-abbrev pub duty_in : {J : Type 0} → (J → List ℕ → List ℕ → Option Told) → Worker J → Duty
-duty_in told worker = duty_of (told worker.place.jobs.now) worker.place.settings.now worker.pass.now
+abbrev pub duty_in : Worker → Duty
+duty_in worker = duty_of worker.place.settings.now worker.pass.now
 
 -- the session of a worker so far
-abbrev pub session_in : {J : Type 0} → (J → List ℕ → List ℕ → Option Told) → Worker J → Option (List ℕ) → List ℕ → Session
-session_in told worker before read = session_of (duty_in told worker) before read
+abbrev pub session_in : Worker → Option (List ℕ) → List ℕ → Session
+session_in worker before read = session_of (duty_in worker) before read
 
 -- the ends that sending one packet may have
 abbrev pub IsSendFault : EndCause → Type 0
@@ -48,19 +43,26 @@ IsSendFault other = ⊥
 abbrev pub StepReason : ℕ → Message → Tally → Tally → Ledger → EndCause → Type 0
 StepReason generation m old new book cause.BadPacket = (new.grabbed ≡ old.grabbed) × (0 < length (assignments_in (m ∷ [])))
 StepReason generation m old new book cause.ServerError = (code text : List ℕ) × (m ≡ server_error code text)
+StepReason generation m old new book cause.Unserved = Unit {0}
 StepReason generation m old new book other = PortReason generation book other
 
--- Now that `written` is on the link, all messages that were given are served.
-pub record Stands (session : Session) (written : Option (List ℕ)) (reader : Reading) (s : State) (book : Ledger) : Type 0 where
+-- Now that `written` is on the link, all messages that were given are served, by jobs that were run in this way.
+pub record Stands (session : Session) (Ran : List Telling → Type 0) (written : Option (List ℕ)) (reader : Reading) (s : State)
+    (book : Ledger) : Type 0 where
   pub bytes : List ℕ
+  pub told : List Telling
   pub given : List Message
+  pub ran : Ran told
   pub at : written ≡ and_then session.before bytes
-  pub rests : Rests session bytes given reader s book
+  pub rests : Rests session bytes told given reader s book
   pub went : Went session.duty session.before written given book (place_of s)
 
--- the session is at its end
-pub record Halts (session : Session) (written : Option (List ℕ)) (tally : Tally) (book : Ledger) (reason : EndCause) : Type 0 where
+-- the session is at its end, by jobs that were run in this way
+pub record Halts (session : Session) (Ran : EndCause → List Telling → Type 0) (written : Option (List ℕ)) (tally : Tally) (book : Ledger)
+    (reason : EndCause) : Type 0 where
   pub bytes : List ℕ
+  pub told : List Telling
+  pub ran : Ran reason told
   pub at : written ≡ and_then session.before bytes
-  pub ends : Ends session.duty bytes (assignments session.read) tally book reason
+  pub ends : Ends session.duty bytes told (assignments session.read) tally book reason
   pub ended : Ended session written book reason

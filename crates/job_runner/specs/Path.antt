@@ -13,7 +13,7 @@ use Rattle.job_runner.specs.declared.end.EndCause.TheVariants as cause
 use Rattle.job_runner.specs.declared.order.Phase.{Phase}
 use Rattle.job_runner.specs.declared.order.Phase.TheVariants.{Waiting, Asleep}
 use Rattle.job_runner.specs.declared.state.State.{State}
-use Rattle.job_runner.specs.Told.{reply}
+use Rattle.job_runner.specs.Told.{Told, answer_to}
 use Rattle.job_runner.specs.Book.{Ledger}
 use Rattle.job_runner.specs.Course.{Duty, Session, IsStop, obeying, name_of}
 use Rattle.job_runner.specs.Following.{meant_by, phase_with}
@@ -73,8 +73,8 @@ pub data Step (duty : Duty) : Place → Event → List Packet → Place → Type
       → Step duty (place f (hearing phase)) (heard m) (pre_sleep ∷ []) (place f (hearing Asleep))
   woken : (f : Option ℕ) (phase : Phase) (m : Message) → asked_by m phase ≡ follow
       → Step duty (place f (hearing phase)) (heard m) [] (place f following)
-  served : (f : Option ℕ) (phase : Phase) (m : Message) (job : AssignedJob) → asked_by m phase ≡ serve job
-      → Step duty (place f (hearing phase)) (heard m) (reply duty.told job) (place f following)
+  served : (f : Option ℕ) (phase : Phase) (m : Message) (job : AssignedJob) (told : Option Told) → asked_by m phase ≡ serve job
+      → Step duty (place f (hearing phase)) (heard m) (answer_to job.handle told) (place f following)
 
 -- A path from the start of a session: what it met, what it wrote, and where it is.
 pub data Path (duty : Duty) : List Event → List Packet → Place → Type 0 where
@@ -88,6 +88,7 @@ IsAnswerEnd cause.Retired = Unit {0}
 IsAnswerEnd cause.Gone = Unit {0}
 IsAnswerEnd cause.HistoryFull = Unit {0}
 IsAnswerEnd cause.Memory = Unit {0}
+IsAnswerEnd cause.Unserved = Unit {0}
 IsAnswerEnd WriteFault = Unit {0}
 IsAnswerEnd other = ⊥
 
@@ -116,8 +117,9 @@ pub data Last (duty : Duty) : Place → Option Event → List Packet → EndCaus
       → Last duty (place f (hearing phase)) (Some (heard m)) [] reason
   unsent : (from to : Place) (event : Event) (packets : List Packet) (reason : EndCause) → Step duty from event packets to
       → IsSendEnd reason → Last duty from (Some event) packets reason
-  unbooked : (f : Option ℕ) (phase : Phase) (m : Message) (job : AssignedJob) (reason : EndCause) → asked_by m phase ≡ serve job
-      → IsAnswerEnd reason → Last duty (place f (hearing phase)) (Some (heard m)) (reply duty.told job) reason
+  unbooked : (f : Option ℕ) (phase : Phase) (m : Message) (job : AssignedJob) (told : Option Told) (reason : EndCause)
+      → asked_by m phase ≡ serve job → IsAnswerEnd reason
+      → Last duty (place f (hearing phase)) (Some (heard m)) (answer_to job.handle told) reason
   waiting : (f : Option ℕ) (phase : Phase) (reason : EndCause) → IsWaitEnd reason
       → Last duty (place f (hearing phase)) None [] reason
 

@@ -1,6 +1,7 @@
 -- A whole session.
 use Rattle.std.specs.Prelude.{◌≡◌, ◌≢◌, ℕ, ◌+◌, ◌<◌, ◌≤◌, ◌⊎◌, true, List, [], ◌∷◌, ◌++◌, length, take, Option, Some, None, Result, Err}
-use Rattle.std.specs.Prelude.{OnOk}
+use Rattle.std.specs.Prelude.{OnOk, map}
+use Rattle.std.specs.List.{AllByRecursion}
 use Rattle.gear_packets.specs.Request.{Packet}
 use Rattle.gear_packets.specs.Response.{AssignedJob, Message, server_error}
 use Rattle.gear_packets.specs.Text.{Reading, reading, behind, assignments_in, assignments, sent, text_of, registered, work_requests}
@@ -13,25 +14,52 @@ use Rattle.worker_state.specs.declared.cause.Cause.{Cause}
 use Rattle.job_runner.specs.declared.state.State.{State}
 use Rattle.job_runner.specs.declared.answering.Tally.{Tally}
 use Rattle.job_runner.specs.Ends.{loss_of}
-use Rattle.job_runner.specs.Told.{replies}
+use Rattle.job_runner.specs.Told.{Told, Telling, jobs_of, replies, AreTold, IsMeant, meant}
+use Rattle.job_runner.specs.declared.jobs.NotDone.{NotDone}
+use Rattle.job_runner.specs.declared.jobs.NotDone.TheVariants as not_done
 use Rattle.job_runner.specs.Book.{Ledger}
 use Rattle.job_runner.specs.Path.{Ended}
 use Rattle.job_runner.specs.Course.{Duty, Session, asks, Wrote, Even, Ends, GoesOnOrEnds, known, IsServing, PortReason}
 
--- Between two messages, the reader aside: each assignment so far is answered, and the counts agree.
-pub record AreAnswered (duty : Duty) (bytes : List ℕ) (done : List AssignedJob) (s : State) (book : Ledger) : Type 0 where
+-- Between two messages, the reader aside: each job so far is answered, and the counts agree.
+pub record AreAnswered (duty : Duty) (bytes : List ℕ) (done : List Telling) (s : State) (book : Ledger) : Type 0 where
   pub wrote : Wrote duty bytes (known duty.functions s.registered) done
   pub even : Even s.tally book (length done)
   pub serving : IsServing (length duty.functions) s.phase s.registered
 
--- what a step leaves
-abbrev pub Acts : Duty → List ℕ → List AssignedJob → State → Ledger → Result (Unit {0}) EndCause → Type 0
-Acts duty bytes done s book result = GoesOnOrEnds (AreAnswered duty bytes done s book) (Ends duty bytes done s.tally book) result
+-- what a step leaves, by what all jobs told and by the jobs that were assigned
+abbrev pub Acts : Duty → List ℕ → List Telling → List AssignedJob → State → Ledger → Result (Unit {0}) EndCause → Type 0
+Acts duty bytes told taken s book result =
+    GoesOnOrEnds (AreAnswered duty bytes told s book × (jobs_of told ≡ taken)) (Ends duty bytes told taken s.tally book) result
 
--- The bytes read say the messages that were given, and those that the reader still holds.
-pub record Rests (session : Session) (bytes : List ℕ) (given : List Message) (reader : Reading) (s : State) (book : Ledger) : Type 0 where
+-- how a session ends if a job fails so
+abbrev pub end_of : NotDone → EndCause
+end_of not_done.Unserved = cause.Unserved
+end_of not_done.Memory = cause.Memory
+
+-- What runs jobs is as the last one left it, and the end is none of theirs; or one more job failed, and the session ends for that.
+abbrev pub IsLeftBy : {J : Type 0} → (J → J → AssignedJob → NotDone → Type 0) → J → J → EndCause → Type 0
+IsLeftBy fails last new reason =
+    ((new ≡ last) × (reason ≢ cause.Unserved))
+    ⊎ ((job : AssignedJob) × (error : NotDone) × fails last new job error × (reason ≡ end_of error))
+
+-- what jobs told up to an end, from the first value of what runs them to the one that is left
+abbrev pub EndTold : {J : Type 0} → (J → J → AssignedJob → Option Told → Type 0) → (J → J → AssignedJob → NotDone → Type 0) → J → J
+    → EndCause → List Telling → Type 0
+EndTold {J} tells fails first new reason told = (last : J) × AreTold tells first last told × IsLeftBy fails last new reason
+
+-- what jobs told in a step, from the value before to the one after
+abbrev pub Tells : {J : Type 0} → (J → J → AssignedJob → Option Told → Type 0) → (J → J → AssignedJob → NotDone → Type 0) → J → J
+    → List Telling → Result (Unit {0}) EndCause → Type 0
+Tells tells fails old new since result =
+    GoesOnOrEnds (AreTold tells old new since) (λ reason. EndTold tells fails old new reason since) result
+
+-- The bytes read say the messages that were given, and those that the reader still holds. Each job assigned so far told this.
+pub record Rests (session : Session) (bytes : List ℕ) (told : List Telling) (given : List Message) (reader : Reading) (s : State)
+    (book : Ledger) : Type 0 where
   pub heard : reading session.read ≡ behind given reader
-  pub holds : AreAnswered session.duty bytes (assignments_in given) s book
+  pub jobs_are : jobs_of told ≡ assignments_in given
+  pub holds : AreAnswered session.duty bytes told s book
 
 -- a stream names an error
 abbrev pub HasError : List Message → Type 0
@@ -63,6 +91,7 @@ abbrev pub ReadReason : Session → Tally → Ledger → EndCause → Type 0
 ReadReason session tally book cause.BadPacket =
     (fault_of (reading session.read).ending ≢ None) ⊎ (tally.grabbed < length (assignments session.read))
 ReadReason session tally book cause.ServerError = HasError (reading session.read).messages
+ReadReason session tally book cause.Unserved = Unit {0}
 ReadReason session tally book other = PortReason session.duty.generation book other
 
 -- Each cause is there only if its reason is. `old` and `new` are what the link shows before and after.
@@ -82,16 +111,27 @@ Lost (Some c) book = (book.losses ≡ 1) × (book.last_loss ≡ Some c)
 abbrev pub tally_of : SessionEnd → Tally
 tally_of e = record { grabbed = e.grabbed; answered = e.answered; reported = e.reported }
 
--- What a session promises at its end, of all that it read and wrote. But for a failed write, what it wrote is whole packets, and those that
--- answer jobs are the replies to the first `answered` jobs that were assigned to it. After each whole packet at most one function is
--- registered, and exactly one after a packet that asks for a job or to be woken. It took one path to its end.
-pub record Served (session : Session) (bytes : List ℕ) (old new : Link) (book : Ledger) (e : SessionEnd) : Type 0 where
-  pub ends : Ends session.duty bytes (assignments session.read) (tally_of e) book e.cause
+-- What a session promises at its end, of all that its jobs told and that it read and wrote. But for a failed write, what it wrote is whole
+-- packets, and those that answer jobs are the replies to the first `answered` jobs that were assigned to it. After each whole packet at
+-- most one function is registered, and exactly one after a packet that asks for a job or to be woken. It took one path to its end.
+pub record Served (session : Session) (told : List Telling) (bytes : List ℕ) (old new : Link) (book : Ledger) (e : SessionEnd) :
+    Type 0 where
+  pub ends : Ends session.duty bytes told (assignments session.read) (tally_of e) book e.cause
   pub whole : e.cause ≢ cause.WriteFault → (sent bytes).packets ≡ ends.cut.sent
-  pub work : e.cause ≢ cause.WriteFault → work_requests bytes ≡ replies session.duty.told (take e.answered (assignments session.read))
+  pub work : e.cause ≢ cause.WriteFault → work_requests bytes ≡ replies (take e.answered told)
   pub registers : (k : ℕ) → length (registered (text_of (take k (ends.cut.sent ++ ends.cut.next)))) ≤ 1
   pub asking : (before after : List Packet) (p : Packet)
       → ends.cut.sent ++ ends.cut.next ≡ before ++ p ∷ after → asks p ≡ true → length (registered (text_of (before ++ p ∷ []))) ≡ 1
   pub path : Ended session new.output.got book e.cause
   pub reason : Reason session old new (tally_of e) book e.cause
   pub lost : Lost (loss_of e.cause) book
+
+-- The same of jobs that tell what a function of their name and input says.
+pub record ServedBy (meaning : List ℕ → List ℕ → Option Told) (session : Session) (bytes : List ℕ) (old new : Link) (book : Ledger)
+    (e : SessionEnd) : Type 0 where
+  pub told : List Telling
+  pub meant_so : AllByRecursion (IsMeant meaning) told
+  pub served : Served session told bytes old new book e
+  pub never_unserved : e.cause ≢ cause.Unserved
+  pub work : e.cause ≢ cause.WriteFault
+      → work_requests bytes ≡ replies (map (meant meaning) (take e.answered (assignments session.read)))

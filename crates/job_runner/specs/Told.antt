@@ -1,5 +1,5 @@
 -- What jobs tell, and the packets that answer an assignment.
-use Rattle.std.specs.Prelude.{ℕ, Bool, nat_le, if◌then◌else◌, List, [], ◌∷◌, ◌++◌, length, map, Option, Some, None}
+use Rattle.std.specs.Prelude.{◌≡◌, ℕ, Bool, nat_le, if◌then◌else◌, List, [], ◌∷◌, ◌++◌, length, map, Option, Some, None}
 use Rattle.std.specs.List.{list_all, flat_map}
 use Rattle.gear_packets.specs.Frame.{body_limit}
 use Rattle.gear_packets.specs.Request.{Packet, work_status, work_complete, work_fail, work_data, work_warning, body_of}
@@ -68,9 +68,36 @@ unfoldable pub kind_of_answer : List ℕ → Option Told → EndKind
 kind_of_answer handle None = kind.Fail
 kind_of_answer handle (Some told) = if list_all can_send (told_packets handle told) then end_kind_of told.finish else kind.Fail
 
--- the answer to an assignment, as the jobs tell it
-abbrev pub reply : (List ℕ → List ℕ → Option Told) → AssignedJob → List Packet
-reply told a = answer_to a.handle (told a.function a.payload)
+-- a job that was run, with what it told: nothing if there is no job of that name
+pub record Telling : Type 0 where
+  pub job : AssignedJob
+  pub told : Option Told
 
-abbrev pub replies : (List ℕ → List ℕ → Option Told) → List AssignedJob → List Packet
-replies told jobs = flat_map (reply told) jobs
+abbrev pub telling : AssignedJob → Option Told → Telling
+telling job told = record { job = job; told = told }
+
+abbrev pub jobs_of : List Telling → List AssignedJob
+jobs_of tellings = map (λ t. t.job) tellings
+
+-- the answer to a job
+abbrev pub reply : Telling → List Packet
+reply t = answer_to t.job.handle t.told
+
+abbrev pub replies : List Telling → List Packet
+replies tellings = flat_map reply tellings
+
+-- Jobs were run one after the other, and told this: from one value of what runs them to another.
+abbrev pub AreTold : {J : Type 0} → (J → J → AssignedJob → Option Told → Type 0) → J → J → List Telling → Type 0
+AreTold tells first last [] = last ≡ first
+AreTold {J} tells first last (t ∷ ts) = (next : J) × tells first next t.job t.told × AreTold tells next last ts
+
+-- jobs told just this
+abbrev pub IsTold : List Telling → List Telling → Type 0
+IsTold told tellings = tellings ≡ told
+
+-- jobs that tell what a function of their name and input says
+abbrev pub IsMeant : (List ℕ → List ℕ → Option Told) → Telling → Type 0
+IsMeant meaning t = t.told ≡ meaning t.job.function t.job.payload
+
+abbrev pub meant : (List ℕ → List ℕ → Option Told) → AssignedJob → Telling
+meant meaning job = telling job (meaning job.function job.payload)

@@ -35,6 +35,8 @@ pub enum EndCause {
     Closed,
     /// [`Cause::Stopped`]
     Stopped,
+    /// [`Cause::Unserved`]
+    Unserved,
 }
 
 impl EndCause {
@@ -54,6 +56,7 @@ impl EndCause {
             EndCause::HistoryFull => Some(Cause::HistoryFull),
             EndCause::Closed => Some(Cause::Closed),
             EndCause::Stopped => Some(Cause::Stopped),
+            EndCause::Unserved => Some(Cause::Unserved),
         }
     }
 }

@@ -4,6 +4,7 @@
 mod answering;
 mod end;
 mod job;
+mod jobs;
 mod listen;
 mod messages;
 mod order;
@@ -17,7 +18,8 @@ mod worker;
 
 pub use end::{EndCause, SessionEnd};
 pub use job::{End, Job, Note, Outcome};
+pub use jobs::{Jobs, NotDone};
 pub use port::{Gone, GrabRefusal, PoolPort, PortAnswer};
 pub use session::{run_session, serve_worker};
-pub use table::{JobTable, Jobs, TwiceNamed};
+pub use table::{JobTable, NamedJobs, TwiceNamed};
 pub use worker::Workplace;

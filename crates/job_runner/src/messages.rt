@@ -1,22 +1,22 @@
 //! What a session does at a message.
 
 ghost use Rattle.std.specs.Prelude.{◌≡◌, ◌+◌, ◌-◌, ◌<◌, ◌^◌, ◌++◌, [], ◌∷◌, ℕ, List, IfErr, OnOk, Option};
-ghost use Rattle.gear_packets.specs.Response.{AssignedJob};
 ghost use Rattle.gear_packets.specs.Reading.{message_of};
 ghost use Rattle.gear_packets.specs.Text.{assignments_in};
 ghost use Rattle.byte_io.specs.Sides.{and_then};
 ghost use Rattle.job_runner.specs.Book.{Ledger};
 ghost use Rattle.job_runner.specs.Course.{Duty, PortReason, CanCount, CanBook};
-ghost use Rattle.job_runner.specs.Run.{AreAnswered, Acts, LinkKept, seen_link};
+ghost use Rattle.job_runner.specs.Told.{Telling, jobs_of};
+ghost use Rattle.job_runner.specs.Run.{AreAnswered, Acts, LinkKept, Tells, seen_link};
 ghost use Rattle.job_runner.specs.Loop.{StepReason, IsSendFault};
 ghost use Rattle.job_runner.specs.Acting.{moment, asked_by, Does, Glances, Sleeps};
 
 use crate::end::EndCause;
+use crate::jobs::Jobs;
 use crate::order::{Phase, stops, wanted_of};
 use crate::port::PoolPort;
 use crate::sending::send;
 use crate::state::{State, follow, serve_job};
-use crate::table::Jobs;
 use crate::worker::Worker;
 use byte_io::Sink;
 use gear_packets::{Assignment, Request, Response};
@@ -26,9 +26,9 @@ use std::alloc::Global;
 fn sleep<L: Sink>(alloc: Global, link: &mut L, state: &mut State) -> Result<(), EndCause>
     requires link { (L.output link.old).failures < 2 ^ 64 - 1 }
     requires waits { state.old.phase ≡ Phase.Waiting }
-    ensures acts { (duty : Duty) (before : Option (List ℕ)) (bytes : List ℕ) (done : List AssignedJob) (book : Ledger) →
+    ensures acts { (duty : Duty) (before : Option (List ℕ)) (bytes : List ℕ) (done : List Telling) (book : Ledger) →
         (L.output link.old).got ≡ and_then before bytes → AreAnswered duty bytes done state.old book →
-        (more : List ℕ) × ((L.output link.new).got ≡ and_then before more) × Acts duty more done state.new book result }
+        (more : List ℕ) × ((L.output link.new).got ≡ and_then before more) × Acts duty more done (jobs_of done) state.new book result }
     ensures link { LinkKept (seen_link L.input L.output link.old) (seen_link L.input L.output link.new) result }
     ensures sleeps { (book : Ledger) → Sleeps (moment state.old (L.output link.old).got book)
         (moment state.new (L.output link.new).got book) result }
@@ -45,21 +45,23 @@ fn sleep<L: Sink>(alloc: Global, link: &mut L, state: &mut State) -> Result<(), 
 
 /// Does what a message asks for.
 pub fn act<L: Sink, P: PoolPort, J: Jobs>(
-    worker: &Worker<'_, J>,
+    worker: &Worker<'_>,
     link: &mut L,
     port: &mut P,
+    jobs: &mut J,
     state: &mut State,
     message: Response,
 ) -> Result<(), EndCause>
     requires link { (L.output link.old).failures < 2 ^ 64 - 1 }
     requires tally { CanCount state.old.tally }
     requires port { CanBook (P.book port.old) }
-    ensures acts { (duty : Duty) (before : Option (List ℕ)) (bytes : List ℕ) (done : List AssignedJob) →
-        duty.told ≡ J.told worker.now.place.jobs.now → duty.functions ≡ worker.now.place.settings.now.functions
+    ensures acts { (duty : Duty) (before : Option (List ℕ)) (bytes : List ℕ) (done : List Telling) →
+        duty.functions ≡ worker.now.place.settings.now.functions
         → (L.output link.old).got ≡ and_then before bytes → AreAnswered duty bytes done state.old (P.book port.old) →
-        (more : List ℕ) × ((L.output link.new).got ≡ and_then before more)
-        × Acts duty more (done ++ assignments_in (message_of message ∷ [])) state.new (P.book port.new) result }
-    ensures does { Does (J.told worker.now.place.jobs.now) worker.now (asked_by (message_of message) state.old.phase)
+        (more : List ℕ) × (since : List Telling) × ((L.output link.new).got ≡ and_then before more)
+        × Tells J.tells J.fails jobs.old jobs.new since result
+        × Acts duty more (done ++ since) (jobs_of done ++ assignments_in (message_of message ∷ [])) state.new (P.book port.new) result }
+    ensures does { Does worker.now (asked_by (message_of message) state.old.phase)
         (moment state.old (L.output link.old).got (P.book port.old)) (moment state.new (L.output link.new).got (P.book port.new)) result }
     ensures link { LinkKept (seen_link L.input L.output link.old) (seen_link L.input L.output link.new) result }
     ensures reason { IfErr result (StepReason worker.now.pass.now.generation (message_of message) state.old.tally state.new.tally
@@ -88,7 +90,7 @@ pub fn act<L: Sink, P: PoolPort, J: Jobs>(
                     unique,
                     payload,
                 };
-                serve_job(worker, link, port, state, job)
+                serve_job(worker, link, port, jobs, state, job)
             }
             _ => Err(EndCause::BadPacket),
         },
@@ -98,17 +100,18 @@ pub fn act<L: Sink, P: PoolPort, J: Jobs>(
 }
 
 /// Looks at the order if nothing came.
-pub fn glance<L: Sink, P: PoolPort, J>(
-    worker: &Worker<'_, J>,
+pub fn glance<L: Sink, P: PoolPort>(
+    worker: &Worker<'_>,
     link: &mut L,
     port: &mut P,
     state: &mut State,
 ) -> Result<(), EndCause>
     requires { (L.output link.old).failures < 2 ^ 64 - 1 }
-    ensures acts { (duty : Duty) (before : Option (List ℕ)) (bytes : List ℕ) (done : List AssignedJob) →
+    ensures acts { (duty : Duty) (before : Option (List ℕ)) (bytes : List ℕ) (done : List Telling) →
         duty.functions ≡ worker.now.place.settings.now.functions
         → (L.output link.old).got ≡ and_then before bytes → AreAnswered duty bytes done state.old (P.book port.old) →
-        (more : List ℕ) × ((L.output link.new).got ≡ and_then before more) × Acts duty more done state.new (P.book port.new) result }
+        (more : List ℕ) × ((L.output link.new).got ≡ and_then before more)
+        × Acts duty more done (jobs_of done) state.new (P.book port.new) result }
     ensures glances { Glances worker.now (moment state.old (L.output link.old).got (P.book port.old))
         (moment state.new (L.output link.new).got (P.book port.new)) result }
     ensures link { LinkKept (seen_link L.input L.output link.old) (seen_link L.input L.output link.new) result }

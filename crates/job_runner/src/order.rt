@@ -3,7 +3,6 @@
 ghost use Rattle.std.specs.Prelude.{◌≡◌, ◌↔◌, ◌+◌, ◌-◌, ◌<◌, ◌≤◌, ◌^◌, ℕ, List, length, IsTrue, IfOk, IfErr, OnOk, IfSome, Option};
 ghost use Rattle.std.specs.List.{AllByRecursion};
 ghost use Rattle.gear_packets.specs.Request.{IsSent};
-ghost use Rattle.gear_packets.specs.Response.{AssignedJob};
 ghost use Rattle.std.specs.Option.{option_map, option_to_list};
 ghost use Rattle.gear_packets.specs.Requests.{packet_of};
 ghost use Rattle.gear_packets.specs.Text.{text_of};
@@ -14,6 +13,7 @@ ghost use Rattle.job_runner.specs.Course.{name_of, obeying, IsStop, PortReason};
 ghost use Rattle.job_runner.specs.Following.{meant_by, phase_with, scene, Follows};
 ghost use Rattle.job_runner.specs.Run.{LinkKept, seen_link};
 ghost use Rattle.job_runner.specs.declared.answering.Tally.{Tally};
+ghost use Rattle.job_runner.specs.Told.{Telling, jobs_of};
 
 use crate::end::EndCause;
 use crate::port::PoolPort;
@@ -137,19 +137,19 @@ fn write_change<L: Sink>(
 }
 
 /// Reads the order, and writes what it asks for: the packets that lead to its function, with the request for a job of it.
-pub fn obey<L: Sink, P: PoolPort, J>(
-    worker: &Worker<'_, J>,
+pub fn obey<L: Sink, P: PoolPort>(
+    worker: &Worker<'_>,
     link: &mut L,
     port: &mut P,
     registered: &mut Option<u32>,
 ) -> Result<(), EndCause>
     requires { (L.output link.old).failures < 2 ^ 64 - 1 }
-    ensures obeys { (duty : Duty) (before : Option (List ℕ)) (bytes : List ℕ) (done : List AssignedJob) (tally : Tally) →
+    ensures obeys { (duty : Duty) (before : Option (List ℕ)) (bytes : List ℕ) (done : List Telling) (tally : Tally) →
         duty.functions ≡ worker.now.place.settings.now.functions → (L.output link.old).got ≡ and_then before bytes
         → Wrote duty bytes (known duty.functions registered.old) done → Even tally (P.book port.old) (length done) →
         (more : List ℕ) × ((L.output link.new).got ≡ and_then before more)
         × GoesOnOrEnds (Wrote duty more (known duty.functions registered.new) done × Even tally (P.book port.new) (length done))
-        (Ends duty more done tally (P.book port.new)) result }
+        (Ends duty more done (jobs_of done) tally (P.book port.new)) result }
     ensures follows { Follows worker.now (scene registered.old (L.output link.old).got (P.book port.old))
         (scene registered.new (L.output link.new).got (P.book port.new)) result }
     ensures there { OnOk result (IfSome registered.new (λ f. f < length worker.now.place.settings.now.functions)) }

@@ -1,25 +1,26 @@
 //! A whole session: from its worker's name to its end.
 
-ghost use Rattle.std.specs.Prelude.{◌≡◌, ◌+◌, ◌-◌, ◌<◌, ◌≤◌, ◌^◌, [], ℕ, List, length, IfErr, IfOk, OnOk, Option, string_bytes};
+ghost use Rattle.std.specs.Prelude.{◌≡◌, ◌≢◌, ◌+◌, ◌-◌, ◌<◌, ◌≤◌, ◌^◌, [], ℕ, List, length, IfErr, IfOk, OnOk, Option, string_bytes};
 ghost use Rattle.gear_packets.specs.Request.{set_client_id};
 ghost use Rattle.byte_io.specs.Sides.{and_then};
 ghost use Rattle.pool_settings.specs.Slots.{slots, worker_text};
-ghost use Rattle.job_runner.specs.Told.{Told};
+ghost use Rattle.job_runner.specs.Told.{Telling, AreTold, IsTold};
 ghost use Rattle.job_runner.specs.Book.{no_calls};
 ghost use Rattle.job_runner.specs.Course.{GoesOnOrEnds, IsAccepted, PortReason, session_of};
-ghost use Rattle.job_runner.specs.Run.{Acts, ReadReason, Reason, Served, seen_link, LinkKept};
+ghost use Rattle.job_runner.specs.Run.{Acts, EndTold, ReadReason, Reason, Served, ServedBy, seen_link, LinkKept};
 ghost use Rattle.job_runner.specs.Acting.{moment, Begins};
-ghost use Rattle.job_runner.specs.Loop.{first_state, duty_of, session_in, Stands, Halts};
+ghost use Rattle.job_runner.specs.Loop.{first_state, duty_in, duty_of, session_in, Stands, Halts};
 
 use crate::answering::Tally;
 use crate::end::{EndCause, SessionEnd};
+use crate::jobs::Jobs;
 use crate::listen::{Heard, hear};
 use crate::messages::{act, glance};
 use crate::order::Phase;
 use crate::port::PoolPort;
 use crate::sending::send;
 use crate::state::{State, follow};
-use crate::table::Jobs;
+use crate::table::NamedJobs;
 use crate::worker::{Worker, Workplace};
 use byte_io::{Sink, Source};
 use gear_packets::{Reader, Request, says_its_packets};
@@ -28,7 +29,7 @@ use pool_settings::Settings;
 use std::alloc::{AllocError, Global};
 
 /// The name by which the server's lists show a worker.
-fn spell_worker<J>(worker: &Worker<'_, J>) -> Result<String, AllocError>
+fn spell_worker(worker: &Worker<'_>) -> Result<String, AllocError>
     requires slot { worker.now.pass.now.slot < slots worker.now.place.settings.now }
     ensures text { IfOk result (λ text. string_bytes text
         ≡ worker_text worker.now.place.settings.now worker.now.pass.now.slot worker.now.pass.now.generation) }
@@ -43,8 +44,8 @@ fn spell_worker<J>(worker: &Worker<'_, J>) -> Result<String, AllocError>
 }
 
 /// Gives the worker's name, and obeys the first order.
-fn begin<L: Sink, P: PoolPort, J>(
-    worker: &Worker<'_, J>,
+fn begin<L: Sink, P: PoolPort>(
+    worker: &Worker<'_>,
     link: &mut L,
     port: &mut P,
     state: &mut State,
@@ -53,9 +54,8 @@ fn begin<L: Sink, P: PoolPort, J>(
     requires link { (L.output link.old).failures < 2 ^ 64 - 1 }
     requires first { state.old ≡ first_state }
     requires fresh { P.book port.old ≡ no_calls }
-    ensures acts { (told : List ℕ → List ℕ → Option Told) →
-        (more : List ℕ) × ((L.output link.new).got ≡ and_then (L.output link.old).got more)
-        × Acts (duty_of told worker.now.place.settings.now worker.now.pass.now) more [] state.new (P.book port.new) result }
+    ensures acts { (more : List ℕ) × ((L.output link.new).got ≡ and_then (L.output link.old).got more)
+        × Acts (duty_in worker.now) more [] [] state.new (P.book port.new) result }
     ensures begins { Begins worker.now
         (worker_text worker.now.place.settings.now worker.now.pass.now.slot worker.now.pass.now.generation)
         (moment state.old (L.output link.old).got (P.book port.old)) (moment state.new (L.output link.new).got (P.book port.new)) result }
@@ -78,27 +78,33 @@ fn begin<L: Sink, P: PoolPort, J>(
 
 /// Acts on each message that was read, and then on the fault at which the stream ended.
 fn drain<L: Sink, P: PoolPort, J: Jobs>(
-    worker: &Worker<'_, J>,
+    worker: &Worker<'_>,
     link: &mut L,
     port: &mut P,
+    jobs: &mut J,
     reader: &mut Reader,
     state: &mut State,
 ) -> Result<(), EndCause>
     requires link { (L.output link.old).failures < 2 ^ 64 - 1 }
-    requires stands { (before : Option (List ℕ)) × (read : List ℕ) × (length read < 2 ^ 60)
-        × Stands (session_in J.told worker.now before read) (L.output link.old).got reader.old state.old (P.book port.old) }
-    ensures leaves { (before : Option (List ℕ)) (read : List ℕ)
-        → Stands (session_in J.told worker.now before read) (L.output link.old).got reader.old state.old (P.book port.old)
-        → GoesOnOrEnds (Stands (session_in J.told worker.now before read) (L.output link.new).got reader.new state.new (P.book port.new))
-        (Halts (session_in J.told worker.now before read) (L.output link.new).got state.new.tally (P.book port.new)) result }
-    ensures reason { (before : Option (List ℕ)) (read : List ℕ)
-        → Stands (session_in J.told worker.now before read) (L.output link.old).got reader.old state.old (P.book port.old)
-        → IfErr result (ReadReason (session_in J.told worker.now before read) state.new.tally (P.book port.new)) }
+    requires stands { (first : J) × (before : Option (List ℕ)) × (read : List ℕ) × (length read < 2 ^ 60)
+        × Stands (session_in worker.now before read) (AreTold J.tells first jobs.old)
+        (L.output link.old).got reader.old state.old (P.book port.old) }
+    ensures leaves { (first : J) (before : Option (List ℕ)) (read : List ℕ)
+        → Stands (session_in worker.now before read) (AreTold J.tells first jobs.old)
+        (L.output link.old).got reader.old state.old (P.book port.old)
+        → GoesOnOrEnds (Stands (session_in worker.now before read) (AreTold J.tells first jobs.new)
+        (L.output link.new).got reader.new state.new (P.book port.new))
+        (Halts (session_in worker.now before read) (EndTold J.tells J.fails first jobs.new)
+        (L.output link.new).got state.new.tally (P.book port.new)) result }
+    ensures reason { (first : J) (before : Option (List ℕ)) (read : List ℕ)
+        → Stands (session_in worker.now before read) (AreTold J.tells first jobs.old)
+        (L.output link.old).got reader.old state.old (P.book port.old)
+        → IfErr result (ReadReason (session_in worker.now before read) state.new.tally (P.book port.new)) }
     ensures link { LinkKept (seen_link L.input L.output link.old) (seen_link L.input L.output link.new) result }
     ensures losses { (P.book port.new).losses ≡ (P.book port.old).losses }
 {
     while let Some(message) = reader.next() {
-        match act(worker, link, port, state, message) {
+        match act(worker, link, port, jobs, state, message) {
             Ok(()) => {}
             Err(cause) => return Err(cause),
         }
@@ -109,9 +115,9 @@ fn drain<L: Sink, P: PoolPort, J: Jobs>(
     }
 }
 
-/// One read of the link, and what it brings.
-fn turn<L: Source + Sink, P: PoolPort, J: Jobs>(
-    worker: &Worker<'_, J>,
+/// One read of the link, once all that was read is acted on. If nothing comes it looks at the order.
+fn listen<L: Source + Sink, P: PoolPort>(
+    worker: &Worker<'_>,
     link: &mut L,
     port: &mut P,
     reader: &mut Reader,
@@ -121,24 +127,20 @@ fn turn<L: Source + Sink, P: PoolPort, J: Jobs>(
     requires output { (L.output link.old).failures < 2 ^ 64 - 1 }
     requires input { (L.input link.old).failures < 2 ^ 64 - 1 }
     requires room { length buffer.old ≡ 4096 }
-    requires stands { (before start : Option (List ℕ)) × (read : List ℕ)
-        × ((L.input link.old).given ≡ and_then start read) × (length read < 2 ^ 59)
-        × Stands (session_in J.told worker.now before read) (L.output link.old).got reader.old state.old (P.book port.old) }
-    ensures turns { (before start : Option (List ℕ)) (read : List ℕ) → (L.input link.old).given ≡ and_then start read
-        → Stands (session_in J.told worker.now before read) (L.output link.old).got reader.old state.old (P.book port.old)
+    ensures listens { (told : List Telling) (before start : Option (List ℕ)) (read : List ℕ)
+        → (L.input link.old).given ≡ and_then start read
+        → Stands (session_in worker.now before read) (IsTold told) (L.output link.old).got reader.old state.old (P.book port.old)
         → (more : List ℕ) × ((L.input link.new).given ≡ and_then start more) × (length more ≤ length read + 4096)
-        × GoesOnOrEnds (Stands (session_in J.told worker.now before more) (L.output link.new).got reader.new state.new (P.book port.new))
-        (λ cause. Halts (session_in J.told worker.now before more) (L.output link.new).got state.new.tally (P.book port.new) cause
-        × Reason (session_in J.told worker.now before more)
+        × GoesOnOrEnds (Stands (session_in worker.now before more) (IsTold told)
+        (L.output link.new).got reader.new state.new (P.book port.new))
+        (λ cause. Halts (session_in worker.now before more) (λ reason tellings. IsTold told tellings × (reason ≢ EndCause.Unserved))
+        (L.output link.new).got state.new.tally (P.book port.new) cause
+        × Reason (session_in worker.now before more)
         (seen_link L.input L.output link.old) (seen_link L.input L.output link.new) state.new.tally (P.book port.new) cause) result }
     ensures no_read_failure { OnOk result ((L.input link.new).failures ≡ (L.input link.old).failures) }
     ensures no_failure { OnOk result ((L.output link.new).failures ≡ (L.output link.old).failures) }
     ensures losses { (P.book port.new).losses ≡ (P.book port.old).losses }
 {
-    match drain(worker, link, port, reader, state) {
-        Ok(()) => {}
-        Err(cause) => return Err(cause),
-    }
     match hear(link, reader, buffer) {
         Ok(Heard::Piece) => Ok(()),
         Ok(Heard::Lull) => glance(worker, link, port, state),
@@ -148,9 +150,10 @@ fn turn<L: Source + Sink, P: PoolPort, J: Jobs>(
 
 /// Goes through a session, to its end.
 fn serve<L: Source + Sink, P: PoolPort, J: Jobs>(
-    worker: &Worker<'_, J>,
+    worker: &Worker<'_>,
     link: &mut L,
     port: &mut P,
+    jobs: &mut J,
     state: &mut State,
 ) -> EndCause
     requires slot { worker.now.pass.now.slot < slots worker.now.place.settings.now }
@@ -159,9 +162,9 @@ fn serve<L: Source + Sink, P: PoolPort, J: Jobs>(
     requires first { state.old ≡ first_state }
     requires fresh { P.book port.old ≡ no_calls }
     ensures ran { (read : List ℕ) × ((L.input link.new).given ≡ and_then (L.input link.old).given read)
-        × (Halts (session_in J.told worker.now (L.output link.old).got read)
+        × (Halts (session_in worker.now (L.output link.old).got read) (EndTold J.tells J.fails jobs.old jobs.new)
         (L.output link.new).got state.new.tally (P.book port.new) result
-        × Reason (session_in J.told worker.now (L.output link.old).got read)
+        × Reason (session_in worker.now (L.output link.old).got read)
         (seen_link L.input L.output link.old) (seen_link L.input L.output link.new) state.new.tally (P.book port.new) result) }
     ensures losses { (P.book port.new).losses ≡ 0 }
 {
@@ -174,12 +177,16 @@ fn serve<L: Source + Sink, P: PoolPort, J: Jobs>(
     let turns = worker.place.turns;
     let mut made = 0;
     while made < turns {
-        match turn(worker, link, port, &mut reader, state, &mut buffer) {
+        match drain(worker, link, port, jobs, &mut reader, state) {
+            Ok(()) => {}
+            Err(cause) => return cause,
+        }
+        match listen(worker, link, port, &mut reader, state, &mut buffer) {
             Ok(()) => made += 1,
             Err(cause) => return cause,
         }
     }
-    match drain(worker, link, port, &mut reader, state) {
+    match drain(worker, link, port, jobs, &mut reader, state) {
         Ok(()) => EndCause::TurnsUsed,
         Err(cause) => cause,
     }
@@ -188,21 +195,24 @@ fn serve<L: Source + Sink, P: PoolPort, J: Jobs>(
 /// A worker's session at its place over a link, to its end: it takes jobs, runs them and answers them, as the pool orders.
 ///
 /// The port has not been called before, the pass is of a slot that the settings have, and the link has failed less than 2^64 - 1 times
-/// on each side. A session of no turns ends as `TurnsUsed` once it has given its name and obeyed its first order.
+/// on each side. A session of no turns ends as `TurnsUsed` once it has given its name and obeyed its first order. A job that is not done is
+/// not answered, and the session ends as `Unserved` or `Memory`.
 pub fn serve_worker<L: Source + Sink, P: PoolPort, J: Jobs>(
-    place: Workplace<'_, J>,
+    place: Workplace<'_>,
     pass: Pass,
     link: &mut L,
     port: &mut P,
+    jobs: &mut J,
 ) -> SessionEnd
     requires slot { pass.slot < slots place.settings.now }
     requires output { (L.output link.old).failures < 2 ^ 64 - 1 }
     requires input { (L.input link.old).failures < 2 ^ 64 - 1 }
     requires fresh { P.book port.old ≡ no_calls }
-    ensures served { (read bytes : List ℕ)
+    ensures served { (read bytes : List ℕ) × (told : List Telling)
         × ((L.input link.new).given ≡ and_then (L.input link.old).given read)
         × ((L.output link.new).got ≡ and_then (L.output link.old).got bytes)
-        × Served (session_of (duty_of (J.told place.entry.jobs.now) place.entry.settings.now pass) (L.output link.old).got read) bytes
+        × EndTold J.tells J.fails jobs.old jobs.new result.cause told
+        × Served (session_of (duty_of place.entry.settings.now pass) (L.output link.old).got read) told bytes
         (seen_link L.input L.output link.old) (seen_link L.input L.output link.new) (P.book port.new) result }
 {
     let mut state = State {
@@ -216,7 +226,7 @@ pub fn serve_worker<L: Source + Sink, P: PoolPort, J: Jobs>(
     };
     says_its_packets();
     let worker = Worker { place, pass: &pass };
-    let cause = serve(&worker, link, port, &mut state);
+    let cause = serve(&worker, link, port, jobs, &mut state);
     match cause.loss() {
         Some(loss) => port.lose(pass, loss),
         None => drop(pass),
@@ -229,8 +239,8 @@ pub fn serve_worker<L: Source + Sink, P: PoolPort, J: Jobs>(
     }
 }
 
-/// [`serve_worker`] with the parts of the place one by one.
-pub fn run_session<L: Source + Sink, P: PoolPort, J: Jobs>(
+/// [`serve_worker`] for jobs by name, with the parts of the place one by one.
+pub fn run_session<L: Source + Sink, P: PoolPort, J: NamedJobs>(
     alloc: Global,
     link: &mut L,
     port: &mut P,
@@ -246,14 +256,14 @@ pub fn run_session<L: Source + Sink, P: PoolPort, J: Jobs>(
     ensures served { (read bytes : List ℕ)
         × ((L.input link.new).given ≡ and_then (L.input link.old).given read)
         × ((L.output link.new).got ≡ and_then (L.output link.old).got bytes)
-        × Served (session_of (duty_of (J.told jobs.now) settings.now pass) (L.output link.old).got read) bytes
+        × ServedBy (J.told jobs.now) (session_of (duty_of settings.now pass) (L.output link.old).got read) bytes
         (seen_link L.input L.output link.old) (seen_link L.input L.output link.new) (P.book port.new) result }
 {
     let place = Workplace {
         alloc,
-        jobs,
         settings,
         turns,
     };
-    serve_worker(place, pass, link, port)
+    let mut jobs = jobs;
+    serve_worker(place, pass, link, port, &mut jobs)
 }

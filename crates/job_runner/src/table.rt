@@ -15,8 +15,8 @@ use std::alloc::{AllocError, Global};
 use std::cmp::Ordering;
 use thiserror::Error;
 
-/// Jobs by name, each with a stated meaning.
-pub trait Jobs {
+/// Jobs by name, each with a stated meaning. Many sessions may run them at once.
+pub trait NamedJobs {
     /// What the job of a name reports for an input, and none if there is no such name.
     ghost told: { Self → List ℕ → List ℕ → Option Told };
 
@@ -66,7 +66,7 @@ fn rise<J>(jobs: &[(Vec<u8>, J)]) -> bool
 impl<J: Job> JobTable<J> {
     /// A table of these jobs. It is refused exactly if two have one name, and takes no memory.
     pub fn new(mut jobs: Vec<(Vec<u8>, J)>) -> Result<JobTable<J>, TwiceNamed>
-        ensures same { IfOk result (λ table. (name input : List ℕ) → ⟦<JobTable<J> as Jobs>⟧.told table name input
+        ensures same { IfOk result (λ table. (name input : List ℕ) → ⟦<JobTable<J> as NamedJobs>⟧.told table name input
             ≡ told_by (λ entry. entry.0.items) (λ entry. J.meaning entry.1) jobs.items name input) }
         ensures refused { is_err result ≡ is_named_twice (λ entry. entry.0.items) jobs.items }
     {
@@ -90,7 +90,7 @@ impl<J> JobTable<J> {
     }
 }
 
-impl<J: Job> Jobs for JobTable<J> {
+impl<J: Job> NamedJobs for JobTable<J> {
     ghost use Rattle.job_runner.specs.Table.{told_by};
 
     ghost told = { λ table. told_by (λ entry. entry.0.items) (λ entry. J.meaning entry.1) table.jobs.items };

@@ -6,11 +6,9 @@ use std::alloc::Global;
 
 /// What the sessions of a pool work with: the same for each of its workers.
 #[derive(Clone, Copy)]
-pub struct Workplace<'w, J> {
+pub struct Workplace<'w> {
     /// Where memory comes from.
     pub alloc: Global,
-    /// The jobs that workers can do.
-    pub jobs: &'w J,
     /// The settings of the pool, whose functions its orders name by number.
     pub settings: &'w Settings,
     /// How many reads a session may make.
@@ -19,9 +17,9 @@ pub struct Workplace<'w, J> {
 
 /// A worker in its session: what goes unchanged from the first step to the last.
 #[derive(Clone, Copy)]
-pub struct Worker<'w, J> {
+pub struct Worker<'w> {
     /// What it works with.
-    pub place: Workplace<'w, J>,
+    pub place: Workplace<'w>,
     /// Its right to speak at the port.
     pub pass: &'w Pass,
 }

@@ -4,7 +4,7 @@
 mod jobs;
 
 use devices::{InputSource, OutputSink, read_file, read_whole};
-use job_runner::{End, Job, JobTable, Jobs};
+use job_runner::{End, Job, JobTable, NamedJobs};
 use jobs::{Lines, Whole};
 use run_command::{Host, System, run_jobs};
 use std::alloc::AllocError;

@@ -8,7 +8,7 @@ pub fn workers_read_back()
     ensures { AreWorkersReadBack }
 {}
 
-/// A law: the name of each cause is read as that cause.
+/// A law: the name of each cause is read as that cause, but that of `Unserved`, which is read as none.
 pub fn causes_read_back()
     ensures { AreCausesReadBack }
 {}

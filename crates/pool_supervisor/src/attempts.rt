@@ -17,7 +17,7 @@ use crate::queue::Queue;
 use crate::run::RunEnd;
 use crate::session::{Enrolled, Site};
 use byte_io::{Sink, Source};
-use job_runner::Jobs;
+use job_runner::NamedJobs;
 use order_board::{PublisherSeat, SeatSource};
 use plan_model::SlotId;
 use pool_core::{Chapter, Pass};
@@ -120,7 +120,7 @@ impl<
     L: Source + Sink + Send + Drop,
     Y: Dial<L> + Drop,
     P: Planner,
-    J: Jobs + Sync,
+    J: NamedJobs + Sync,
     C: Watch + Progress + Sync,
     R: Threads + Wait + Sync,
 > Supervisor<'e, N, L, Y, P, J, C, R> {

@@ -15,7 +15,7 @@ use crate::port::Watch;
 use crate::run::RunEnd;
 use crate::session::{Enrolled, Papers, Returned, Site, run_worker};
 use byte_io::{Sink, Source};
-use job_runner::Jobs;
+use job_runner::NamedJobs;
 use order_board::SeatSource;
 use std::alloc::{AllocError, Global};
 use std::marker::Model;
@@ -254,7 +254,13 @@ impl<N: RunId, L: Source + Sink> Crew<N, L> {
     }
 }
 
-impl<'e, N: RunId, J: Jobs + Sync, C: Watch + Sync, R: Threads + Wait + Sync> Site<'e, N, J, C, R> {
+impl<'e, N: RunId, J: NamedJobs + Sync, C: Watch + Sync, R: Threads + Wait + Sync> Site<
+    'e,
+    N,
+    J,
+    C,
+    R,
+> {
     /// Starts a session of the crew in a thread of its own. At `Err` no thread could be started, and the crew's sums are lost.
     pub fn start<'s, L: Source + Sink + Send + Drop + 's>(
         self,

@@ -4,7 +4,7 @@ ghost use Rattle.std.specs.Prelude.{◌<◌};
 use job_runner::EndCause;
 
 /// How many causes there are for which a session ends.
-const CAUSES: usize = 11;
+const CAUSES: usize = 12;
 
 /// All causes, in the order of their counts.
 const ALL: [EndCause; CAUSES] = [
@@ -19,6 +19,7 @@ const ALL: [EndCause; CAUSES] = [
     EndCause::HistoryFull,
     EndCause::Closed,
     EndCause::Stopped,
+    EndCause::Unserved,
 ];
 
 /// How many sessions ended for each cause.
@@ -29,7 +30,7 @@ pub struct EndCounts {
 
 /// The place of a cause's count.
 fn place_of(cause: EndCause) -> usize
-    ensures { result < 11 }
+    ensures { result < 12 }
 {
     match cause {
         EndCause::Retired => 0,
@@ -43,6 +44,7 @@ fn place_of(cause: EndCause) -> usize
         EndCause::HistoryFull => 8,
         EndCause::Closed => 9,
         EndCause::Stopped => 10,
+        EndCause::Unserved => 11,
     }
 }
 

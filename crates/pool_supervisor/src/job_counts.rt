@@ -11,8 +11,8 @@ pub struct JobCounts {
     pub completed: u64,
     /// Jobs that were answered with a failure, and booked so.
     pub failed: u64,
-    /// Jobs that the pool did not book, for example because its history is full. The session ends, and the server gives the job to another worker. The
-    /// count stays at the greatest number that it can hold.
+    /// Jobs that the pool did not book, for example because its history is full. The session ends, and the server gives the job to another
+    /// worker. The count stays at the greatest number that it can hold.
     pub given_back: u64,
 }
 

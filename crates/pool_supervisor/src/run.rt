@@ -20,7 +20,7 @@ use crate::port::Watch;
 use crate::session::{Lent, Site};
 use crate::shared::Shared;
 use byte_io::{Sink, Source};
-use job_runner::Jobs;
+use job_runner::NamedJobs;
 use order_board::Board;
 use plan_model::FuncId;
 use pool_core::{Pool, Totals};
@@ -87,7 +87,7 @@ impl<'e, L: Source + Sink + Send + Drop, Y: Dial<L> + Drop, P: Planner> Tools<'e
     /// The run of this name.
     fn run<
         N: RunId + Send + Sync,
-        J: Jobs + Sync,
+        J: NamedJobs + Sync,
         C: Watch + Progress + Sync,
         R: Threads + Wait + Sync,
     >(
@@ -179,7 +179,7 @@ pub fn run_pool<
     L: Source + Sink + Send + Drop,
     Y: Dial<L> + Drop,
     P: Planner,
-    J: Jobs + Sync,
+    J: NamedJobs + Sync,
     C: Watch + Progress + Sync,
     R: Threads + Wait + Sync,
 >(
@@ -217,7 +217,7 @@ pub fn run_pool<
 }
 
 /// Reports each function of the settings that no job serves.
-fn report_lacking<C: Progress, J: Jobs>(watch: &C, jobs: &J, settings: &Settings) {
+fn report_lacking<C: Progress, J: NamedJobs>(watch: &C, jobs: &J, settings: &Settings) {
     for number in 0..settings.functions() {
         let function = FuncId::new(number);
         if !jobs.serves(settings.function_name(function).as_bytes()) {

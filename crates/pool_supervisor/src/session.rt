@@ -4,7 +4,7 @@ ghost use Rattle.byte_io.specs.Sides.{and_then};
 ghost use Rattle.job_runner.specs.Book.{Ledger};
 ghost use Rattle.job_runner.specs.Loop.{duty_of};
 ghost use Rattle.job_runner.specs.Course.{session_of};
-ghost use Rattle.job_runner.specs.Run.{Served};
+ghost use Rattle.job_runner.specs.Run.{ServedBy};
 ghost use Rattle.pool_settings.specs.Slots.{slots};
 ghost use Rattle.pool_supervisor.specs.JobCounts.{answered};
 
@@ -13,7 +13,7 @@ use crate::place::{Grabs, Place, Reports, RunBoard, RunId};
 use crate::port::{SharedPort, Watch};
 use crate::shared::Shared;
 use byte_io::{Sink, Source};
-use job_runner::{Jobs, SessionEnd, run_session};
+use job_runner::{NamedJobs, SessionEnd, run_session};
 use pool_core::Pass;
 use std::alloc::{AllocError, Global};
 use std::sync::Wait;
@@ -124,7 +124,7 @@ pub struct Returned<N: RunId> {
 
 /// A worker's session over the shared pool, to its end. It promises of what it reads and writes what [`run_session`] does. The
 /// shares begin at 0 and come back at the counts of its end, so the pool has booked just what the session reports.
-pub fn run_worker<N: RunId, L: Source + Sink, J: Jobs, C: Watch, R: Wait>(
+pub fn run_worker<N: RunId, L: Source + Sink, J: NamedJobs, C: Watch, R: Wait>(
     site: &Site<'_, N, J, C, R>,
     link: &mut L,
     papers: Papers<N>,
@@ -135,8 +135,8 @@ pub fn run_worker<N: RunId, L: Source + Sink, J: Jobs, C: Watch, R: Wait>(
     ensures served { (read bytes : List ℕ) × (book : Ledger)
         × ((L.input link.new).given ≡ and_then (L.input link.old).given read)
         × ((L.output link.new).got ≡ and_then (L.output link.old).got bytes)
-        × Served (session_of (duty_of (J.told site.now.lent.jobs.now) site.now.run.settings.now papers.worker.pass)
-        (L.output link.old).got read) bytes
+        × ServedBy (J.told site.now.lent.jobs.now)
+        (session_of (duty_of site.now.run.settings.now papers.worker.pass) (L.output link.old).got read) bytes
         (record { input = L.input link.old; output = L.output link.old })
         (record { input = L.input link.new; output = L.output link.new })
         book result.end }

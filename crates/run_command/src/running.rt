@@ -8,7 +8,7 @@ ghost use Rattle.run_command.specs.Run as spec;
 use crate::host::{Host, Route};
 use crate::text::{run_text, status_after};
 use byte_io::Sink;
-use job_runner::Jobs;
+use job_runner::NamedJobs;
 use plan_commands::{Exit, Fault, deliver, read_settings};
 use pool_settings::Settings;
 use pool_supervisor::{ArenaPlanner, RunEnd, run_pool};
@@ -16,7 +16,7 @@ use std::alloc::{AllocError, Global};
 use stock_jobs::stock_jobs;
 
 /// Runs the pool with these jobs.
-fn run_with<H: Host, J: Jobs + Sync>(
+fn run_with<H: Host, J: NamedJobs + Sync>(
     host: &H,
     alloc: Global,
     jobs: &J,
@@ -45,7 +45,7 @@ struct Told {
 }
 
 /// Runs the pool of these settings.
-fn run_told<H: Host, J: Jobs + Sync>(
+fn run_told<H: Host, J: NamedJobs + Sync>(
     host: &H,
     alloc: Global,
     jobs: &J,
@@ -74,7 +74,7 @@ fn run_told<H: Host, J: Jobs + Sync>(
 /// only if the sink failed, a prefix of the text was written and not all of it, and after any other fault nothing.
 ///
 /// It returns once all sessions have ended, so it waits for jobs that are running.
-pub fn run_jobs<H: Host, J: Jobs + Sync, S: Sink>(
+pub fn run_jobs<H: Host, J: NamedJobs + Sync, S: Sink>(
     host: &H,
     alloc: Global,
     jobs: &J,

@@ -66,6 +66,7 @@ fn reason(cause: EndCause) -> &'static str {
         EndCause::HistoryFull => "the history has no room for another job",
         EndCause::Closed => "the server closed the connection",
         EndCause::Stopped => "the run is over",
+        EndCause::Unserved => "a job was not served",
     }
 }
 

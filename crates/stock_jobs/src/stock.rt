@@ -5,7 +5,7 @@ ghost use Rattle.std.specs.List.{list_any};
 ghost use Rattle.std.specs.Str.{bytes_eq};
 ghost use Rattle.stock_jobs.specs.Stock as spec;
 
-use job_runner::{End, Job, JobTable, Jobs, Outcome};
+use job_runner::{End, Job, JobTable, NamedJobs, Outcome};
 use std::alloc::{AllocError, Global};
 
 /// A job that the program's workers can do. Each says nothing before its end, and always completes.
@@ -88,7 +88,7 @@ fn named(alloc: Global, job: StockJob) -> Result<(Vec<u8>, StockJob), AllocError
 
 /// The three jobs by name. The only error is out of memory.
 pub fn stock_jobs(alloc: Global) -> Result<JobTable<StockJob>, AllocError>
-    ensures { IfOk result (λ table. (name input : List ℕ) → ⟦<JobTable<StockJob> as Jobs>⟧.told table name input
+    ensures { IfOk result (λ table. (name input : List ℕ) → ⟦<JobTable<StockJob> as NamedJobs>⟧.told table name input
         ≡ spec.told_by_name name input) }
 {
     let mut jobs = Vec::new(alloc);

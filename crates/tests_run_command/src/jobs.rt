@@ -1,6 +1,6 @@
 //! The stock jobs, by their names.
 
-use job_runner::{End, Jobs};
+use job_runner::{End, NamedJobs};
 use run_command::stock_jobs;
 use std::alloc::{AllocError, Global};
 

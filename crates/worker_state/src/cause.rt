@@ -28,9 +28,12 @@ pub enum Cause {
     Stopped,
     /// Its job took longer than a job may take.
     Late,
+    /// What does its jobs did not take one, or did not say how it ended.
+    Unserved,
 }
 
-const CAUSES: [Cause; 10] = [
+/// The causes that a text may name.
+const NAMED: [Cause; 10] = [
     Cause::BadPacket,
     Cause::ServerError,
     Cause::ReadFault,
@@ -44,11 +47,11 @@ const CAUSES: [Cause; 10] = [
 ];
 
 impl Cause {
-    /// The cause of that name, if there is one.
+    /// The cause that a text means by this name. No text may name [`Unserved`](Cause::Unserved).
     pub fn named(name: &[u8]) -> Option<Cause>
         ensures { result ≡ cause_named name.now }
     {
-        CAUSES
+        NAMED
             .iter()
             .find(|cause| cause.label().name().as_bytes() == name)
             .copied()
@@ -73,6 +76,7 @@ impl Labelled for Cause {
             Cause::Closed => Label::new(10, "Closed"),
             Cause::Stopped => Label::new(11, "Stopped"),
             Cause::Late => Label::new(12, "Late"),
+            Cause::Unserved => Label::new(13, "Unserved"),
         }
     }
 }

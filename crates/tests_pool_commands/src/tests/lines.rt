@@ -125,7 +125,7 @@ fn a_loss(rt: HostRuntime) -> Result<(), Fail> {
     Ok(())
 }
 
-/// The names of all causes, with their numbers.
+/// The names of the causes that a line may name, with their numbers.
 const CAUSES: [(&str, u32); 10] = [
     ("BadPacket", 3),
     ("ServerError", 4),
@@ -212,7 +212,7 @@ fn words_and_spaces(rt: HostRuntime) -> Result<(), Fail> {
 
 #[test]
 fn other_words(rt: HostRuntime) -> Result<(), Fail> {
-    let lines: [&[u8]; 12] = [
+    let lines: [&[u8]; 13] = [
         b"Round",
         b"chapters",
         b"chapter x",
@@ -223,6 +223,7 @@ fn other_words(rt: HostRuntime) -> Result<(), Fail> {
         b"load x 1",
         b"report a/0#1 1 done",
         b"lose a/0#1 Gone",
+        b"lose a/0#1 Unserved",
         b"grab a/0#1 H x 1 1",
         b"grab a/0#1 H\0 x 1",
     ];

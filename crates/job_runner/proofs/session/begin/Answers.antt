@@ -11,16 +11,16 @@ use Rattle.job_runner.proofs.Opening.{introduced, not_introduced}
 use Rattle.job_runner.proofs.session.begin.Goals as goal
 
 pub returns-in_default-clause-acts : goal.returns-in_default-clause-acts
-returns-in_default-clause-acts g c = λ told.
-    let duty = duty_of told c.args.worker.now.place.settings.now c.args.worker.now.pass.now in
+returns-in_default-clause-acts g c =
+    let duty = duty_of c.args.worker.now.place.settings.now c.args.worker.now.pass.now in
     let old = (g.L.Device.output c.args.link.now).got in
     let book = g.P.PoolPort.book c.args.port.now in
-    subst (λ (s : State). (x : List ℕ) × (old ≡ and_then old x) × Ends duty x [] s.tally book Memory) (sym c.requires.first)
+    subst (λ (s : State). (x : List ℕ) × (old ≡ and_then old x) × Ends duty x [] [] s.tally book Memory) (sym c.requires.first)
     (not_introduced duty old old book Memory refl c.requires.fresh)
 
 pub returns-in-Ok-send-clause-acts : goal.returns-in-Ok-send-clause-acts
-returns-in-Ok-send-clause-acts g c = λ told.
-    let duty = duty_of told c.args.worker.now.place.settings.now c.args.worker.now.pass.now in
+returns-in-Ok-send-clause-acts g c =
+    let duty = duty_of c.args.worker.now.place.settings.now c.args.worker.now.pass.now in
     let old = (g.L.Device.output c.args.link.now).got in
     let new = (g.L.Device.output c.send.new.link).got in
     let book = g.P.PoolPort.book c.args.port.now in
@@ -30,14 +30,14 @@ returns-in-Ok-send-clause-acts g c = λ told.
     c.follow.ensures.acts duty old text [] refl start.0 (subst (λ (s : State). AreAnswered duty text [] s book) (sym c.requires.first) start.1)
 
 pub returns-clause-acts : goal.returns-clause-acts
-returns-clause-acts g c = λ told.
-    let duty = duty_of told c.args.worker.now.place.settings.now c.args.worker.now.pass.now in
+returns-clause-acts g c =
+    let duty = duty_of c.args.worker.now.place.settings.now c.args.worker.now.pass.now in
     let old = (g.L.Device.output c.args.link.now).got in
     let new = (g.L.Device.output c.send.new.link).got in
     let book = g.P.PoolPort.book c.args.port.now in
     let cause = c.in-Err.cause in
     let named = c.as_bytes.ensures.value ∙ c.in-Ok.ensures.text in
-    subst (λ (s : State). (x : List ℕ) × (new ≡ and_then old x) × Ends duty x [] s.tally book cause) (sym c.requires.first)
+    subst (λ (s : State). (x : List ℕ) × (new ≡ and_then old x) × Ends duty x [] [] s.tally book cause) (sym c.requires.first)
     (not_introduced duty old new book cause (subst (λ (t : List ℕ). Sends old new (set_client_id t ∷ []) (Err cause)) named c.in-Err.ensures.sends) c.requires.fresh)
 
 pub send-requires-clause-accepted : goal.send-requires-clause-accepted

@@ -5,7 +5,7 @@ use Rattle.job_runner.proofs.Names.{worker_accepted}
 use Rattle.job_runner.proofs.session.spell_worker.Goals as goal
 
 pub returns-clause-accepted : goal.returns-clause-accepted
-returns-clause-accepted g c =
+returns-clause-accepted c =
     let settings = c.args.worker.now.place.settings.now in
     let worker = c.args.worker.now.pass.now in
     let valid = c.worker_text.ensures.valid in

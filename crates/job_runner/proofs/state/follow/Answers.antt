@@ -1,4 +1,4 @@
-use Rattle.std.proofs.Common.{ℕ, length, sym, ap, subst}
+use Rattle.std.proofs.Common.{ℕ, length, refl, sym, ap, subst}
 use Rattle.job_runner.specs.Course.{IsServing}
 use Rattle.job_runner.specs.Following.{phase_with}
 use Rattle.job_runner.specs.declared.order.Phase.{Phase}
@@ -12,12 +12,15 @@ returns-in-Ok-clause-acts g c = λ duty before bytes done fs at holds.
     let registered = c.obey.new.registered in (
       obeyed.0,
       obeyed.1,
-      record {
-        wrote = obeyed.2.0;
-        even = obeyed.2.1;
-        serving = subst (λ (p : Phase). IsServing (length duty.functions) p registered) (sym c.phase_with-state.ensures)
-            (subst (λ (n : ℕ). IsServing n (phase_with registered) registered) (sym count) (serves_with _ registered c.in-Ok.ensures.there));
-      },
+      (
+        record {
+          wrote = obeyed.2.0;
+          even = obeyed.2.1;
+          serving = subst (λ (p : Phase). IsServing (length duty.functions) p registered) (sym c.phase_with-state.ensures)
+              (subst (λ (n : ℕ). IsServing n (phase_with registered) registered) (sym count) (serves_with _ registered c.in-Ok.ensures.there));
+        },
+        refl,
+      ),
     )
 
 pub returns-in-Err-clause-acts : goal.returns-in-Err-clause-acts

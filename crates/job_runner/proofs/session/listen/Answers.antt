@@ -1,0 +1,54 @@
+use Rattle.std.proofs.Common.{ℕ, ◌+◌, Result, Err, refl, ap, ◌∙◌, arith, add-zero}
+use Rattle.gear_packets.specs.Text.{Reading}
+use Rattle.byte_io.specs.Sides.{Input, Output}
+use Rattle.job_runner.specs.declared.end.EndCause.{EndCause}
+use Rattle.job_runner.specs.Told.{IsTold}
+use Rattle.job_runner.specs.Run.{Link}
+use Rattle.job_runner.specs.Listening.{read_failures, finds_end}
+use Rattle.job_runner.specs.Loop.{duty_in}
+use Rattle.job_runner.proofs.Turning.{glanced, read_ended}
+use Rattle.job_runner.specs.Acting.{moment}
+use Rattle.job_runner.proofs.Paths.{went_at, glance_gone}
+use Rattle.job_runner.proofs.session.listen.Goals as goal
+
+pub returns-in-Ok-Piece-clause-listens : goal.returns-in-Ok-Piece-clause-listens
+returns-in-Ok-Piece-clause-listens g c = λ told before start read at st.
+    let heard = c.in-Ok-Piece.ensures.hears start read st.given at st.rests.heard in
+    let same = ap (λ (o : Output). o.got) c.in-Ok-Piece.ensures.output in
+    (heard.0, heard.1, omega (arith, heard.2, c.requires.room), record { bytes = st.bytes; told = st.told; given = st.given; ran = st.ran; at = same ∙ st.at; rests = record { heard = heard.3; jobs_are = st.rests.jobs_are; holds = st.rests.holds }; went = went_at (duty_in c.args.worker.now) before _ _ st.given _ _ same st.went })
+
+pub returns-in-Ok-Lull-clause-listens : goal.returns-in-Ok-Lull-clause-listens
+returns-in-Ok-Lull-clause-listens g c = λ told before start read at st.
+    let duty = duty_in c.args.worker.now in
+    let heard = c.in-Ok-Lull.ensures.hears start read st.given at st.rests.heard in
+    let old : Link = record { input = g.L.Device.input c.args.link.now; output = g.L.Device.output c.args.link.now } in
+    let new : Link = record { input = g.L.Device.input c.glance.new.link; output = g.L.Device.output c.glance.new.link } in
+    let got = ap (λ (o : Output). o.got) c.in-Ok-Lull.ensures.output in
+    let same = ap (λ (o : Output). o.failures) c.in-Ok-Lull.ensures.output in (
+      heard.0,
+      ap (λ (i : Input). i.given) c.glance.ensures.link.input ∙ heard.1,
+      omega (arith, heard.2, c.requires.room),
+      glanced duty (IsTold told) before heard.0 _ st.told st.given _ c.glance.new.state _ old new c.glance.result st.ran heard.3 st.rests.jobs_are
+          (c.glance.ensures.acts duty before st.bytes st.told refl (got ∙ st.at) st.rests.holds)
+          (glance_gone c.args.worker.now before heard.0
+          (moment c.args.state.now (g.L.Device.output c.hear.new.link).got (g.P.PoolPort.book c.args.port.now)) (moment c.glance.new.state (g.L.Device.output c.glance.new.link).got (g.P.PoolPort.book c.glance.new.port))
+          st.given _ c.glance.result c.glance.ensures.glances (went_at duty before _ _ st.given _ _ got st.went) (ap (λ (x : Reading). x.messages) heard.3))
+          c.glance.ensures.reason (λ x. c.glance.ensures.link.write_fault x ∙ ap (λ (n : ℕ). n + 1) same)
+          (λ x. (ap (λ (i : Input). i.failures) c.glance.ensures.link.input ∙ c.in-Ok-Lull.ensures.failures ∙ add-zero (g.L.Device.input c.args.link.now).failures, c.glance.ensures.link.memory x ∙ same)),
+    )
+
+pub returns-in-Err-clause-listens : goal.returns-in-Err-clause-listens
+returns-in-Err-clause-listens g c = λ told before start read at st.
+    let duty = duty_in c.args.worker.now in
+    let heard = c.in-Err.ensures.hears start read st.given at st.rests.heard in
+    let old : Link = record { input = g.L.Device.input c.args.link.now; output = g.L.Device.output c.args.link.now } in
+    let new : Link = record { input = g.L.Device.input c.hear.new.link; output = g.L.Device.output c.hear.new.link } in
+    let got = ap (λ (o : Output). o.got) c.in-Err.ensures.output in (
+      heard.0,
+      heard.1,
+      omega (arith, heard.2, c.requires.room),
+      read_ended duty (IsTold told) before st.bytes heard.0 _ st.told st.given c.args.state.now _ old new c.in-Err.cause st.ran (got ∙ st.at) st.rests.jobs_are st.rests.holds (went_at duty before _ _ st.given _ _ got st.went) heard.3 c.in-Err.ensures.causes
+          (λ x. c.in-Err.ensures.ended ∙ ap (λ (y : EndCause). finds_end (Err y)) x)
+          (λ x. c.in-Err.ensures.failures ∙ ap (λ (y : EndCause). (g.L.Device.input c.args.link.now).failures + read_failures (Err y)) x)
+          (λ x. (c.in-Err.ensures.failures ∙ ap (λ (y : EndCause). (g.L.Device.input c.args.link.now).failures + read_failures (Err y)) x ∙ add-zero (g.L.Device.input c.args.link.now).failures, ap (λ (o : Output). o.failures) c.in-Err.ensures.output)),
+    )
