@@ -1,0 +1,152 @@
+-- What an exchange has seen, step by step, and why it was not done.
+use Rattle.std.proofs.Common.{◌≡◌, ℕ, ◌+◌, List, [], ◌∷◌, ◌++◌, Option, Some, None, Result, Ok, Err, sym, refl, ap, ◌∙◌, subst, append_assoc, MatchResult}
+use Rattle.std.proofs.lemmas.List.{append-nil}
+use Rattle.http1.specs.declared.conn.Limits.{Limits}
+use Rattle.gear_packets.specs.Response.{AssignedJob}
+use Rattle.byte_io.specs.Sides.{Input, and_then, counted}
+use Rattle.byte_io.proofs.Devices.{told_twice, counted_twice, counted_nothing, told_nothing}
+use Rattle.job_runner.specs.Run.{Link}
+use Rattle.http_jobs.specs.declared.service.Service.{Service}
+use Rattle.http_jobs.specs.declared.exchanging.Done.{Done}
+use Rattle.http_jobs.specs.declared.fault.NotDone.{NotDone}
+use Rattle.http_jobs.specs.declared.fault.NotDone.TheVariants.{Unserved as Not, Memory}
+use Rattle.http_jobs.specs.declared.fault.Unserved.TheVariants as why
+use Rattle.http_jobs.specs.Clock.{shown_then, IsLate}
+use Rattle.http_jobs.specs.Reasons.{Seen, NotEncoded, NotReceived, NotSent}
+use Rattle.http_jobs.specs.Reading.{StepFails, FillFails}
+use Rattle.http_jobs.specs.Exchange.{Sees, IsDone, Explains}
+use Rattle.http_jobs.specs.Response.{head_limits}
+
+-- ---- what was seen
+
+abbrev pub Shown : Type 0
+Shown = Option (List (Option ℕ))
+
+pub shown_twice : (o : Shown) (a b : List (Option ℕ)) → shown_then (shown_then o a) b ≡ shown_then o (a ++ b)
+shown_twice None a b = refl
+shown_twice (Some times) a b = ap Some (append_assoc times a b)
+
+pub shown_nothing : (o : Shown) → o ≡ shown_then o []
+shown_nothing None = refl
+shown_nothing (Some times) = ap Some (sym (append-nil times))
+
+abbrev pub nothing : Seen
+nothing = record { read = []; lulls = 0; times = [] }
+
+pub sees_nothing : (old : Input) (shown : Shown) → Sees old shown nothing old shown
+sees_nothing old shown = (told_nothing old.given, counted_nothing old.lulls, shown_nothing shown)
+
+-- one look at the clock more
+abbrev pub after_look : Seen → Option ℕ → Seen
+after_look seen time = record { read = seen.read; lulls = seen.lulls; times = seen.times ++ time ∷ [] }
+
+pub sees_time : (old new : Input) (shown now later : Shown) (seen : Seen) (time : Option ℕ) → Sees old shown seen new now → later ≡ shown_then now (time ∷ []) → Sees old shown (after_look seen time) new later
+sees_time old new shown now later seen time s e = (s.0, s.1, e ∙ ap (λ (o : Shown). shown_then o (time ∷ [])) s.2 ∙ shown_twice shown seen.times (time ∷ []))
+
+-- one read more
+abbrev pub after_read : Seen → List ℕ → ℕ → Seen
+after_read seen more lulls = record { read = seen.read ++ more; lulls = seen.lulls + lulls; times = seen.times }
+
+pub sees_read : (old mid new : Input) (shown now : Shown) (seen : Seen) (more : List ℕ) (lulls : ℕ) → Sees old shown seen mid now → new.given ≡ and_then mid.given more → new.lulls ≡ counted mid.lulls lulls → Sees old shown (after_read seen more lulls) new now
+sees_read old mid new shown now seen more lulls s bytes pauses = (
+  bytes ∙ ap (λ (o : Option (List ℕ)). and_then o more) s.0 ∙ told_twice old.given seen.read more,
+  pauses ∙ ap (λ (o : Option ℕ). counted o lulls) s.1 ∙ counted_twice old.lulls seen.lulls lulls,
+  s.2,
+)
+
+-- times that were shown before
+abbrev pub before_it : List (Option ℕ) → Seen → Seen
+before_it times seen = record { read = seen.read; lulls = seen.lulls; times = times ++ seen.times }
+
+pub sees_before : (old mid new : Input) (shown now later : Shown) (times : List (Option ℕ)) (seen : Seen) → mid ≡ old → now ≡ shown_then shown times → Sees mid now seen new later → Sees old shown (before_it times seen) new later
+sees_before old mid new shown now later times seen same e s = (
+  s.0 ∙ ap (λ (i : Input). and_then i.given seen.read) same,
+  s.1 ∙ ap (λ (i : Input). counted i.lulls seen.lulls) same,
+  s.2 ∙ ap (λ (o : Shown). shown_then o seen.times) e ∙ shown_twice shown times seen.times,
+)
+
+abbrev pub only_times : List (Option ℕ) → Seen
+only_times times = record { read = []; lulls = 0; times = times }
+
+pub sees_times : (old new : Input) (shown now : Shown) (times : List (Option ℕ)) → new ≡ old → now ≡ shown_then shown times → Sees old shown (only_times times) new now
+sees_times old new shown now times same e = (
+  ap (λ (i : Input). i.given) same ∙ told_nothing old.given,
+  ap (λ (i : Input). i.lulls) same ∙ counted_nothing old.lulls,
+  e,
+)
+
+-- ---- why it was not done
+
+pub step_fails : (limits : Limits) (deadline : Option ℕ) (seen : Seen) (old new : Input) (e : NotDone) → StepFails limits seen.read e → NotReceived limits deadline seen old new e
+step_fails limits deadline seen old new (Not why.Unreachable) h = absurd h
+step_fails limits deadline seen old new (Not (why.Unsendable e)) h = absurd h
+step_fails limits deadline seen old new (Not why.Write) h = absurd h
+step_fails limits deadline seen old new (Not why.Read) h = absurd h
+step_fails limits deadline seen old new (Not why.Ended) h = absurd h
+step_fails limits deadline seen old new (Not why.Late) h = absurd h
+step_fails limits deadline seen old new (Not (why.NoResponse e)) h = h
+step_fails limits deadline seen old new (Not (why.Status status)) h = h
+step_fails limits deadline seen old new (Not why.Endless) h = absurd h
+step_fails limits deadline seen old new Memory h = tt
+
+pub fill_fails : (limits : Limits) (deadline : Option ℕ) (seen : Seen) (first old new : Input) (e : NotDone) → old.failures ≡ first.failures → FillFails limits seen.read old new e → NotReceived limits deadline seen first new e
+fill_fails limits deadline seen first old new (Not why.Unreachable) same h = absurd h
+fill_fails limits deadline seen first old new (Not (why.Unsendable e)) same h = absurd h
+fill_fails limits deadline seen first old new (Not why.Write) same h = absurd h
+fill_fails limits deadline seen first old new (Not why.Read) same h = h ∙ ap (λ (n : ℕ). n + 1) same
+fill_fails limits deadline seen first old new (Not why.Ended) same h = h
+fill_fails limits deadline seen first old new (Not why.Late) same h = absurd h
+fill_fails limits deadline seen first old new (Not (why.NoResponse e)) same h = absurd h
+fill_fails limits deadline seen first old new (Not (why.Status status)) same h = absurd h
+fill_fails limits deadline seen first old new (Not why.Endless) same h = absurd h
+fill_fails limits deadline seen first old new Memory same h = tt
+
+late_after : (deadline : Option ℕ) (times more : List (Option ℕ)) → IsLate deadline more → IsLate deadline (times ++ more)
+late_after deadline times more h = (times ++ h.0, h.1, ap (λ x. times ++ x) h.2 ∙ sym (append_assoc times h.0 (h.1 ∷ [])), h.3)
+
+pub not_received : (s : Service) (j : AssignedJob) (deadline : Option ℕ) (times : List (Option ℕ)) (seen : Seen) (old mid new : Link) (e : NotDone) → mid.input ≡ old.input → NotReceived head_limits deadline seen mid.input new.input e → Explains s j deadline (before_it times seen) old new e
+not_received s j deadline times seen old mid new (Not why.Unreachable) same h = absurd h
+not_received s j deadline times seen old mid new (Not (why.Unsendable e)) same h = absurd h
+not_received s j deadline times seen old mid new (Not why.Write) same h = absurd h
+not_received s j deadline times seen old mid new (Not why.Read) same h = h ∙ ap (λ (i : Input). i.failures + 1) same
+not_received s j deadline times seen old mid new (Not why.Ended) same h = h
+not_received s j deadline times seen old mid new (Not why.Late) same h = late_after deadline times seen.times h
+not_received s j deadline times seen old mid new (Not (why.NoResponse e)) same h = h
+not_received s j deadline times seen old mid new (Not (why.Status status)) same h = h
+not_received s j deadline times seen old mid new (Not why.Endless) same h = h
+not_received s j deadline times seen old mid new Memory same h = tt
+
+pub not_sent : (s : Service) (j : AssignedJob) (deadline : Option ℕ) (times : List (Option ℕ)) (old new : Link) (e : NotDone) → NotSent deadline times old.output new.output e → Explains s j deadline (only_times times) old new e
+not_sent s j deadline times old new (Not why.Unreachable) h = absurd h
+not_sent s j deadline times old new (Not (why.Unsendable e)) h = absurd h
+not_sent s j deadline times old new (Not why.Write) h = h
+not_sent s j deadline times old new (Not why.Read) h = absurd h
+not_sent s j deadline times old new (Not why.Ended) h = absurd h
+not_sent s j deadline times old new (Not why.Late) h = h
+not_sent s j deadline times old new (Not (why.NoResponse e)) h = absurd h
+not_sent s j deadline times old new (Not (why.Status status)) h = absurd h
+not_sent s j deadline times old new (Not why.Endless) h = absurd h
+not_sent s j deadline times old new Memory h = absurd h
+
+-- the result of a receive is that of an exchange
+pub received : (s : Service) (j : AssignedJob) (deadline : Option ℕ) (times : List (Option ℕ)) (max : ℕ) (seen : Seen) (old mid new : Link) (r : Result Done NotDone) → mid.input ≡ old.input → MatchResult r (IsDone head_limits max seen.read) (NotReceived head_limits deadline seen mid.input new.input) → MatchResult r (IsDone head_limits max seen.read) (Explains s j deadline (before_it times seen) old new)
+received s j deadline times max seen old mid new (Ok done) same h = h
+received s j deadline times max seen old mid new (Err e) same h = not_received s j deadline times seen old mid new e same h
+
+-- the limits of the client and the bound of the body are those of the job
+pub received_at : (limits now : Limits) (bound max : ℕ) (deadline : Option ℕ) (seen : Seen) (old new : Input) (r : Result Done NotDone) → limits ≡ now → bound ≡ max → MatchResult r (IsDone limits bound seen.read) (NotReceived limits deadline seen old new) → MatchResult r (IsDone now max seen.read) (NotReceived now deadline seen old new)
+received_at limits now bound max deadline seen old new r same size h =
+    subst (λ (l : Limits). MatchResult r (IsDone l max seen.read) (NotReceived l deadline seen old new)) same
+    (subst (λ (n : ℕ). MatchResult r (IsDone limits n seen.read) (NotReceived limits deadline seen old new)) size h)
+
+pub not_encoded : (s : Service) (j : AssignedJob) (deadline : Option ℕ) (seen : Seen) (old new : Link) (e : NotDone) → NotEncoded head_limits s j e → Explains s j deadline seen old new e
+not_encoded s j deadline seen old new (Not why.Unreachable) h = absurd h
+not_encoded s j deadline seen old new (Not (why.Unsendable e)) h = h
+not_encoded s j deadline seen old new (Not why.Write) h = absurd h
+not_encoded s j deadline seen old new (Not why.Read) h = absurd h
+not_encoded s j deadline seen old new (Not why.Ended) h = absurd h
+not_encoded s j deadline seen old new (Not why.Late) h = absurd h
+not_encoded s j deadline seen old new (Not (why.NoResponse e)) h = absurd h
+not_encoded s j deadline seen old new (Not (why.Status status)) h = absurd h
+not_encoded s j deadline seen old new (Not why.Endless) h = absurd h
+not_encoded s j deadline seen old new Memory h = tt

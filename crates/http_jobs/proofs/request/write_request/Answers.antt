@@ -1,0 +1,67 @@
+use Rattle.std.proofs.Common.{◌≡◌, ℕ, List, [], ◌∷◌, ◌++◌, ◌∙◌, length, sym, ap, subst, refl, None, inl}
+use Rattle.http1.specs.Head.{pairs, request_text}
+use Rattle.http1.specs.declared.client.Client.{Client}
+use Rattle.http1.specs.Client.{request_refusal, planned_request, writing, with_writing, after_request, after_end}
+use Rattle.http1.specs.Conn.{data_text, finish_text, length_header, after_data}
+use Rattle.http1.specs.declared.conn.BodySize.TheVariants.{Known}
+use Rattle.gear_packets.specs.Reading.{job_of}
+use Rattle.http_jobs.specs.Request.{headers_of, target_of}
+use Rattle.http_jobs.specs.Reading.{HasAsked}
+use Rattle.std.proofs.lemmas.Result.{err_from_is_err_and}
+use Rattle.http_jobs.proofs.Asking.{POST, says_request, has_asked, not_refused, refusal_is, AreOrdinary, ordinary_headers}
+use Rattle.http_jobs.proofs.request.write_request.Goals as goal
+
+pub returns-clause-text : goal.returns-clause-text
+returns-clause-text c =
+    let client = c.args.client.now in
+    let service = c.args.service.now in
+    let job = job_of c.args.job.now in
+    let payload = c.as_slice-payload.result.now in
+    let n = length payload in
+    let target = c.as_bytes.result.now in
+    let hs = pairs c.as_slice.result.now in
+    let same_payload : payload ≡ job.payload = c.as_slice-payload.ensures.value in
+    let same_target : target ≡ target_of service job = c.as_bytes.ensures.value ∙ c.in_ok-target.ensures in
+    let same_headers : hs ≡ headers_of service job = ap pairs c.as_slice.ensures.value ∙ c.in_ok-headers.ensures in
+    let o : AreOrdinary hs = subst AreOrdinary (sym same_headers) (ordinary_headers service job) in
+    let accepted : request_refusal client POST target (Known n) hs ≡ None = not_refused _ _ _ _ c.in_ok-write_request.ensures.outcome in
+    let asking = after_request client POST (Known n) hs in
+    let one : c.write_request.new.self ≡ asking = c.in_ok-write_request.ensures.next in
+    let two : c.write_data.new.self ≡ with_writing asking (after_data (writing asking) n) = c.in_ok-write_data.ensures.counted ∙ ap (λ (x : Client). with_writing x (after_data (writing x) n)) one in
+    let first : c.write_request.new.output.items ≡ planned_request client POST target (Known n) hs = c.in_ok-write_request.ensures.ok ∙ ap (λ (x : List ℕ). x ++ planned_request client POST target (Known n) hs) c.new-text.ensures.items in
+    let second : c.write_data.new.output.items ≡ planned_request client POST target (Known n) hs ++ data_text (writing asking) payload = c.in_ok-write_data.ensures.ok ∙ (λ i. first i ++ data_text (writing (one i)) payload) in
+    c.in_ok-write_end.ensures.ok ∙ (λ i. second i ++ finish_text (writing (two i)) []) ∙ says_request client target payload n hs o refl accepted
+    ∙ (λ i. request_text POST (same_target i) 1 (same_headers i ++ length_header (length (same_payload i)) ∷ []) ++ same_payload i)
+
+pub returns-clause-asked : goal.returns-clause-asked
+returns-clause-asked c =
+    let client = c.args.client.now in
+    let service = c.args.service.now in
+    let job = job_of c.args.job.now in
+    let payload = c.as_slice-payload.result.now in
+    let n = length payload in
+    let target = c.as_bytes.result.now in
+    let hs = pairs c.as_slice.result.now in
+    let same_headers : hs ≡ headers_of service job = ap pairs c.as_slice.ensures.value ∙ c.in_ok-headers.ensures in
+    let o : AreOrdinary hs = subst AreOrdinary (sym same_headers) (ordinary_headers service job) in
+    let accepted : request_refusal client POST target (Known n) hs ≡ None = not_refused _ _ _ _ c.in_ok-write_request.ensures.outcome in
+    let asking = after_request client POST (Known n) hs in
+    let one : c.write_request.new.self ≡ asking = c.in_ok-write_request.ensures.next in
+    let two : c.write_data.new.self ≡ with_writing asking (after_data (writing asking) n) = c.in_ok-write_data.ensures.counted ∙ ap (λ (x : Client). with_writing x (after_data (writing x) n)) one in
+    let three : c.write_end.new.self ≡ after_end (with_writing asking (after_data (writing asking) n)) = c.in_ok-write_end.ensures.done ∙ ap after_end two in
+    subst (λ (x : Client). HasAsked client.limits x) (sym three) (has_asked client target payload n hs o refl accepted)
+
+pub returns-in_err-write_request-clause-refused : goal.returns-in_err-write_request-clause-refused
+returns-in_err-write_request-clause-refused c =
+    let client = c.args.client.now in
+    let service = c.args.service.now in
+    let job = job_of c.args.job.now in
+    let payload = c.as_slice-payload.result.now in
+    let target = c.as_bytes.result.now in
+    let hs = pairs c.as_slice.result.now in
+    let same_payload : payload ≡ job.payload = c.as_slice-payload.ensures.value in
+    let same_target : target ≡ target_of service job = c.as_bytes.ensures.value ∙ c.in_ok-target.ensures in
+    let same_headers : hs ≡ headers_of service job = ap pairs c.as_slice.ensures.value ∙ c.in_ok-headers.ensures in
+    let e = c.in_err-write_request.field-0.0 in
+    let p = err_from_is_err_and c.from_residual-in_err-write_request.result c.from_residual-in_err-write_request.ensures.1 in
+    rw (p.1, p.2) (λ other. inl (sym (λ i. request_refusal (c.requires.fresh i) POST (same_target i) (Known (length (same_payload i))) (same_headers i)) ∙ refusal_is _ _ _ e c.in_err-write_request.ensures.outcome other))

@@ -1,0 +1,31 @@
+use Rattle.std.proofs.Common.{◌∙◌, ◌++◌, ◌∷◌, [], ◌≤◌, length, drop, arith, ap, subst, sym, refl, length-drop}
+use Rattle.byte_io.proofs.Devices.{more_gone, rest_taken}
+use Rattle.http_jobs.specs.Clock.{shown_then}
+use Rattle.http_jobs.proofs.Exchanges.{Shown, shown_twice}
+use Rattle.http_jobs.proofs.sending.send.Goals as goal
+
+pub loop-count-preserved : goal.loop-count-preserved
+loop-count-preserved g c =
+    let tail = rest_taken c.loop-count.count c.args.bytes.now in
+    let fits : c.in-Ok.n ≤ length (drop c.loop-count.count c.args.bytes.now) = subst (λ t. c.in-Ok.n ≤ length t) tail c.in-Ok.ensures.within.1 in
+    let so_far = c.loop-count.invariant.shown in
+    let look = c.is_late.ensures in
+    record {
+      gone_out = rw (c.in-Ok.ensures.bytes, c.loop-count.invariant.gone_out, tail) (more_gone _ _ _ _);
+      unfailed = omega (arith, c.in-Ok.ensures.fails, c.loop-count.invariant.unfailed);
+      unread = c.in-Ok.ensures.input ∙ c.loop-count.invariant.unread;
+      within = omega (arith, length-drop c.loop-count.count c.args.bytes.now);
+      shown = (so_far.0 ++ look.0 ∷ [], look.1 ∙ ap (λ (o : Shown). shown_then o (look.0 ∷ [])) so_far.1 ∙ shown_twice _ so_far.0 (look.0 ∷ []));
+    }
+
+pub returns-then-is_late-clause-why : goal.returns-then-is_late-clause-why
+returns-then-is_late-clause-why g c =
+    let so_far = c.loop-count.invariant.shown in
+    let look = c.is_late.ensures in
+    (so_far.0 ++ look.0 ∷ [], look.1 ∙ ap (λ (o : Shown). shown_then o (look.0 ∷ [])) so_far.1 ∙ shown_twice _ so_far.0 (look.0 ∷ []), (so_far.0, look.0, refl, sym look.2 ∙ c.if-is_late.true))
+
+pub returns-in-Err-clause-why : goal.returns-in-Err-clause-why
+returns-in-Err-clause-why g c =
+    let so_far = c.loop-count.invariant.shown in
+    let look = c.is_late.ensures in
+    (so_far.0 ++ look.0 ∷ [], look.1 ∙ ap (λ (o : Shown). shown_then o (look.0 ∷ [])) so_far.1 ∙ shown_twice _ so_far.0 (look.0 ∷ []), omega (arith, c.in-Err.ensures.fails, c.loop-count.invariant.unfailed))

@@ -1,0 +1,6 @@
+pub mod Clock
+pub mod Request
+pub mod Response
+pub mod Reasons
+pub mod Reading
+pub mod Exchange

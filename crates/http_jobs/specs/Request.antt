@@ -1,0 +1,43 @@
+-- The request for a job (RFC 9112, section 3).
+use Rattle.std.specs.Prelude.{ℕ, ◌+◌, ◌-◌, ◌++◌, Bool, ◌&&◌, ◌||◌, ◌==◌, nat_lt, if◌then◌else◌, List, [], ◌∷◌, length, codes, string_bytes, bytes_eq}
+use Rattle.percent_encoding.specs.Percent.{percent_encode}
+use Rattle.gear_packets.specs.Frame.{body_limit}
+use Rattle.gear_packets.specs.Response.{AssignedJob}
+use Rattle.http1.specs.Fields.{Header}
+use Rattle.http1.specs.Head.{is_trimmed_value, request_text}
+use Rattle.http1.specs.Conn.{length_header}
+use Rattle.http_jobs.specs.declared.service.Service.{Service}
+use Rattle.http_jobs.specs.declared.request.TheConstants.{UNRESERVED}
+
+-- the path of the service, a slash, and the function with all but unreserved characters percent-encoded
+abbrev pub target_of : Service → AssignedJob → List ℕ
+target_of s j = (string_bytes s.path ++ codes "/") ++ percent_encode UNRESERVED j.function
+
+-- Such a name has no path of its own: servers take `.` and `..` for other paths, also percent-encoded.
+abbrev pub has_no_path : List ℕ → Bool
+has_no_path name = (length name == 0) || (bytes_eq name (codes ".") || bytes_eq name (codes ".."))
+
+-- a header's value, and not empty
+abbrev pub is_sent : List ℕ → Bool
+is_sent value = nat_lt 0 (length value) && is_trimmed_value value
+
+-- the header, if its value may be sent
+abbrev pub sent_header : List ℕ → List ℕ → List Header
+sent_header name value = if is_sent value then (name, value) ∷ [] else []
+
+-- the headers, without the length
+abbrev pub headers_of : Service → AssignedJob → List Header
+headers_of s j =
+    (codes "host", string_bytes s.host) ∷ (codes "content-type", codes "application/octet-stream") ∷ []
+    ++ sent_header (codes "gearman-handle") j.handle
+    ++ sent_header (codes "gearman-unique") j.unique
+    ++ sent_header (codes "poolman-worker") (string_bytes s.worker)
+
+-- the request, head and body
+abbrev pub request_of : Service → AssignedJob → List ℕ
+request_of s j =
+    request_text (codes "POST") (target_of s j) 1 (headers_of s j ++ length_header (length j.payload) ∷ []) ++ j.payload
+
+-- the most bytes of a body that a packet can hold beside the job's handle and the NUL that ends it
+abbrev pub most_body : AssignedJob → ℕ
+most_body j = body_limit - (length j.handle + 1)

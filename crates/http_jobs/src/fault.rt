@@ -1,0 +1,70 @@
+//! Why a job was not done.
+
+use http1::{ReadError, WriteError};
+use std::alloc::AllocError;
+use thiserror::Error;
+
+/// Why a job was not served: nothing came back that answers it.
+#[derive(Clone, Copy, Debug, PartialEq, Eq, Error)]
+pub enum Unserved {
+    /// No connection could be opened.
+    #[error("no connection could be opened")]
+    Unreachable,
+    /// The rules of HTTP do not let the request be sent, as the name of the host.
+    #[error("the request cannot be sent: {0}")]
+    Unsendable(WriteError),
+    /// A write failed. A prefix of the request went out.
+    #[error("a write failed")]
+    Write,
+    /// A read failed.
+    #[error("a read failed")]
+    Read,
+    /// The connection ended before the response was whole.
+    #[error("the connection ended before the response was whole")]
+    Ended,
+    /// The deadline came before the response was whole.
+    #[error("the deadline came before the response was whole")]
+    Late,
+    /// What came breaks the rules of HTTP, or has a head above 16 KiB, or more than 64 fields.
+    #[error("what came is no response: {0}")]
+    NoResponse(ReadError),
+    /// The service, or a proxy before it, is down or busy: status 408, 429, 502, 503 or 504.
+    #[error("the service is down or busy: status {0}")]
+    Status(u16),
+    /// More bytes and timeouts came than can be counted: 2^64 - 1.
+    #[error("the response does not end")]
+    Endless,
+}
+
+/// Why a job was not done.
+#[derive(Clone, Copy, Debug, PartialEq, Eq, Error)]
+pub enum NotDone {
+    /// The service did not serve it. Another worker may do it.
+    #[error("{0}")]
+    Unserved(Unserved),
+    /// There was no memory.
+    #[error("out of memory")]
+    Memory,
+}
+
+impl From<AllocError> for NotDone {
+    ghost use Rattle.std.specs.Prelude.{◌≡◌};
+    ghost use Rattle.http_jobs.specs.declared.fault.NotDone.TheVariants.{Memory};
+
+    ghost from_gives = { λ _ e. e ≡ Memory };
+
+    fn from(_: AllocError) -> NotDone {
+        NotDone::Memory
+    }
+}
+
+impl From<Unserved> for NotDone {
+    ghost use Rattle.std.specs.Prelude.{◌≡◌};
+    ghost use Rattle.http_jobs.specs.declared.fault.NotDone.TheVariants.{Unserved};
+
+    ghost from_gives = { λ u e. e ≡ Unserved u };
+
+    fn from(reason: Unserved) -> NotDone {
+        NotDone::Unserved(reason)
+    }
+}

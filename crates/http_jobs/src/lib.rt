@@ -1,0 +1,16 @@
+//! Jobs that a service behind HTTP does: one request and one response for each, over a connection that is kept.
+#![tactic(auto)]
+
+mod clock;
+mod exchanging;
+mod fault;
+mod outcome;
+mod reader;
+mod request;
+mod sending;
+mod service;
+
+pub use clock::Clock;
+pub use exchanging::{Done, exchange};
+pub use fault::{NotDone, Unserved};
+pub use service::Service;

@@ -1,0 +1,152 @@
+//! The request for a job.
+
+ghost use Rattle.std.specs.Prelude.{◌≡◌, ◌≢◌, ◌++◌, length, string_bytes, IfOk, IfErr, OnOk};
+ghost use Rattle.http1.specs.Head.{pairs};
+ghost use Rattle.http1.specs.Client.{new_client};
+ghost use Rattle.gear_packets.specs.Reading.{job_of};
+ghost use Rattle.http_jobs.specs.Request.{target_of, is_sent, sent_header, headers_of, request_of, has_no_path, most_body};
+ghost use Rattle.http_jobs.specs.Reading.{HasAsked};
+ghost use Rattle.http_jobs.specs.Reasons.{IsRefused, NotEncoded};
+
+use crate::fault::{NotDone, Unserved};
+use crate::service::Service;
+use gear_packets::Assignment;
+use http1::{BodySize, Client, Header, WriteError};
+use httparse::{is_header_value, is_space_or_tab};
+use percent_encoding::{AsciiSet, NON_ALPHANUMERIC, ascii_set, percent_encode};
+use std::alloc::{AllocError, Global};
+
+/// The most bytes that the body of a packet may have.
+const PACKET_BODY: usize = 16_777_216;
+
+/// What is percent-encoded in a path: all but the unreserved characters (RFC 3986, section 2.3).
+pub const UNRESERVED: AsciiSet = ascii_set!(
+    NON_ALPHANUMERIC
+        .remove(b'-')
+        .remove(b'.')
+        .remove(b'_')
+        .remove(b'~')
+);
+
+/// Whether a function of this name has no path of its own: the empty name, and `.` and `..`, of which servers make other paths.
+pub fn has_no_path(name: &[u8]) -> bool
+    ensures { result ≡ has_no_path name.now }
+{
+    name.is_empty() || name == b".".as_slice() || name == b"..".as_slice()
+}
+
+/// The most bytes of a body that a packet can hold beside the job's handle and its end.
+pub fn most_body(job: &Assignment) -> usize
+    ensures { result ≡ most_body (job_of job.now) }
+{
+    PACKET_BODY - (job.handle.bytes().len() + 1)
+}
+
+/// The target of a job's request.
+fn target(alloc: Global, service: &Service, job: &Assignment) -> Result<String, AllocError>
+    ensures { IfOk result (λ target. string_bytes target ≡ target_of service.now (job_of job.now)) }
+{
+    let mut target = String::from_str(alloc, service.path.as_str())?;
+    target.push_str("/")?;
+    percent_encode(job.function.as_slice(), UNRESERVED).append_to(&mut target)?;
+    Ok(target)
+}
+
+/// Whether the bytes may be a header's value, and are not empty.
+fn is_sent(value: &[u8]) -> bool
+    ensures { result ≡ is_sent value.now }
+{
+    match value {
+        [] => false,
+        [first, ..] if is_space_or_tab(*first) => false,
+        [.., last] if is_space_or_tab(*last) => false,
+        _ => is_header_value(value),
+    }
+}
+
+/// Adds a header if its value may be sent.
+fn push_sent<'h>(
+    headers: &mut Vec<Header<'h>>,
+    name: &'h [u8],
+    value: &'h [u8],
+) -> Result<(), AllocError>
+    ensures { OnOk result (pairs headers.new.items ≡ pairs headers.old.items ++ sent_header name.now value.now) }
+{
+    if is_sent(value) {
+        headers.push(Header { name, value })?;
+    }
+    Ok(())
+}
+
+/// The headers of a job's request, without its length.
+fn headers<'h>(
+    alloc: Global,
+    service: &'h Service,
+    job: &'h Assignment,
+) -> Result<Vec<Header<'h>>, AllocError>
+    ensures { IfOk result (λ headers. pairs headers.items ≡ headers_of service.now (job_of job.now)) }
+{
+    let mut headers = Vec::new(alloc);
+    headers.push(Header {
+        name: b"host",
+        value: service.host.as_bytes(),
+    })?;
+    headers.push(Header {
+        name: b"content-type",
+        value: b"application/octet-stream",
+    })?;
+    push_sent(&mut headers, b"gearman-handle", job.handle.bytes())?;
+    push_sent(&mut headers, b"gearman-unique", job.unique.as_slice())?;
+    push_sent(&mut headers, b"poolman-worker", service.worker.as_bytes())?;
+    Ok(headers)
+}
+
+/// Writes the request of a job into memory.
+fn write_request(
+    alloc: Global,
+    client: &mut Client,
+    service: &Service,
+    job: &Assignment,
+) -> Result<Vec<u8>, WriteError>
+    requires fresh { client.old ≡ new_client client.old.limits }
+    ensures text { IfOk result (λ text. text.items ≡ request_of service.now (job_of job.now)) }
+    ensures asked { OnOk result (HasAsked client.old.limits client.new) }
+    ensures reads { OnOk result (client.new.reading ≡ client.old.reading) }
+    ensures refused { IfErr result (λ e. e ≢ WriteError.OutOfMemory → IsRefused client.old.limits service.now (job_of job.now) e) }
+{
+    let target = target(alloc, service, job)?;
+    let headers = headers(alloc, service, job)?;
+    let payload = job.payload.as_slice();
+    let size = BodySize::Known(payload.len() as u64);
+    let mut text = Vec::new(alloc);
+    client.write_request(
+        &mut text,
+        b"POST",
+        target.as_bytes(),
+        headers.as_slice(),
+        size,
+    )?;
+    client.write_data(&mut text, payload)?;
+    client.write_end(&mut text, &[])?;
+    Ok(text)
+}
+
+/// Encodes the request of a job, for a client that has asked nothing yet.
+pub fn encode_request(
+    alloc: Global,
+    client: &mut Client,
+    service: &Service,
+    job: &Assignment,
+) -> Result<Vec<u8>, NotDone>
+    requires fresh { client.old ≡ new_client client.old.limits }
+    ensures text { IfOk result (λ text. text.items ≡ request_of service.now (job_of job.now)) }
+    ensures asked { OnOk result (HasAsked client.old.limits client.new) }
+    ensures reads { OnOk result (client.new.reading ≡ client.old.reading) }
+    ensures refused { IfErr result (NotEncoded client.old.limits service.now (job_of job.now)) }
+{
+    match write_request(alloc, client, service, job) {
+        Ok(text) => Ok(text),
+        Err(WriteError::OutOfMemory) => Err(NotDone::Memory),
+        Err(e) => Err(NotDone::Unserved(Unserved::Unsendable(e))),
+    }
+}
