@@ -1,5 +1,5 @@
 -- What an exchange has seen, step by step, and why it was not done.
-use Rattle.std.proofs.Common.{◌≡◌, ℕ, ◌+◌, List, [], ◌∷◌, ◌++◌, Option, Some, None, Result, Ok, Err, sym, refl, ap, ◌∙◌, subst, append_assoc, MatchResult}
+use Rattle.std.proofs.Common.{◌≡◌, ℕ, ◌+◌, List, [], ◌∷◌, ◌++◌, Option, Some, None, Result, Ok, Err, sym, refl, ap, ◌∙◌, subst, append_assoc, IsSome, MatchResult}
 use Rattle.std.proofs.lemmas.List.{append-nil}
 use Rattle.http1.specs.declared.conn.Limits.{Limits}
 use Rattle.gear_packets.specs.Response.{AssignedJob}
@@ -16,6 +16,9 @@ use Rattle.http_jobs.specs.Reasons.{Seen, NotEncoded, NotReceived, NotSent}
 use Rattle.http_jobs.specs.Reading.{StepFails, FillFails}
 use Rattle.http_jobs.specs.Exchange.{Sees, IsDone, Explains}
 use Rattle.http_jobs.specs.Response.{head_limits}
+
+pub has_status : {status : Option ℕ} {code : ℕ} → status ≡ Some code → IsSome status
+has_status is = subst (λ (o : Option ℕ). IsSome o) (sym is) refl
 
 -- ---- what was seen
 

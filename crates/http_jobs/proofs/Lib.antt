@@ -1,3 +1,4 @@
 pub mod Coming
 pub mod Asking
 pub mod Exchanges
+pub mod Uses

@@ -4,3 +4,4 @@ pub mod Response
 pub mod Reasons
 pub mod Reading
 pub mod Exchange
+pub mod Serving

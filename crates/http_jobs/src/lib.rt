@@ -9,8 +9,10 @@ mod reader;
 mod request;
 mod sending;
 mod service;
+mod service_jobs;
 
 pub use clock::Clock;
 pub use exchanging::{Done, exchange};
 pub use fault::{NotDone, Unserved};
 pub use service::Service;
+pub use service_jobs::{Dial, Look, ServiceJobs};

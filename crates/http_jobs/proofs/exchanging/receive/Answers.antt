@@ -1,7 +1,7 @@
-use Rattle.std.proofs.Common.{◌∙◌, ◌≤◌, ℕ, ◌++◌, length, length-append, Option, IsSome, sym, refl, subst, inr, arith}
+use Rattle.std.proofs.Common.{◌∙◌, ◌≤◌, ℕ, ◌++◌, length, length-append, sym, refl, subst, inr, arith}
 use Rattle.std.proofs.lemmas.Result.{err_from_is_err_and}
 use Rattle.http_jobs.proofs.Coming.{starts_reader}
-use Rattle.http_jobs.proofs.Exchanges.{nothing, sees_nothing, sees_time, sees_read, after_look, after_read, step_fails, fill_fails}
+use Rattle.http_jobs.proofs.Exchanges.{has_status, nothing, sees_nothing, sees_time, sees_read, after_look, after_read, step_fails, fill_fails}
 use Rattle.http_jobs.proofs.exchanging.receive.Goals as goal
 
 pub conclude-requires-clause-head : goal.conclude-requires-clause-head
@@ -9,7 +9,7 @@ conclude-requires-clause-head g c =
     let so_far = c.loop-turn.invariant.partway in
     let steps = rw c.in-Ok-Whole.field-0-is at c.in-Ok-Whole.ensures.steps in
     let whole = steps c.args.client.limits so_far.0.read so_far.2 in
-    subst (λ (o : Option ℕ). IsSome o) (sym whole.is) refl
+    has_status whole.is
 
 pub returns-in_err-conclude-in-Ok-Whole-clause-received : goal.returns-in_err-conclude-in-Ok-Whole-clause-received
 returns-in_err-conclude-in-Ok-Whole-clause-received g c =
@@ -49,7 +49,7 @@ conclude-requires-in-Ok-Ended-clause-head g c =
     let both = steps c.args.client.limits so_far.0.read so_far.2 in
     let fills = rw c.in-Ok-Ended.field-0-is at c.in-Ok-Ended.ensures.fills in
     let whole = fills.5 c.args.client.limits so_far.0.read both.0 both.1 in
-    subst (λ (o : Option ℕ). IsSome o) (sym whole.is) refl
+    has_status whole.is
 
 pub returns-in_err-conclude-in-Ok-Ended-clause-received : goal.returns-in_err-conclude-in-Ok-Ended-clause-received
 returns-in_err-conclude-in-Ok-Ended-clause-received g c =

@@ -1,0 +1,77 @@
+use Rattle.std.proofs.Common.{◌≡◌, ◌∙◌, ℕ, [], ◌∷◌, Option, sym, ap, subst, subst₂, take}
+use Rattle.gear_packets.specs.Reading.{job_of}
+use Rattle.byte_io.specs.Sides.{and_then}
+use Rattle.job_runner.specs.Run.{seen_link}
+use Rattle.http_jobs.specs.declared.service.Service.{Service}
+use Rattle.http_jobs.specs.Clock.{shown_then}
+use Rattle.http_jobs.specs.Exchange.{Explains}
+use Rattle.http_jobs.specs.Request.{has_no_path, request_of}
+use Rattle.http_jobs.specs.Serving.{Opens, stands, then_called}
+use Rattle.http_jobs.proofs.Exchanges.{Shown, shown_twice}
+use Rattle.http_jobs.proofs.Uses.{Calls, called_twice, failed_over}
+use Rattle.http_jobs.proofs.service_jobs.ServiceJobs.run.Goals as goal
+
+pub returns-in-Ok-clause-served : goal.returns-in-Ok-clause-served
+returns-in-Ok-clause-served g c =
+    let input = g.L.Device.input in
+    let output = g.L.Device.output in
+    let old = c.args.self.now in
+    let job = job_of c.args.job.now in
+    let start = c.deadline-deadline.ensures.shown in
+    let opens = c.in_ok-link.ensures.opens in
+    let ex = c.in-Ok.ensures.exchanged in
+    let left = c.leave.ensures.leaves in
+    let same : c.connect.new.self.service ≡ old.service = c.connect.ensures.service ∙ c.deadline-deadline.ensures.service in (
+      ap has_no_path (sym c.as_slice.ensures.value) ∙ sym c.has_no_path.ensures ∙ c.if-has_no_path.false,
+      record {
+        is_kept = c.in-Ok.done.is_kept;
+        seen = ex.0;
+        start = start.0;
+        before = seen_link input output c.in_ok-link.link;
+        after = seen_link input output c.exchange.new.link;
+        uses = record {
+          first = opens.0;
+          last = left.0;
+          opens = subst (λ k. Opens (stands input output g.L.Look.quiet k (g.D.Dial.calls old.dial) (g.C.Clock.shown old.clock)) opens.0 (seen_link input output c.in_ok-link.link)) c.deadline-deadline.ensures.kept opens.2;
+          given = ex.1.0;
+          got = c.in-Ok.ensures.request ∙ ap (λ (s : Service). and_then (output c.in_ok-link.link).got (request_of s job)) same;
+          leaves = left.2;
+          calls = left.1 ∙ ap (λ (o : Calls). then_called o left.0) (opens.1 ∙ ap (λ d. then_called (g.D.Dial.calls d) opens.0) c.deadline-deadline.ensures.dial) ∙ called_twice (g.D.Dial.calls old.dial) opens.0 left.0;
+          shown = ap (λ k. g.C.Clock.shown k) c.leave.ensures.clock ∙ ex.1.2 ∙ ap (λ k. shown_then (g.C.Clock.shown k) ex.0.times) c.connect.ensures.clock
+              ∙ ap (λ (o : Shown). shown_then o ex.0.times) start.1 ∙ shown_twice (g.C.Clock.shown old.clock) (start.0 ∷ []) ex.0.times;
+        };
+        answered = ex.2;
+      },
+    )
+
+pub returns-in-Err-clause-failed : goal.returns-in-Err-clause-failed
+returns-in-Err-clause-failed g c =
+    let input = g.L.Device.input in
+    let output = g.L.Device.output in
+    let old = c.args.self.now in
+    let job = job_of c.args.job.now in
+    let start = c.deadline-deadline.ensures.shown in
+    let opens = c.in_ok-link.ensures.opens in
+    let ex = c.in-Err.ensures.exchanged in
+    let left = c.leave-in-Err.ensures.leaves in
+    let prefix = c.exchange.ensures.prefix in
+    let same : c.connect.new.self.service ≡ old.service = c.connect.ensures.service ∙ c.deadline-deadline.ensures.service in
+    failed_over old.service old.timeout_ms _ _ job c.in-Err.e (record {
+      count = prefix.0;
+      seen = ex.0;
+      start = start.0;
+      before = seen_link input output c.in_ok-link.link;
+      after = seen_link input output c.exchange.new.link;
+      uses = record {
+        first = opens.0;
+        last = left.0;
+        opens = subst (λ k. Opens (stands input output g.L.Look.quiet k (g.D.Dial.calls old.dial) (g.C.Clock.shown old.clock)) opens.0 (seen_link input output c.in_ok-link.link)) c.deadline-deadline.ensures.kept opens.2;
+        given = ex.1.0;
+        got = prefix.1 ∙ ap (λ (s : Service). and_then (output c.in_ok-link.link).got (take prefix.0 (request_of s job))) same;
+        leaves = left.2;
+        calls = left.1 ∙ ap (λ (o : Calls). then_called o left.0) (opens.1 ∙ ap (λ d. then_called (g.D.Dial.calls d) opens.0) c.deadline-deadline.ensures.dial) ∙ called_twice (g.D.Dial.calls old.dial) opens.0 left.0;
+        shown = ap (λ k. g.C.Clock.shown k) c.leave-in-Err.ensures.clock ∙ ex.1.2 ∙ ap (λ k. shown_then (g.C.Clock.shown k) ex.0.times) c.connect.ensures.clock
+            ∙ ap (λ (o : Shown). shown_then o ex.0.times) start.1 ∙ shown_twice (g.C.Clock.shown old.clock) (start.0 ∷ []) ex.0.times;
+      };
+      explained = subst₂ (λ (s : Service) (d : Option ℕ). Explains s job d ex.0 (seen_link input output c.in_ok-link.link) (seen_link input output c.exchange.new.link) c.in-Err.e) same start.2 ex.2;
+    })

@@ -1,0 +1,133 @@
+-- The jobs of a service, and the connections over which they are done.
+use Rattle.std.specs.Prelude.{◌≡◌, ◌≢◌, ℕ, ◌+◌, ◌-◌, ◌^◌, ◌⊎◌, min, Bool, true, false, List, [], ◌∷◌, ◌++◌, take, Option, Some, None, option_map, IsTrue}
+use Rattle.std.specs.Option.{option_and_then}
+use Rattle.gear_packets.specs.Response.{AssignedJob}
+use Rattle.byte_io.specs.Sides.{Input, Output, and_then}
+use Rattle.job_runner.specs.Run.{Link, seen_link}
+use Rattle.job_runner.specs.Told.{Told}
+use Rattle.http_jobs.specs.declared.service.Service.{Service}
+use Rattle.http_jobs.specs.declared.fault.NotDone.{NotDone}
+use Rattle.http_jobs.specs.declared.fault.NotDone.TheVariants.{Unserved as Not}
+use Rattle.http_jobs.specs.declared.fault.Unserved.TheVariants as why
+use Rattle.http_jobs.specs.Clock.{shown_then}
+use Rattle.http_jobs.specs.Reasons.{Seen}
+use Rattle.http_jobs.specs.Request.{has_no_path, most_body, request_of}
+use Rattle.http_jobs.specs.Response.{head_limits}
+use Rattle.http_jobs.specs.Exchange.{IsAnswered, Explains}
+
+-- ---- connections
+
+-- One call: a dial that failed, a dial that opened a connection, or word that a connection was closed, with what it showed of its two
+-- sides then.
+pub data DialCall : Type 0 where
+  failed : DialCall
+  opened : DialCall
+  closed : Link → DialCall
+
+-- the calls so far, if they are shown, and these more
+abbrev pub then_called : Option (List DialCall) → List DialCall → Option (List DialCall)
+then_called before more = option_map (λ calls. calls ++ more) before
+
+abbrev pub dialled : {A : Type 0} → Option A → DialCall
+dialled None = failed
+dialled (Some link) = opened
+
+-- the list is empty, if it is known
+abbrev pub IsNothing : {A : Type 0} → Option (List A) → Type 0
+IsNothing shown = shown ≡ option_map (λ _. []) shown
+
+-- the connection has given and taken nothing yet, and has not failed
+abbrev pub IsNew : Link → Type 0
+IsNew link =
+    (link.input.failures ≡ 0) × (link.output.failures ≡ 0) × IsNothing link.input.given × IsNothing link.output.got
+
+-- how often the kept connection has failed
+abbrev pub kept_failures : {L : Type 0} → (L → Input) → (L → Output) → Option L → ℕ
+kept_failures input output None = 0
+kept_failures input output (Some link) = (input link).failures + (output link).failures
+
+-- ---- a value of jobs
+
+-- What it shows: the connection that it has kept, and whether that is quiet; the calls of what dials; the times of its clock.
+pub record Standing : Type 0 where
+  pub kept : Option Link
+  pub quiet : Option Bool
+  pub calls : Option (List DialCall)
+  pub shown : Option (List (Option ℕ))
+
+abbrev pub stands : {L : Type 0} → (L → Input) → (L → Output) → (L → Option Bool) → Option L → Option (List DialCall) → Option (List (Option ℕ)) → Standing
+stands input output quiet kept calls shown = record {
+  kept = option_map (seen_link input output) kept;
+  quiet = option_and_then quiet kept;
+  calls = calls;
+  shown = shown;
+}
+
+-- closing the kept connection, if there is one
+abbrev pub closings : Option Link → List DialCall
+closings None = []
+closings (Some link) = closed link ∷ []
+
+-- the kept connection is used again, and has not shown that it ended or holds a byte
+abbrev pub Keeps : Standing → Link → Type 0
+Keeps old before = (old.kept ≡ Some before) × (old.quiet ≢ Some false)
+
+-- the kept connection, or none, and then it was closed as it was
+abbrev pub Reuses : Standing → List DialCall → Option Link → Type 0
+Reuses old calls (Some before) = Keeps old before × (calls ≡ [])
+Reuses old calls None = calls ≡ closings old.kept
+
+-- A job has the kept connection, or a new one after the kept one was closed as it was.
+abbrev pub Opens : Standing → List DialCall → Link → Type 0
+Opens old calls before = (Keeps old before × (calls ≡ [])) ⊎ (IsNew before × (calls ≡ closings old.kept ++ opened ∷ []))
+
+-- after a job its connection is kept, or closed
+abbrev pub Leaves : Option Link → List DialCall → Bool → Link → Type 0
+Leaves kept calls true after = (kept ≡ Some after) × (calls ≡ [])
+Leaves kept calls false after = (kept ≡ None) × (calls ≡ closed after ∷ [])
+
+-- so long after this time, if the time is known
+abbrev pub deadline_from : ℕ → Option ℕ → Option ℕ
+deadline_from timeout start = option_map (λ time. min (time + timeout) (2 ^ 64 - 1)) start
+
+-- One job over one connection: how that came, what went out and came back over it, how it was left, and what the clock showed meanwhile.
+pub record Uses (old new : Standing) (sent : List ℕ) (is_kept : Bool) (seen : Seen) (start : Option ℕ) (before after : Link) : Type 0 where
+  pub first : List DialCall
+  pub last : List DialCall
+  pub opens : Opens old first before
+  pub given : after.input.given ≡ and_then before.input.given seen.read
+  pub got : after.output.got ≡ and_then before.output.got sent
+  pub leaves : Leaves new.kept last is_kept after
+  pub calls : new.calls ≡ then_called old.calls (first ++ last)
+  pub shown : new.shown ≡ shown_then old.shown (start ∷ seen.times)
+
+-- The job was served: its request went out, once, and what came back after it reports this.
+pub record Served (s : Service) (old new : Standing) (j : AssignedJob) (told : Told) : Type 0 where
+  pub is_kept : Bool
+  pub seen : Seen
+  pub start : Option ℕ
+  pub before : Link
+  pub after : Link
+  pub uses : Uses old new (request_of s j) is_kept seen start before after
+  pub answered : IsAnswered head_limits (most_body j) seen.read told is_kept
+
+-- what a job reports, or that there is none of its function: then nothing was done
+abbrev pub Tells : Service → Standing → Standing → AssignedJob → Option Told → Type 0
+Tells s old new j None = IsTrue (has_no_path j.function) × (new ≡ old)
+Tells s old new j (Some told) = (has_no_path j.function ≡ false) × Served s old new j told
+
+-- The job was begun over a connection: a prefix of its request went out, once, and this is why no answer came.
+pub record Failed (s : Service) (timeout : ℕ) (old new : Standing) (j : AssignedJob) (e : NotDone) : Type 0 where
+  pub count : ℕ
+  pub seen : Seen
+  pub start : Option ℕ
+  pub before : Link
+  pub after : Link
+  pub uses : Uses old new (take count (request_of s j)) false seen start before after
+  pub explained : Explains s j (deadline_from timeout start) seen before after e
+
+-- why a job was not done
+abbrev pub NotServed : Service → ℕ → Standing → Standing → AssignedJob → NotDone → Type 0
+NotServed s timeout old new j (Not why.Unreachable) =
+    (new.kept ≡ None) × (new.calls ≡ then_called old.calls (closings old.kept ++ failed ∷ []))
+NotServed s timeout old new j other = Failed s timeout old new j other

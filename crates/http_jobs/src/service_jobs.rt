@@ -1,0 +1,211 @@
+//! The jobs of a service, over one connection that is kept.
+
+ghost use Rattle.std.specs.Prelude.{◌≡◌, ◌++◌, ◌+◌, ◌∷◌, [], ℕ, List, Option, Bool, IfSome, IfOk, IfErr, Ok, Some, None, true};
+ghost use Rattle.gear_packets.specs.Reading.{job_of};
+ghost use Rattle.job_runner.specs.Told.{told_of};
+ghost use Rattle.std.specs.Option.{option_map};
+ghost use Rattle.job_runner.specs.Run.{seen_link};
+ghost use Rattle.http_jobs.specs.Serving.{DialCall, IsNew, Leaves, NotServed, Opens, Reuses, Tells, closed, closings, deadline_from, dialled, failed, kept_failures, stands, then_called};
+ghost use Rattle.http_jobs.specs.Clock.{shown_then};
+
+use crate::clock::Clock;
+use crate::exchanging::exchange;
+use crate::fault::{NotDone, Unserved};
+use crate::request::has_no_path;
+use crate::service::Service;
+use byte_io::{Device, Sink, Source};
+use gear_packets::Assignment;
+use job_runner::Outcome;
+use std::alloc::Global;
+use std::snapshot::Snapshot;
+
+/// A connection that can be looked at without waiting.
+pub trait Look: Device {
+    ghost use Rattle.std.specs.Prelude.{Bool, Option};
+
+    /// Whether it is open, and nothing has come that was not read. None if it does not show that.
+    ghost quiet: { Self → Option Bool };
+
+    /// Whether it is open, and nothing has come that was not read. It does not wait, and takes nothing.
+    fn is_quiet(&mut self) -> bool
+        ensures quiet { IfSome (Self.quiet self.old) (λ quiet. result ≡ quiet) }
+        ensures input { Self.input self.new ≡ Self.input self.old }
+        ensures output { Self.output self.new ≡ Self.output self.old };
+}
+
+/// What opens connections to a service, and gets word of those that were closed.
+///
+/// One in memory can show contracts its calls, as a list. Of the system's network nothing is known, and it shows None.
+pub trait Dial<L: Source + Sink> {
+    ghost use Rattle.std.specs.Prelude.{List, Option};
+    ghost use Rattle.http_jobs.specs.Serving.{DialCall};
+
+    /// The calls so far, the first one first, or None.
+    ghost calls: { Self → Option (List DialCall) };
+
+    /// A new connection, or none if the service cannot be reached by the deadline, in milliseconds of the clock.
+    fn dial(&mut self, deadline: Option<u64>) -> Option<L>
+        ensures calls { Self.calls self.new ≡ then_called (Self.calls self.old) (dialled result ∷ []) }
+        ensures fresh { IfSome result (λ link. IsNew (seen_link L.input L.output link)) };
+
+    /// A connection was closed. This is what it was then.
+    fn hung_up(&mut self, link: Snapshot<L>)
+        ensures calls { Self.calls self.new
+            ≡ then_called (Self.calls self.old) (closed (seen_link L.input L.output link.value) ∷ []) };
+}
+
+/// The jobs of a service, which does each by one request and one response. The connection is kept from one to the next if it can be.
+#[derive(Drop)]
+pub struct ServiceJobs<L: Source + Sink, D, C> {
+    service: Service,
+    dial: D,
+    clock: C,
+    timeout_ms: u64,
+    kept: Option<L>,
+    ghost sound: { kept_failures L.input L.output kept ≡ 0 },
+}
+
+impl<L: Source + Sink + Look + Drop, D: Dial<L>, C: Clock> ServiceJobs<L, D, C> {
+    /// Jobs for which no connection was opened yet. A job has so many milliseconds, from its start until its response is whole.
+    pub fn new(service: Service, dial: D, clock: C, timeout_ms: u64) -> ServiceJobs<L, D, C>
+        ensures service { result.service ≡ service }
+        ensures dial { result.dial ≡ dial }
+        ensures clock { result.clock ≡ clock }
+        ensures timeout { result.timeout_ms ≡ timeout_ms }
+        ensures kept { result.kept ≡ None }
+    {
+        ServiceJobs {
+            service,
+            dial,
+            clock,
+            timeout_ms,
+            kept: None,
+        }
+    }
+
+    /// Closes a connection.
+    fn hang_up(&mut self, link: L)
+        ensures calls { D.calls self.new.dial ≡ then_called (D.calls self.old.dial) (closed (seen_link L.input L.output link) ∷ []) }
+        ensures kept { self.new.kept ≡ self.old.kept }
+        ensures clock { self.new.clock ≡ self.old.clock }
+        ensures service { self.new.service ≡ self.old.service }
+        ensures timeout { self.new.timeout_ms ≡ self.old.timeout_ms }
+    {
+        let left = Snapshot::of(&link);
+        drop(link);
+        self.dial.hung_up(left);
+    }
+
+    /// The kept connection, if it is quiet. Else it is closed.
+    fn reuse(&mut self) -> Option<L>
+        ensures kept { self.new.kept ≡ None }
+        ensures sound { kept_failures L.input L.output result ≡ 0 }
+        ensures clock { self.new.clock ≡ self.old.clock }
+        ensures service { self.new.service ≡ self.old.service }
+        ensures timeout { self.new.timeout_ms ≡ self.old.timeout_ms }
+        ensures reuses { (calls : List DialCall) × (D.calls self.new.dial ≡ then_called (D.calls self.old.dial) calls)
+            × Reuses (stands L.input L.output L.quiet self.old.kept (D.calls self.old.dial) (C.shown self.old.clock)) calls
+            (option_map (seen_link L.input L.output) result) }
+    {
+        let mut link = self.kept.take()?;
+        if link.is_quiet() {
+            return Some(link);
+        }
+        self.hang_up(link);
+        None
+    }
+
+    /// The kept connection, or a new one.
+    fn connect(&mut self, deadline: Option<u64>) -> Result<L, NotDone>
+        ensures kept { self.new.kept ≡ None }
+        ensures sound { IfOk result (λ link. (L.input link).failures + (L.output link).failures ≡ 0) }
+        ensures clock { self.new.clock ≡ self.old.clock }
+        ensures service { self.new.service ≡ self.old.service }
+        ensures timeout { self.new.timeout_ms ≡ self.old.timeout_ms }
+        ensures opens { IfOk result (λ link. (calls : List DialCall) × (D.calls self.new.dial ≡ then_called (D.calls self.old.dial) calls)
+            × Opens (stands L.input L.output L.quiet self.old.kept (D.calls self.old.dial) (C.shown self.old.clock)) calls
+            (seen_link L.input L.output link)) }
+        ensures fails { IfErr result (λ e. (e ≡ NotDone.Unserved Unserved.Unreachable) × (D.calls self.new.dial
+            ≡ then_called (D.calls self.old.dial) (closings (option_map (seen_link L.input L.output) self.old.kept) ++ failed ∷ []))) }
+    {
+        if let Some(link) = self.reuse() {
+            return Ok(link);
+        }
+        match self.dial.dial(deadline) {
+            Some(link) => Ok(link),
+            None => Err(NotDone::Unserved(Unserved::Unreachable)),
+        }
+    }
+
+    /// Keeps a connection after its job, or closes it.
+    fn leave(&mut self, link: L, is_kept: bool)
+        requires free { self.old.kept ≡ None }
+        requires sound { is_kept ≡ true → (L.input link).failures + (L.output link).failures ≡ 0 }
+        ensures leaves { (calls : List DialCall) × (D.calls self.new.dial ≡ then_called (D.calls self.old.dial) calls)
+            × Leaves (option_map (seen_link L.input L.output) self.new.kept) calls is_kept (seen_link L.input L.output link) }
+        ensures clock { self.new.clock ≡ self.old.clock }
+        ensures service { self.new.service ≡ self.old.service }
+        ensures timeout { self.new.timeout_ms ≡ self.old.timeout_ms }
+    {
+        if is_kept {
+            self.kept = Some(link);
+        } else {
+            self.hang_up(link);
+        }
+    }
+
+    /// The deadline of a job that starts now.
+    fn deadline(&mut self) -> Option<u64>
+        ensures shown { (start : Option ℕ) × (C.shown self.new.clock ≡ shown_then (C.shown self.old.clock) (start ∷ []))
+            × (result ≡ deadline_from self.old.timeout_ms start) }
+        ensures kept { self.new.kept ≡ self.old.kept }
+        ensures dial { self.new.dial ≡ self.old.dial }
+        ensures service { self.new.service ≡ self.old.service }
+        ensures timeout { self.new.timeout_ms ≡ self.old.timeout_ms }
+    {
+        match self.clock.now_ms() {
+            Some(now) => Some(now.saturating_add(self.timeout_ms)),
+            None => None,
+        }
+    }
+
+    /// Does a job. None if its function has no path of its own: then nothing is sent.
+    ///
+    /// It is sent once at most: over the kept connection, or over a new one if there is none, or if that has ended or holds a byte that
+    /// nobody asked for. Unserved says that no answer came, and why.
+    pub fn run(&mut self, alloc: Global, job: &Assignment) -> Result<Option<Outcome>, NotDone>
+        ensures served { IfOk result (λ outcome. Tells self.old.service
+            (stands L.input L.output L.quiet self.old.kept (D.calls self.old.dial) (C.shown self.old.clock))
+            (stands L.input L.output L.quiet self.new.kept (D.calls self.new.dial) (C.shown self.new.clock))
+            (job_of job.now) (option_map told_of outcome)) }
+        ensures failed { IfErr result (NotServed self.old.service self.old.timeout_ms
+            (stands L.input L.output L.quiet self.old.kept (D.calls self.old.dial) (C.shown self.old.clock))
+            (stands L.input L.output L.quiet self.new.kept (D.calls self.new.dial) (C.shown self.new.clock))
+            (job_of job.now)) }
+        ensures service { self.new.service ≡ self.old.service }
+        ensures timeout { self.new.timeout_ms ≡ self.old.timeout_ms }
+    {
+        if has_no_path(job.function.as_slice()) {
+            return Ok(None);
+        }
+        let deadline = self.deadline();
+        let mut link = self.connect(deadline)?;
+        match exchange(
+            alloc,
+            &mut link,
+            &mut self.clock,
+            &self.service,
+            job,
+            deadline,
+        ) {
+            Ok(done) => {
+                self.leave(link, done.is_kept);
+                Ok(Some(done.outcome))
+            }
+            Err(e) => {
+                self.leave(link, false);
+                Err(e)
+            }
+        }
+    }
+}
