@@ -1,5 +1,5 @@
 -- The text of a request.
-use Rattle.std.proofs.Common.{◌≡◌, ◌≢◌, ℕ, min, Bool, true, false, not, cond, ltb, eqb, ◌&&◌, ◌||◌, List, [], ◌∷◌, ◌++◌, length, codes, Option, Some, None, Result, Ok, Err, sym, refl, ap, ◌∙◌, subst, subst₂, append_assoc, count_by, string_bytes}
+use Rattle.std.proofs.Common.{◌≡◌, ℕ, min, Bool, true, false, not, cond, ltb, eqb, ◌&&◌, ◌||◌, List, [], ◌∷◌, ◌++◌, length, codes, Option, Some, None, Result, Ok, Err, sym, refl, ap, ◌∙◌, subst, subst₂, append_assoc, count_by, string_bytes}
 use Rattle.std.specs.List.{AllByRecursion, list_any}
 use Rattle.std.proofs.lemmas.List.{append-nil}
 use Rattle.std.proofs.lemmas.List.Folds.{list_any-append}
@@ -28,7 +28,8 @@ use Rattle.http1.specs.Client.{request_plan, request_refusal, planned_request, p
 use Rattle.http1.proofs.MessageRoundTrip.{request_plan_framed}
 use Rattle.http_jobs.specs.declared.service.Service.{Service}
 use Rattle.gear_packets.specs.Response.{AssignedJob}
-use Rattle.http_jobs.specs.Request.{is_sent, sent_header, headers_of}
+use Rattle.http_jobs.specs.Values.{is_sent}
+use Rattle.http_jobs.specs.Request.{sent_header, headers_of}
 use Rattle.http_jobs.specs.Reading.{HasAsked}
 
 -- a header that neither frames the body nor asks for another protocol
@@ -95,11 +96,11 @@ no_upgrade : (hs : List Header) → AreOrdinary hs → list_any (is_named (codes
 no_upgrade [] o = refl
 no_upgrade (h ∷ hs) o = let e = o.0.upgrade in rw e (no_upgrade hs o.1)
 
-no_codings : (hs more : List Header) → AreOrdinary hs → elements_named (codes "transfer-encoding") (hs ++ more) ≡ elements_named (codes "transfer-encoding") more
+pub no_codings : (hs more : List Header) → AreOrdinary hs → elements_named (codes "transfer-encoding") (hs ++ more) ≡ elements_named (codes "transfer-encoding") more
 no_codings [] more o = refl
 no_codings (h ∷ hs) more o = let e = (none_of_either (is_named (codes "content-length") h) (is_named (codes "transfer-encoding") h) o.0.framing).1 in rw e (no_codings hs more o.1)
 
-length_is_no_coding : (n : ℕ) → elements_named (codes "transfer-encoding") (length_header n ∷ []) ≡ []
+pub length_is_no_coding : (n : ℕ) → elements_named (codes "transfer-encoding") (length_header n ∷ []) ≡ []
 unfolding eq_ignore_case
 length_is_no_coding n = refl
 
@@ -114,7 +115,7 @@ states_none : (hs : List Header) → AreOrdinary hs → states_framing (known_fi
 unfolding known_fields
 states_none hs o = ap (λ (n : ℕ). ltb 0 (min n 2)) (no_framing_fields hs o)
 
-adds_length : (hs : List Header) (n : ℕ) → AreOrdinary hs → framing_headers (Known n) hs ≡ length_header n ∷ []
+pub adds_length : (hs : List Header) (n : ℕ) → AreOrdinary hs → framing_headers (Known n) hs ≡ length_header n ∷ []
 adds_length hs n o = ap (λ (b : Bool). cond (true && not b) (length_header n ∷ []) []) (states_none hs o)
 
 is_unchunked : Framing → Bool
@@ -129,7 +130,7 @@ absent_unchunked x Lengths.Absent f e = let s : Framed.NoBody ≡ f = cc in subs
 absent_unchunked x (Lengths.Value n) f e = let s : Framed.Length n ≡ f = cc in subst (λ y. is_unchunked y ≡ true) s refl
 absent_unchunked x Lengths.Invalid f e = cc
 
-absent : (hs : List Header) → elements_named (codes "transfer-encoding") hs ≡ [] → (known_fields hs).transfer_encoding ≡ Coding.Absent
+pub absent : (hs : List Header) → elements_named (codes "transfer-encoding") hs ≡ [] → (known_fields hs).transfer_encoding ≡ Coding.Absent
 unfolding known_fields
 absent hs e = ap transfer_encoding e
 
@@ -174,9 +175,9 @@ pub not_refused : (o : Option WriteError) (spare len : ℕ) (u : Unit {0}) → G
 not_refused None spare len u h = refl
 not_refused (Some e) spare len u h = cc
 
-pub refusal_is : (o : Option WriteError) (spare len : ℕ) (e : WriteError) → GivesOrRefuses {T = Unit {0}} o spare len (Err e) → e ≢ Refusal.OutOfMemory → o ≡ Some e
-refusal_is None spare len e h other = absurd (other h.0)
-refusal_is (Some x) spare len e h other = cc
+pub only_memory : (o : Option WriteError) (spare len : ℕ) (e : WriteError) → GivesOrRefuses {T = Unit {0}} o spare len (Err e) → o ≡ None → e ≡ Refusal.OutOfMemory
+only_memory None spare len e h none = h.0
+only_memory (Some x) spare len e h none = cc
 
 -- ---- the text
 

@@ -2,17 +2,15 @@
 use Rattle.std.proofs.Common.{◌≡◌, ℕ, ◌+◌, List, [], ◌∷◌, ◌++◌, Option, Some, None, Result, Ok, Err, sym, refl, ap, ◌∙◌, subst, append_assoc, IsSome, MatchResult}
 use Rattle.std.proofs.lemmas.List.{append-nil}
 use Rattle.http1.specs.declared.conn.Limits.{Limits}
-use Rattle.gear_packets.specs.Response.{AssignedJob}
 use Rattle.byte_io.specs.Sides.{Input, and_then, counted}
 use Rattle.byte_io.proofs.Devices.{told_twice, counted_twice, counted_nothing, told_nothing}
 use Rattle.job_runner.specs.Run.{Link}
-use Rattle.http_jobs.specs.declared.service.Service.{Service}
 use Rattle.http_jobs.specs.declared.exchanging.Done.{Done}
 use Rattle.http_jobs.specs.declared.fault.NotDone.{NotDone}
 use Rattle.http_jobs.specs.declared.fault.NotDone.TheVariants.{Unserved as Not, Memory}
 use Rattle.http_jobs.specs.declared.fault.Unserved.TheVariants as why
 use Rattle.http_jobs.specs.Clock.{shown_then, IsLate}
-use Rattle.http_jobs.specs.Reasons.{Seen, NotEncoded, NotReceived, NotSent}
+use Rattle.http_jobs.specs.Reasons.{Seen, NotReceived, NotSent}
 use Rattle.http_jobs.specs.Reading.{StepFails, FillFails}
 use Rattle.http_jobs.specs.Exchange.{Sees, IsDone, Explains}
 use Rattle.http_jobs.specs.Response.{head_limits}
@@ -82,7 +80,6 @@ sees_times old new shown now times same e = (
 
 pub step_fails : (limits : Limits) (deadline : Option ℕ) (seen : Seen) (old new : Input) (e : NotDone) → StepFails limits seen.read e → NotReceived limits deadline seen old new e
 step_fails limits deadline seen old new (Not why.Unreachable) h = absurd h
-step_fails limits deadline seen old new (Not (why.Unsendable e)) h = absurd h
 step_fails limits deadline seen old new (Not why.Write) h = absurd h
 step_fails limits deadline seen old new (Not why.Read) h = absurd h
 step_fails limits deadline seen old new (Not why.Ended) h = absurd h
@@ -94,7 +91,6 @@ step_fails limits deadline seen old new Memory h = tt
 
 pub fill_fails : (limits : Limits) (deadline : Option ℕ) (seen : Seen) (first old new : Input) (e : NotDone) → old.failures ≡ first.failures → FillFails limits seen.read old new e → NotReceived limits deadline seen first new e
 fill_fails limits deadline seen first old new (Not why.Unreachable) same h = absurd h
-fill_fails limits deadline seen first old new (Not (why.Unsendable e)) same h = absurd h
 fill_fails limits deadline seen first old new (Not why.Write) same h = absurd h
 fill_fails limits deadline seen first old new (Not why.Read) same h = h ∙ ap (λ (n : ℕ). n + 1) same
 fill_fails limits deadline seen first old new (Not why.Ended) same h = h
@@ -107,49 +103,35 @@ fill_fails limits deadline seen first old new Memory same h = tt
 late_after : (deadline : Option ℕ) (times more : List (Option ℕ)) → IsLate deadline more → IsLate deadline (times ++ more)
 late_after deadline times more h = (times ++ h.0, h.1, ap (λ x. times ++ x) h.2 ∙ sym (append_assoc times h.0 (h.1 ∷ [])), h.3)
 
-pub not_received : (s : Service) (j : AssignedJob) (deadline : Option ℕ) (times : List (Option ℕ)) (seen : Seen) (old mid new : Link) (e : NotDone) → mid.input ≡ old.input → NotReceived head_limits deadline seen mid.input new.input e → Explains s j deadline (before_it times seen) old new e
-not_received s j deadline times seen old mid new (Not why.Unreachable) same h = absurd h
-not_received s j deadline times seen old mid new (Not (why.Unsendable e)) same h = absurd h
-not_received s j deadline times seen old mid new (Not why.Write) same h = absurd h
-not_received s j deadline times seen old mid new (Not why.Read) same h = h ∙ ap (λ (i : Input). i.failures + 1) same
-not_received s j deadline times seen old mid new (Not why.Ended) same h = h
-not_received s j deadline times seen old mid new (Not why.Late) same h = late_after deadline times seen.times h
-not_received s j deadline times seen old mid new (Not (why.NoResponse e)) same h = h
-not_received s j deadline times seen old mid new (Not (why.Status status)) same h = h
-not_received s j deadline times seen old mid new (Not why.Endless) same h = h
-not_received s j deadline times seen old mid new Memory same h = tt
+pub not_received : (deadline : Option ℕ) (times : List (Option ℕ)) (seen : Seen) (old mid new : Link) (e : NotDone) → mid.input ≡ old.input → NotReceived head_limits deadline seen mid.input new.input e → Explains deadline (before_it times seen) old new e
+not_received deadline times seen old mid new (Not why.Unreachable) same h = absurd h
+not_received deadline times seen old mid new (Not why.Write) same h = absurd h
+not_received deadline times seen old mid new (Not why.Read) same h = h ∙ ap (λ (i : Input). i.failures + 1) same
+not_received deadline times seen old mid new (Not why.Ended) same h = h
+not_received deadline times seen old mid new (Not why.Late) same h = late_after deadline times seen.times h
+not_received deadline times seen old mid new (Not (why.NoResponse e)) same h = h
+not_received deadline times seen old mid new (Not (why.Status status)) same h = h
+not_received deadline times seen old mid new (Not why.Endless) same h = h
+not_received deadline times seen old mid new Memory same h = tt
 
-pub not_sent : (s : Service) (j : AssignedJob) (deadline : Option ℕ) (times : List (Option ℕ)) (old new : Link) (e : NotDone) → NotSent deadline times old.output new.output e → Explains s j deadline (only_times times) old new e
-not_sent s j deadline times old new (Not why.Unreachable) h = absurd h
-not_sent s j deadline times old new (Not (why.Unsendable e)) h = absurd h
-not_sent s j deadline times old new (Not why.Write) h = h
-not_sent s j deadline times old new (Not why.Read) h = absurd h
-not_sent s j deadline times old new (Not why.Ended) h = absurd h
-not_sent s j deadline times old new (Not why.Late) h = h
-not_sent s j deadline times old new (Not (why.NoResponse e)) h = absurd h
-not_sent s j deadline times old new (Not (why.Status status)) h = absurd h
-not_sent s j deadline times old new (Not why.Endless) h = absurd h
-not_sent s j deadline times old new Memory h = absurd h
+pub not_sent : (deadline : Option ℕ) (times : List (Option ℕ)) (old new : Link) (e : NotDone) → NotSent deadline times old.output new.output e → Explains deadline (only_times times) old new e
+not_sent deadline times old new (Not why.Unreachable) h = absurd h
+not_sent deadline times old new (Not why.Write) h = h
+not_sent deadline times old new (Not why.Read) h = absurd h
+not_sent deadline times old new (Not why.Ended) h = absurd h
+not_sent deadline times old new (Not why.Late) h = h
+not_sent deadline times old new (Not (why.NoResponse e)) h = absurd h
+not_sent deadline times old new (Not (why.Status status)) h = absurd h
+not_sent deadline times old new (Not why.Endless) h = absurd h
+not_sent deadline times old new Memory h = absurd h
 
 -- the result of a receive is that of an exchange
-pub received : (s : Service) (j : AssignedJob) (deadline : Option ℕ) (times : List (Option ℕ)) (max : ℕ) (seen : Seen) (old mid new : Link) (r : Result Done NotDone) → mid.input ≡ old.input → MatchResult r (IsDone head_limits max seen.read) (NotReceived head_limits deadline seen mid.input new.input) → MatchResult r (IsDone head_limits max seen.read) (Explains s j deadline (before_it times seen) old new)
-received s j deadline times max seen old mid new (Ok done) same h = h
-received s j deadline times max seen old mid new (Err e) same h = not_received s j deadline times seen old mid new e same h
+pub received : (deadline : Option ℕ) (times : List (Option ℕ)) (max : ℕ) (seen : Seen) (old mid new : Link) (r : Result Done NotDone) → mid.input ≡ old.input → MatchResult r (IsDone head_limits max seen.read) (NotReceived head_limits deadline seen mid.input new.input) → MatchResult r (IsDone head_limits max seen.read) (Explains deadline (before_it times seen) old new)
+received deadline times max seen old mid new (Ok done) same h = h
+received deadline times max seen old mid new (Err e) same h = not_received deadline times seen old mid new e same h
 
 -- the limits of the client and the bound of the body are those of the job
 pub received_at : (limits now : Limits) (bound max : ℕ) (deadline : Option ℕ) (seen : Seen) (old new : Input) (r : Result Done NotDone) → limits ≡ now → bound ≡ max → MatchResult r (IsDone limits bound seen.read) (NotReceived limits deadline seen old new) → MatchResult r (IsDone now max seen.read) (NotReceived now deadline seen old new)
 received_at limits now bound max deadline seen old new r same size h =
     subst (λ (l : Limits). MatchResult r (IsDone l max seen.read) (NotReceived l deadline seen old new)) same
     (subst (λ (n : ℕ). MatchResult r (IsDone limits n seen.read) (NotReceived limits deadline seen old new)) size h)
-
-pub not_encoded : (s : Service) (j : AssignedJob) (deadline : Option ℕ) (seen : Seen) (old new : Link) (e : NotDone) → NotEncoded head_limits s j e → Explains s j deadline seen old new e
-not_encoded s j deadline seen old new (Not why.Unreachable) h = absurd h
-not_encoded s j deadline seen old new (Not (why.Unsendable e)) h = h
-not_encoded s j deadline seen old new (Not why.Write) h = absurd h
-not_encoded s j deadline seen old new (Not why.Read) h = absurd h
-not_encoded s j deadline seen old new (Not why.Ended) h = absurd h
-not_encoded s j deadline seen old new (Not why.Late) h = absurd h
-not_encoded s j deadline seen old new (Not (why.NoResponse e)) h = absurd h
-not_encoded s j deadline seen old new (Not (why.Status status)) h = absurd h
-not_encoded s j deadline seen old new (Not why.Endless) h = absurd h
-not_encoded s j deadline seen old new Memory h = tt

@@ -2,3 +2,4 @@ pub mod Coming
 pub mod Asking
 pub mod Exchanges
 pub mod Uses
+pub mod Accepted

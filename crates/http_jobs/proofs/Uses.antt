@@ -17,7 +17,6 @@ called_twice (Some calls) a b = ap Some (append_assoc calls a b)
 -- an exchange does not fail for want of a connection
 pub failed_over : (s : Service) (timeout : ℕ) (old new : Standing) (j : AssignedJob) (e : NotDone) → Failed s timeout old new j e → NotServed s timeout old new j e
 failed_over s timeout old new j (Not why.Unreachable) h = absurd h.explained
-failed_over s timeout old new j (Not (why.Unsendable e)) h = h
 failed_over s timeout old new j (Not why.Write) h = h
 failed_over s timeout old new j (Not why.Read) h = h
 failed_over s timeout old new j (Not why.Ended) h = h

@@ -2,17 +2,15 @@
 use Rattle.std.specs.Prelude.{◌≡◌, ℕ, ◌+◌, ◌-◌, ◌^◌, ◌≤◌, ◌⊎◌, List, [], length, Option, Bool, true, false, IsTrue}
 use Rattle.httparse.specs.Grammar.{ResponseHead}
 use Rattle.http1.specs.declared.conn.Limits.{Limits}
-use Rattle.gear_packets.specs.Response.{AssignedJob}
 use Rattle.byte_io.specs.Sides.{Input, and_then, counted}
 use Rattle.job_runner.specs.Run.{Link}
 use Rattle.job_runner.specs.Told.{Told, told_of}
-use Rattle.http_jobs.specs.declared.service.Service.{Service}
 use Rattle.http_jobs.specs.declared.exchanging.Done.{Done}
 use Rattle.http_jobs.specs.declared.fault.NotDone.{NotDone}
 use Rattle.http_jobs.specs.declared.fault.NotDone.TheVariants.{Unserved as Not, Memory}
 use Rattle.http_jobs.specs.declared.fault.Unserved.TheVariants as why
 use Rattle.http_jobs.specs.Clock.{IsLate, shown_then}
-use Rattle.http_jobs.specs.Reasons.{Seen, IsRefused, HasStatus}
+use Rattle.http_jobs.specs.Reasons.{Seen, HasStatus}
 use Rattle.http_jobs.specs.Response.{Reports, OnlyLarger, HoldsNoAnswer, NeverAnswers, failed_with, keeps_connection, head_limits}
 
 -- the source gave what was seen, and the clock showed it
@@ -20,8 +18,8 @@ abbrev pub Sees : Input → Option (List (Option ℕ)) → Seen → Input → Op
 Sees old shown seen new shown_now =
     (new.given ≡ and_then old.given seen.read) × (new.lulls ≡ counted old.lulls seen.lulls) × (shown_now ≡ shown_then shown seen.times)
 
--- What was read answers the job, which reports this. Either it is what the response reports: then the connection is kept only if the head allows it and
--- nothing came behind the response. Or the body was too large, and the job failed.
+-- What was read answers the job, which reports this. Either it is what the response reports: then the connection is kept only if the head
+-- allows it and nothing came behind the response. Or the body was too large, and the job failed.
 abbrev pub IsAnswered : Limits → ℕ → List ℕ → Told → Bool → Type 0
 IsAnswered limits max read told is_kept =
     ((head : ResponseHead) × (rest : List ℕ) × Reports limits read told head rest
@@ -32,14 +30,13 @@ abbrev pub IsDone : Limits → ℕ → List ℕ → Done → Type 0
 IsDone limits max read done = IsAnswered limits max read (told_of done.outcome) done.is_kept
 
 -- why an exchange was not done, by what was seen and by what the link shows of its sides before and after
-abbrev pub Explains : Service → AssignedJob → Option ℕ → Seen → Link → Link → NotDone → Type 0
-Explains s j deadline seen old new (Not why.Unreachable) = ⊥
-Explains s j deadline seen old new (Not (why.Unsendable e)) = IsRefused head_limits s j e
-Explains s j deadline seen old new (Not why.Write) = new.output.failures ≡ old.output.failures + 1
-Explains s j deadline seen old new (Not why.Read) = new.input.failures ≡ old.input.failures + 1
-Explains s j deadline seen old new (Not why.Ended) = (new.input.has_ended ≡ true) × HoldsNoAnswer head_limits seen.read
-Explains s j deadline seen old new (Not why.Late) = IsLate deadline seen.times
-Explains s j deadline seen old new (Not (why.NoResponse e)) = NeverAnswers head_limits seen.read
-Explains s j deadline seen old new (Not (why.Status status)) = HasStatus head_limits seen.read status
-Explains s j deadline seen old new (Not why.Endless) = 2 ^ 64 - 1 ≤ length seen.read + seen.lulls
-Explains s j deadline seen old new Memory = Unit {0}
+abbrev pub Explains : Option ℕ → Seen → Link → Link → NotDone → Type 0
+Explains deadline seen old new (Not why.Unreachable) = ⊥
+Explains deadline seen old new (Not why.Write) = new.output.failures ≡ old.output.failures + 1
+Explains deadline seen old new (Not why.Read) = new.input.failures ≡ old.input.failures + 1
+Explains deadline seen old new (Not why.Ended) = (new.input.has_ended ≡ true) × HoldsNoAnswer head_limits seen.read
+Explains deadline seen old new (Not why.Late) = IsLate deadline seen.times
+Explains deadline seen old new (Not (why.NoResponse e)) = NeverAnswers head_limits seen.read
+Explains deadline seen old new (Not (why.Status status)) = HasStatus head_limits seen.read status
+Explains deadline seen old new (Not why.Endless) = 2 ^ 64 - 1 ≤ length seen.read + seen.lulls
+Explains deadline seen old new Memory = Unit {0}

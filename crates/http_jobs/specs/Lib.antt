@@ -1,3 +1,4 @@
+pub mod Values
 pub mod Clock
 pub mod Request
 pub mod Response

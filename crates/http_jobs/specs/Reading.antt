@@ -25,7 +25,8 @@ use Rattle.http_jobs.specs.declared.fault.NotDone.TheVariants.{Unserved as Not, 
 use Rattle.http_jobs.specs.declared.fault.Unserved.TheVariants as why
 use Rattle.byte_io.specs.Sides.{Input}
 use Rattle.http_jobs.specs.Reasons.{HasStatus}
-use Rattle.http_jobs.specs.Response.{Answers, ReadsInterims, HoldsNoAnswer, NeverAnswers, OnlyLarger, most_fields, is_unserved, ends_with_connection, keeps_connection}
+use Rattle.http_jobs.specs.Response.{Answers, ReadsInterims, HoldsNoAnswer, NeverAnswers, OnlyLarger, most_fields, is_unserved}
+use Rattle.http_jobs.specs.Response.{ends_with_connection, keeps_connection}
 
 -- a client that has asked by a method that is neither HEAD nor CONNECT, and for no other protocol
 pub record HasAsked (limits : Limits) (c : Client) : Type 0 where
@@ -49,14 +50,15 @@ is_unbounded (Decoding.Chunked chunks max) = false
 is_unbounded Decoding.UntilClose = true
 
 -- A head came. What completes the body completes the response, and nothing else does.
-pub record InBody (limits : Limits) (read : List ℕ) (d : Decoder) (c : Client) (left : List ℕ) (status : Option ℕ) (body : List ℕ) : Type 0 where
+pub record InBody
+    (limits : Limits) (read : List ℕ) (d : Decoder) (c : Client) (left : List ℕ) (status : Option ℕ) (body : List ℕ) : Type 0 where
   pub head : ResponseHead
   pub is : status ≡ Some (status_code head)
   pub served : is_unserved (status_code head) ≡ false
   pub ends : is_unbounded d ≡ ends_with_connection head
   pub keeps : c.keep_alive ≡ true → IsTrue (keeps_connection head)
-  pub completes : (more : List ℕ) (later : Body) (rest : List ℕ) → length later.trailers ≤ most_fields → Completes d (left ++ more) later rest
-      → Answers limits (read ++ more) (record { head = head; body = with_front body later }) rest
+  pub completes : (more : List ℕ) (later : Body) (rest : List ℕ) → length later.trailers ≤ most_fields
+      → Completes d (left ++ more) later rest → Answers limits (read ++ more) (record { head = head; body = with_front body later }) rest
   pub only : (more : List ℕ) (m : Response) (rest : List ℕ) → Answers limits (read ++ more) m rest
       → (later : Body) × (m.body ≡ with_front body later) × Completes d (left ++ more) later rest
 
@@ -73,7 +75,8 @@ abbrev pub Partway : Limits → List ℕ → Client → List ℕ → Option ℕ 
 Partway limits read c = PartwayAt c.reading limits read c
 
 -- The response is whole.
-pub record IsWhole (limits : Limits) (read : List ℕ) (c : Client) (left : List ℕ) (status : Option ℕ) (body : List ℕ) (unbounded : Bool) : Type 0 where
+pub record IsWhole
+    (limits : Limits) (read : List ℕ) (c : Client) (left : List ℕ) (status : Option ℕ) (body : List ℕ) (unbounded : Bool) : Type 0 where
   pub response : Response
   pub is : status ≡ Some (status_code response.head)
   pub served : is_unserved (status_code response.head) ≡ false

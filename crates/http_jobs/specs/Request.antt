@@ -1,11 +1,13 @@
 -- The request for a job (RFC 9112, section 3).
-use Rattle.std.specs.Prelude.{ℕ, ◌+◌, ◌-◌, ◌++◌, Bool, ◌&&◌, ◌||◌, ◌==◌, nat_lt, if◌then◌else◌, List, [], ◌∷◌, length, codes, string_bytes, bytes_eq}
+use Rattle.std.specs.Prelude.{ℕ, ◌+◌, ◌-◌, ◌++◌, Bool, ◌||◌, ◌==◌, if◌then◌else◌, List, [], ◌∷◌, length, codes}
+use Rattle.std.specs.Prelude.{string_bytes, bytes_eq}
 use Rattle.percent_encoding.specs.Percent.{percent_encode}
 use Rattle.gear_packets.specs.Frame.{body_limit}
 use Rattle.gear_packets.specs.Response.{AssignedJob}
 use Rattle.http1.specs.Fields.{Header}
-use Rattle.http1.specs.Head.{is_trimmed_value, request_text}
+use Rattle.http1.specs.Head.{request_text}
 use Rattle.http1.specs.Conn.{length_header}
+use Rattle.http_jobs.specs.Values.{is_sent}
 use Rattle.http_jobs.specs.declared.service.Service.{Service}
 use Rattle.http_jobs.specs.declared.request.TheConstants.{UNRESERVED}
 
@@ -16,10 +18,6 @@ target_of s j = (string_bytes s.path ++ codes "/") ++ percent_encode UNRESERVED 
 -- Such a name has no path of its own: servers take `.` and `..` for other paths, also percent-encoded.
 abbrev pub has_no_path : List ℕ → Bool
 has_no_path name = (length name == 0) || (bytes_eq name (codes ".") || bytes_eq name (codes ".."))
-
--- a header's value, and not empty
-abbrev pub is_sent : List ℕ → Bool
-is_sent value = nat_lt 0 (length value) && is_trimmed_value value
 
 -- the header, if its value may be sent
 abbrev pub sent_header : List ℕ → List ℕ → List Header

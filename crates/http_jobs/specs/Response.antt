@@ -1,5 +1,6 @@
 -- The response to a request, and what it reports of a job (RFC 9110, section 15; RFC 9112, sections 4 to 9).
-use Rattle.std.specs.Prelude.{◌≡◌, ℕ, ◌<◌, ◌≤◌, Bool, false, ◌&&◌, ◌||◌, ◌==◌, nat_le, nat_lt, if◌then◌else◌, List, [], ◌∷◌, ◌++◌, length, codes, Result, Ok, Err, IsTrue}
+use Rattle.std.specs.Prelude.{◌≡◌, ℕ, ◌<◌, ◌≤◌, Bool, false, ◌&&◌, ◌||◌, ◌==◌, nat_le, nat_lt, if◌then◌else◌, List, [], ◌∷◌, ◌++◌, length}
+use Rattle.std.specs.Prelude.{codes, Result, Ok, Err, IsTrue}
 use Rattle.httparse.specs.Grammar.{ResponseHead, status_code}
 use Rattle.http1.specs.declared.conn.Limits.{Limits}
 use Rattle.http1.specs.declared.framing.Framing.{Framing}

@@ -1,5 +1,6 @@
 -- The jobs of a service, and the connections over which they are done.
-use Rattle.std.specs.Prelude.{◌≡◌, ◌≢◌, ℕ, ◌+◌, ◌-◌, ◌^◌, ◌⊎◌, min, Bool, true, false, List, [], ◌∷◌, ◌++◌, take, Option, Some, None, option_map, IsTrue}
+use Rattle.std.specs.Prelude.{◌≡◌, ◌≢◌, ℕ, ◌+◌, ◌-◌, ◌^◌, ◌⊎◌, min, Bool, true, false, List, [], ◌∷◌, ◌++◌, take, Option, Some, None}
+use Rattle.std.specs.Prelude.{option_map, IsTrue}
 use Rattle.std.specs.Option.{option_and_then}
 use Rattle.gear_packets.specs.Response.{AssignedJob}
 use Rattle.byte_io.specs.Sides.{Input, Output, and_then}
@@ -55,7 +56,8 @@ pub record Standing : Type 0 where
   pub calls : Option (List DialCall)
   pub shown : Option (List (Option ℕ))
 
-abbrev pub stands : {L : Type 0} → (L → Input) → (L → Output) → (L → Option Bool) → Option L → Option (List DialCall) → Option (List (Option ℕ)) → Standing
+abbrev pub stands : {L : Type 0} → (L → Input) → (L → Output) → (L → Option Bool)
+    → Option L → Option (List DialCall) → Option (List (Option ℕ)) → Standing
 stands input output quiet kept calls shown = record {
   kept = option_map (seen_link input output) kept;
   quiet = option_and_then quiet kept;
@@ -124,7 +126,7 @@ pub record Failed (s : Service) (timeout : ℕ) (old new : Standing) (j : Assign
   pub before : Link
   pub after : Link
   pub uses : Uses old new (take count (request_of s j)) false seen start before after
-  pub explained : Explains s j (deadline_from timeout start) seen before after e
+  pub explained : Explains (deadline_from timeout start) seen before after e
 
 -- why a job was not done
 abbrev pub NotServed : Service → ℕ → Standing → Standing → AssignedJob → NotDone → Type 0

@@ -1,6 +1,7 @@
 //! One job, one request, one response.
 
-ghost use Rattle.std.specs.Prelude.{◌≡◌, ◌++◌, ◌<◌, ◌≤◌, ◌+◌, ◌-◌, ◌^◌, ℕ, List, [], length, take, IsSome, IfOk, IfErr, OnOk, MatchResult, IsTrue, IsFalse};
+ghost use Rattle.std.specs.Prelude.{◌≡◌, ◌++◌, ◌<◌, ◌≤◌, ◌+◌, ◌-◌, ◌^◌, ℕ, List, [], length, take, IsSome, IfOk, IfErr, OnOk};
+ghost use Rattle.std.specs.Prelude.{MatchResult, IsTrue, IsFalse};
 ghost use Rattle.http1.specs.declared.conn.Limits.{Limits as Heads};
 ghost use Rattle.http1.specs.declared.conn.Reading.TheVariants as Reads;
 ghost use Rattle.byte_io.specs.Sides.{and_then};
@@ -67,7 +68,8 @@ fn give_up(alloc: Global) -> Done
 fn conclude(alloc: Global, reader: ResponseReader, is_unbounded: bool) -> Result<Done, AllocError>
     requires within { reader.at ≤ length reader.unread.items }
     requires head { IsSome reader.status }
-    ensures { (max : ℕ) (limits : Heads) (read : List ℕ) → IsComplete limits read reader is_unbounded → IfOk result (IsDone limits max read) }
+    ensures { (max : ℕ) (limits : Heads) (read : List ℕ) → IsComplete limits read reader is_unbounded
+        → IfOk result (IsDone limits max read) }
 {
     let Some(status) = reader.status else {
         unreachable!()
@@ -129,7 +131,7 @@ pub fn exchange<L: Source + Sink, C: Clock>(
     requires writes { (L.output link.old).failures < 2 ^ 64 - 1 }
     ensures exchanged { (seen : Seen) × Sees (L.input link.old) (C.shown clock.old) seen (L.input link.new) (C.shown clock.new)
         × MatchResult result (IsDone head_limits (most_body (job_of job.now)) seen.read)
-        (Explains service.now (job_of job.now) deadline seen (seen_link L.input L.output link.old) (seen_link L.input L.output link.new)) }
+        (Explains deadline seen (seen_link L.input L.output link.old) (seen_link L.input L.output link.new)) }
     ensures request { OnOk result ((L.output link.new).got ≡ and_then (L.output link.old).got (request_of service.now (job_of job.now))) }
     ensures prefix { (count : ℕ) × ((L.output link.new).got
         ≡ and_then (L.output link.old).got (take count (request_of service.now (job_of job.now)))) }

@@ -1,6 +1,6 @@
 //! Why a job was not done.
 
-use http1::{ReadError, WriteError};
+use http1::ReadError;
 use std::alloc::AllocError;
 use thiserror::Error;
 
@@ -10,9 +10,6 @@ pub enum Unserved {
     /// No connection could be opened.
     #[error("no connection could be opened")]
     Unreachable,
-    /// The rules of HTTP do not let the request be sent, as the name of the host.
-    #[error("the request cannot be sent: {0}")]
-    Unsendable(WriteError),
     /// A write failed. A prefix of the request went out.
     #[error("a write failed")]
     Write,

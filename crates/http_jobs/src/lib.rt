@@ -10,9 +10,10 @@ mod request;
 mod sending;
 mod service;
 mod service_jobs;
+mod values;
 
 pub use clock::Clock;
 pub use exchanging::{Done, exchange};
 pub use fault::{NotDone, Unserved};
-pub use service::Service;
+pub use service::{Service, ServiceError};
 pub use service_jobs::{Dial, Look, ServiceJobs};

@@ -4,15 +4,13 @@ ghost use Rattle.std.specs.Prelude.{◌≡◌, ◌≢◌, ◌++◌, length, stri
 ghost use Rattle.http1.specs.Head.{pairs};
 ghost use Rattle.http1.specs.Client.{new_client};
 ghost use Rattle.gear_packets.specs.Reading.{job_of};
-ghost use Rattle.http_jobs.specs.Request.{target_of, is_sent, sent_header, headers_of, request_of, has_no_path, most_body};
+ghost use Rattle.http_jobs.specs.Request.{target_of, sent_header, headers_of, request_of, has_no_path, most_body};
 ghost use Rattle.http_jobs.specs.Reading.{HasAsked};
-ghost use Rattle.http_jobs.specs.Reasons.{IsRefused, NotEncoded};
 
-use crate::fault::{NotDone, Unserved};
 use crate::service::Service;
+use crate::values::is_sent;
 use gear_packets::Assignment;
 use http1::{BodySize, Client, Header, WriteError};
-use httparse::{is_header_value, is_space_or_tab};
 use percent_encoding::{AsciiSet, NON_ALPHANUMERIC, ascii_set, percent_encode};
 use std::alloc::{AllocError, Global};
 
@@ -50,18 +48,6 @@ fn target(alloc: Global, service: &Service, job: &Assignment) -> Result<String, 
     target.push_str("/")?;
     percent_encode(job.function.as_slice(), UNRESERVED).append_to(&mut target)?;
     Ok(target)
-}
-
-/// Whether the bytes may be a header's value, and are not empty.
-fn is_sent(value: &[u8]) -> bool
-    ensures { result ≡ is_sent value.now }
-{
-    match value {
-        [] => false,
-        [first, ..] if is_space_or_tab(*first) => false,
-        [.., last] if is_space_or_tab(*last) => false,
-        _ => is_header_value(value),
-    }
 }
 
 /// Adds a header if its value may be sent.
@@ -112,7 +98,7 @@ fn write_request(
     ensures text { IfOk result (λ text. text.items ≡ request_of service.now (job_of job.now)) }
     ensures asked { OnOk result (HasAsked client.old.limits client.new) }
     ensures reads { OnOk result (client.new.reading ≡ client.old.reading) }
-    ensures refused { IfErr result (λ e. e ≢ WriteError.OutOfMemory → IsRefused client.old.limits service.now (job_of job.now) e) }
+    ensures memory { IfErr result (λ e. e ≡ WriteError.OutOfMemory) }
 {
     let target = target(alloc, service, job)?;
     let headers = headers(alloc, service, job)?;
@@ -131,22 +117,20 @@ fn write_request(
     Ok(text)
 }
 
-/// Encodes the request of a job, for a client that has asked nothing yet.
+/// Encodes the request of a job, for a client that has asked nothing yet. The only error is out of memory.
 pub fn encode_request(
     alloc: Global,
     client: &mut Client,
     service: &Service,
     job: &Assignment,
-) -> Result<Vec<u8>, NotDone>
+) -> Result<Vec<u8>, AllocError>
     requires fresh { client.old ≡ new_client client.old.limits }
     ensures text { IfOk result (λ text. text.items ≡ request_of service.now (job_of job.now)) }
     ensures asked { OnOk result (HasAsked client.old.limits client.new) }
     ensures reads { OnOk result (client.new.reading ≡ client.old.reading) }
-    ensures refused { IfErr result (NotEncoded client.old.limits service.now (job_of job.now)) }
 {
     match write_request(alloc, client, service, job) {
         Ok(text) => Ok(text),
-        Err(WriteError::OutOfMemory) => Err(NotDone::Memory),
-        Err(e) => Err(NotDone::Unserved(Unserved::Unsendable(e))),
+        Err(_) => Err(AllocError),
     }
 }

@@ -5,7 +5,8 @@ ghost use Rattle.gear_packets.specs.Reading.{job_of};
 ghost use Rattle.job_runner.specs.Told.{told_of};
 ghost use Rattle.std.specs.Option.{option_map};
 ghost use Rattle.job_runner.specs.Run.{seen_link};
-ghost use Rattle.http_jobs.specs.Serving.{DialCall, IsNew, Leaves, NotServed, Opens, Reuses, Tells, closed, closings, deadline_from, dialled, failed, kept_failures, stands, then_called};
+ghost use Rattle.http_jobs.specs.Serving.{DialCall, IsNew, Leaves, NotServed, Opens, Reuses, Tells, closed, closings, deadline_from};
+ghost use Rattle.http_jobs.specs.Serving.{dialled, failed, kept_failures, stands, then_called};
 ghost use Rattle.http_jobs.specs.Clock.{shown_then};
 
 use crate::clock::Clock;

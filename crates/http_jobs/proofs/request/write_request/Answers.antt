@@ -1,14 +1,15 @@
-use Rattle.std.proofs.Common.{◌≡◌, ℕ, List, [], ◌∷◌, ◌++◌, ◌∙◌, length, sym, ap, subst, refl, None, inl}
+use Rattle.std.proofs.Common.{◌≡◌, ◌∙◌, ℕ, ◌<◌, ◌^◌, List, [], ◌∷◌, ◌++◌, length, sym, ap, subst, refl, None, arith}
 use Rattle.http1.specs.Head.{pairs, request_text}
 use Rattle.http1.specs.declared.client.Client.{Client}
-use Rattle.http1.specs.Client.{request_refusal, planned_request, writing, with_writing, after_request, after_end}
-use Rattle.http1.specs.Conn.{data_text, finish_text, length_header, after_data}
+use Rattle.http1.specs.Client.{new_client, request_refusal, planned_request, writing, with_writing, after_request, after_end}
+use Rattle.http1.specs.Conn.{data_text, data_refusal, finish_text, finish_refusal, length_header, after_data}
 use Rattle.http1.specs.declared.conn.BodySize.TheVariants.{Known}
 use Rattle.gear_packets.specs.Reading.{job_of}
 use Rattle.http_jobs.specs.Request.{headers_of, target_of}
 use Rattle.http_jobs.specs.Reading.{HasAsked}
 use Rattle.std.proofs.lemmas.Result.{err_from_is_err_and}
-use Rattle.http_jobs.proofs.Asking.{POST, says_request, has_asked, not_refused, refusal_is, AreOrdinary, ordinary_headers}
+use Rattle.http_jobs.proofs.Accepted.{head_accepted, data_accepted, end_accepted}
+use Rattle.http_jobs.proofs.Asking.{POST, says_request, has_asked, not_refused, only_memory, AreOrdinary, ordinary_headers}
 use Rattle.http_jobs.proofs.request.write_request.Goals as goal
 
 pub returns-clause-text : goal.returns-clause-text
@@ -51,17 +52,53 @@ returns-clause-asked c =
     let three : c.write_end.new.self ≡ after_end (with_writing asking (after_data (writing asking) n)) = c.in_ok-write_end.ensures.done ∙ ap after_end two in
     subst (λ (x : Client). HasAsked client.limits x) (sym three) (has_asked client target payload n hs o refl accepted)
 
-pub returns-in_err-write_request-clause-refused : goal.returns-in_err-write_request-clause-refused
-returns-in_err-write_request-clause-refused c =
+pub returns-in_err-write_request-clause-memory : goal.returns-in_err-write_request-clause-memory
+returns-in_err-write_request-clause-memory c =
     let client = c.args.client.now in
     let service = c.args.service.now in
     let job = job_of c.args.job.now in
     let payload = c.as_slice-payload.result.now in
+    let n = length payload in
     let target = c.as_bytes.result.now in
     let hs = pairs c.as_slice.result.now in
-    let same_payload : payload ≡ job.payload = c.as_slice-payload.ensures.value in
+    let small : n < 2 ^ 64 = omega (arith, c.as_slice-payload.ensures.len) in
     let same_target : target ≡ target_of service job = c.as_bytes.ensures.value ∙ c.in_ok-target.ensures in
     let same_headers : hs ≡ headers_of service job = ap pairs c.as_slice.ensures.value ∙ c.in_ok-headers.ensures in
-    let e = c.in_err-write_request.field-0.0 in
+    let accepted = head_accepted client.limits service job n small service.hosted service.visible in
     let p = err_from_is_err_and c.from_residual-in_err-write_request.result c.from_residual-in_err-write_request.ensures.1 in
-    rw (p.1, p.2) (λ other. inl (sym (λ i. request_refusal (c.requires.fresh i) POST (same_target i) (Known (length (same_payload i))) (same_headers i)) ∙ refusal_is _ _ _ e c.in_err-write_request.ensures.outcome other))
+    rw (p.1, p.2) (only_memory _ _ _ c.in_err-write_request.field-0.0 c.in_err-write_request.ensures.outcome ((λ i. request_refusal (c.requires.fresh i) POST (same_target i) (Known n) (same_headers i)) ∙ accepted))
+
+pub returns-in_err-write_data-clause-memory : goal.returns-in_err-write_data-clause-memory
+returns-in_err-write_data-clause-memory c =
+    let client = c.args.client.now in
+    let service = c.args.service.now in
+    let job = job_of c.args.job.now in
+    let payload = c.as_slice-payload.result.now in
+    let n = length payload in
+    let hs = pairs c.as_slice.result.now in
+    let small : n < 2 ^ 64 = omega (arith, c.as_slice-payload.ensures.len) in
+    let same_headers : hs ≡ headers_of service job = ap pairs c.as_slice.ensures.value ∙ c.in_ok-headers.ensures in
+    let asking = after_request client POST (Known n) hs in
+    let first : asking ≡ after_request (new_client client.limits) POST (Known n) (headers_of service job) = (λ i. after_request (c.requires.fresh i) POST (Known n) (same_headers i)) in
+    let one : c.write_request.new.self ≡ asking = c.in_ok-write_request.ensures.next in
+    let accepted = data_accepted client.limits service job n small service.hosted service.visible in
+    let p = err_from_is_err_and c.from_residual-in_err-write_data.result c.from_residual-in_err-write_data.ensures.1 in
+    rw (p.1, p.2) (only_memory _ _ _ c.in_err-write_data.field-0.0 c.in_err-write_data.ensures.outcome ((λ i. data_refusal (writing (one i)) n) ∙ (λ i. data_refusal (writing (first i)) n) ∙ accepted))
+
+pub returns-in_err-write_end-clause-memory : goal.returns-in_err-write_end-clause-memory
+returns-in_err-write_end-clause-memory c =
+    let client = c.args.client.now in
+    let service = c.args.service.now in
+    let job = job_of c.args.job.now in
+    let payload = c.as_slice-payload.result.now in
+    let n = length payload in
+    let hs = pairs c.as_slice.result.now in
+    let small : n < 2 ^ 64 = omega (arith, c.as_slice-payload.ensures.len) in
+    let same_headers : hs ≡ headers_of service job = ap pairs c.as_slice.ensures.value ∙ c.in_ok-headers.ensures in
+    let asking = after_request client POST (Known n) hs in
+    let first : asking ≡ after_request (new_client client.limits) POST (Known n) (headers_of service job) = (λ i. after_request (c.requires.fresh i) POST (Known n) (same_headers i)) in
+    let one : c.write_request.new.self ≡ asking = c.in_ok-write_request.ensures.next in
+    let two : c.write_data.new.self ≡ with_writing asking (after_data (writing asking) n) = c.in_ok-write_data.ensures.counted ∙ ap (λ (x : Client). with_writing x (after_data (writing x) n)) one in
+    let accepted = end_accepted client.limits service job n small service.hosted service.visible in
+    let p = err_from_is_err_and c.from_residual-in_err-write_end.result c.from_residual-in_err-write_end.ensures.1 in
+    rw (p.1, p.2) (only_memory _ _ _ c.in_err-write_end.field-0.0 c.in_err-write_end.ensures.outcome ((λ i. finish_refusal (writing (two i)) []) ∙ (λ i. finish_refusal (after_data (writing (first i)) n) []) ∙ accepted))

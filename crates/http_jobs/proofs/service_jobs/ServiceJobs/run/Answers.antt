@@ -1,4 +1,4 @@
-use Rattle.std.proofs.Common.{◌≡◌, ◌∙◌, ℕ, [], ◌∷◌, Option, sym, ap, subst, subst₂, take}
+use Rattle.std.proofs.Common.{◌≡◌, ◌∙◌, ℕ, [], ◌∷◌, Option, sym, ap, subst, take}
 use Rattle.gear_packets.specs.Reading.{job_of}
 use Rattle.byte_io.specs.Sides.{and_then}
 use Rattle.job_runner.specs.Run.{seen_link}
@@ -73,5 +73,5 @@ returns-in-Err-clause-failed g c =
         shown = ap (λ k. g.C.Clock.shown k) c.leave-in-Err.ensures.clock ∙ ex.1.2 ∙ ap (λ k. shown_then (g.C.Clock.shown k) ex.0.times) c.connect.ensures.clock
             ∙ ap (λ (o : Shown). shown_then o ex.0.times) start.1 ∙ shown_twice (g.C.Clock.shown old.clock) (start.0 ∷ []) ex.0.times;
       };
-      explained = subst₂ (λ (s : Service) (d : Option ℕ). Explains s job d ex.0 (seen_link input output c.in_ok-link.link) (seen_link input output c.exchange.new.link) c.in-Err.e) same start.2 ex.2;
+      explained = subst (λ (d : Option ℕ). Explains d ex.0 (seen_link input output c.in_ok-link.link) (seen_link input output c.exchange.new.link) c.in-Err.e) start.2 ex.2;
     })
