@@ -1,5 +1,5 @@
 -- What an exchange has seen, step by step, and why it was not done.
-use Rattle.std.proofs.Common.{◌≡◌, ℕ, ◌+◌, List, [], ◌∷◌, ◌++◌, Option, Some, None, Result, Ok, Err, sym, refl, ap, ◌∙◌, subst, append_assoc, IsSome, MatchResult}
+use Rattle.std.proofs.Common.{◌≡◌, ℕ, ◌+◌, List, [], ◌∷◌, ◌++◌, Option, Some, None, Result, Ok, Err, sym, refl, ap, ◌∙◌, subst, append_assoc, IsSome, MatchResult, OnOk, false}
 use Rattle.std.proofs.lemmas.List.{append-nil}
 use Rattle.http1.specs.declared.conn.Limits.{Limits}
 use Rattle.byte_io.specs.Sides.{Input, and_then, counted}
@@ -9,7 +9,7 @@ use Rattle.http_jobs.specs.declared.exchanging.Done.{Done}
 use Rattle.http_jobs.specs.declared.fault.NotDone.{NotDone}
 use Rattle.http_jobs.specs.declared.fault.NotDone.TheVariants.{Unserved as Not, Memory}
 use Rattle.http_jobs.specs.declared.fault.Unserved.TheVariants as why
-use Rattle.http_jobs.specs.Clock.{shown_then, IsLate}
+use Rattle.http_jobs.specs.Clock.{shown_then, is_past, InTime, IsLate}
 use Rattle.http_jobs.specs.Reasons.{Seen, NotReceived, NotSent}
 use Rattle.http_jobs.specs.Reading.{StepFails, FillFails}
 use Rattle.http_jobs.specs.Exchange.{Sees, IsDone, Explains}
@@ -76,6 +76,20 @@ sees_times old new shown now times same e = (
   e,
 )
 
+-- ---- in time
+
+pub in_time_more : (deadline : Option ℕ) (times : List (Option ℕ)) (time : Option ℕ) → InTime deadline times → is_past deadline time ≡ false → InTime deadline (times ++ time ∷ [])
+in_time_more deadline [] time before e = (e, tt)
+in_time_more deadline (t ∷ times) time before e = (before.0, in_time_more deadline times time before.1 e)
+
+in_time_both : (deadline : Option ℕ) (times more : List (Option ℕ)) → InTime deadline times → InTime deadline more → InTime deadline (times ++ more)
+in_time_both deadline [] more before after = after
+in_time_both deadline (t ∷ times) more before after = (before.0, in_time_both deadline times more before.1 after)
+
+pub in_time_behind : {A : Type 0} (deadline : Option ℕ) (times more : List (Option ℕ)) (r : Result A NotDone) → InTime deadline times → OnOk r (InTime deadline more) → OnOk r (InTime deadline (times ++ more))
+in_time_behind deadline times more (Ok x) before after = in_time_both deadline times more before after
+in_time_behind deadline times more (Err e) before after = tt
+
 -- ---- why it was not done
 
 pub step_fails : (limits : Limits) (deadline : Option ℕ) (seen : Seen) (old new : Input) (e : NotDone) → StepFails limits seen.read e → NotReceived limits deadline seen old new e
@@ -100,19 +114,19 @@ fill_fails limits deadline seen first old new (Not (why.Status status)) same h =
 fill_fails limits deadline seen first old new (Not why.Endless) same h = absurd h
 fill_fails limits deadline seen first old new Memory same h = tt
 
-late_after : (deadline : Option ℕ) (times more : List (Option ℕ)) → IsLate deadline more → IsLate deadline (times ++ more)
-late_after deadline times more h = (times ++ h.0, h.1, ap (λ x. times ++ x) h.2 ∙ sym (append_assoc times h.0 (h.1 ∷ [])), h.3)
+late_after : (deadline : Option ℕ) (times more : List (Option ℕ)) → InTime deadline times → IsLate deadline more → IsLate deadline (times ++ more)
+late_after deadline times more before h = (times ++ h.0, h.1, ap (λ x. times ++ x) h.2 ∙ sym (append_assoc times h.0 (h.1 ∷ [])), in_time_both deadline times h.0 before h.3, h.4)
 
-pub not_received : (deadline : Option ℕ) (times : List (Option ℕ)) (seen : Seen) (old mid new : Link) (e : NotDone) → mid.input ≡ old.input → NotReceived head_limits deadline seen mid.input new.input e → Explains deadline (before_it times seen) old new e
-not_received deadline times seen old mid new (Not why.Unreachable) same h = absurd h
-not_received deadline times seen old mid new (Not why.Write) same h = absurd h
-not_received deadline times seen old mid new (Not why.Read) same h = h ∙ ap (λ (i : Input). i.failures + 1) same
-not_received deadline times seen old mid new (Not why.Ended) same h = h
-not_received deadline times seen old mid new (Not why.Late) same h = late_after deadline times seen.times h
-not_received deadline times seen old mid new (Not (why.NoResponse e)) same h = h
-not_received deadline times seen old mid new (Not (why.Status status)) same h = h
-not_received deadline times seen old mid new (Not why.Endless) same h = h
-not_received deadline times seen old mid new Memory same h = tt
+pub not_received : (deadline : Option ℕ) (times : List (Option ℕ)) (seen : Seen) (old mid new : Link) (e : NotDone) → InTime deadline times → mid.input ≡ old.input → NotReceived head_limits deadline seen mid.input new.input e → Explains deadline (before_it times seen) old new e
+not_received deadline times seen old mid new (Not why.Unreachable) before same h = absurd h
+not_received deadline times seen old mid new (Not why.Write) before same h = absurd h
+not_received deadline times seen old mid new (Not why.Read) before same h = h ∙ ap (λ (i : Input). i.failures + 1) same
+not_received deadline times seen old mid new (Not why.Ended) before same h = h
+not_received deadline times seen old mid new (Not why.Late) before same h = late_after deadline times seen.times before h
+not_received deadline times seen old mid new (Not (why.NoResponse e)) before same h = h
+not_received deadline times seen old mid new (Not (why.Status status)) before same h = h
+not_received deadline times seen old mid new (Not why.Endless) before same h = h
+not_received deadline times seen old mid new Memory before same h = tt
 
 pub not_sent : (deadline : Option ℕ) (times : List (Option ℕ)) (old new : Link) (e : NotDone) → NotSent deadline times old.output new.output e → Explains deadline (only_times times) old new e
 not_sent deadline times old new (Not why.Unreachable) h = absurd h
@@ -126,9 +140,9 @@ not_sent deadline times old new (Not why.Endless) h = absurd h
 not_sent deadline times old new Memory h = absurd h
 
 -- the result of a receive is that of an exchange
-pub received : (deadline : Option ℕ) (times : List (Option ℕ)) (max : ℕ) (seen : Seen) (old mid new : Link) (r : Result Done NotDone) → mid.input ≡ old.input → MatchResult r (IsDone head_limits max seen.read) (NotReceived head_limits deadline seen mid.input new.input) → MatchResult r (IsDone head_limits max seen.read) (Explains deadline (before_it times seen) old new)
-received deadline times max seen old mid new (Ok done) same h = h
-received deadline times max seen old mid new (Err e) same h = not_received deadline times seen old mid new e same h
+pub received : (deadline : Option ℕ) (times : List (Option ℕ)) (max : ℕ) (seen : Seen) (old mid new : Link) (r : Result Done NotDone) → InTime deadline times → mid.input ≡ old.input → MatchResult r (IsDone head_limits max seen.read) (NotReceived head_limits deadline seen mid.input new.input) → MatchResult r (IsDone head_limits max seen.read) (Explains deadline (before_it times seen) old new)
+received deadline times max seen old mid new (Ok done) before same h = h
+received deadline times max seen old mid new (Err e) before same h = not_received deadline times seen old mid new e before same h
 
 -- the limits of the client and the bound of the body are those of the job
 pub received_at : (limits now : Limits) (bound max : ℕ) (deadline : Option ℕ) (seen : Seen) (old new : Input) (r : Result Done NotDone) → limits ≡ now → bound ≡ max → MatchResult r (IsDone limits bound seen.read) (NotReceived limits deadline seen old new) → MatchResult r (IsDone now max seen.read) (NotReceived now deadline seen old new)

@@ -1,4 +1,5 @@
 -- The times that a clock shows, and a deadline.
+use Rattle.std.specs.List.{AllByRecursion}
 use Rattle.std.specs.Prelude.{◌≡◌, ℕ, nat_le, Bool, true, false, List, [], ◌∷◌, ◌++◌, Option, Some, None, option_map}
 
 -- the times shown so far, if they are known, and these more
@@ -11,6 +12,11 @@ is_past (Some deadline) (Some time) = nat_le deadline time
 is_past (Some deadline) None = false
 is_past None time = false
 
--- the last of these times is past the deadline
+-- the deadline had come at none of these times
+abbrev pub InTime : Option ℕ → List (Option ℕ) → Type 0
+InTime deadline times = AllByRecursion (λ time. is_past deadline time ≡ false) times
+
+-- it had come at the last of these times, and at none before
 abbrev pub IsLate : Option ℕ → List (Option ℕ) → Type 0
-IsLate deadline times = (before : List (Option ℕ)) × (last : Option ℕ) × (times ≡ before ++ last ∷ []) × (is_past deadline last ≡ true)
+IsLate deadline times =
+    (before : List (Option ℕ)) × (last : Option ℕ) × (times ≡ before ++ last ∷ []) × InTime deadline before × (is_past deadline last ≡ true)

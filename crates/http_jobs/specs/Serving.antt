@@ -10,7 +10,7 @@ use Rattle.http_jobs.specs.declared.service.Service.{Service}
 use Rattle.http_jobs.specs.declared.fault.NotDone.{NotDone}
 use Rattle.http_jobs.specs.declared.fault.NotDone.TheVariants.{Unserved as Not}
 use Rattle.http_jobs.specs.declared.fault.Unserved.TheVariants as why
-use Rattle.http_jobs.specs.Clock.{shown_then}
+use Rattle.http_jobs.specs.Clock.{InTime, shown_then}
 use Rattle.http_jobs.specs.Reasons.{Seen}
 use Rattle.http_jobs.specs.Request.{has_no_path, most_body, request_of}
 use Rattle.http_jobs.specs.Response.{head_limits}
@@ -104,19 +104,20 @@ pub record Uses (old new : Standing) (sent : List ℕ) (is_kept : Bool) (seen : 
   pub shown : new.shown ≡ shown_then old.shown (start ∷ seen.times)
 
 -- The job was served: its request went out, once, and what came back after it reports this.
-pub record Served (s : Service) (old new : Standing) (j : AssignedJob) (told : Told) : Type 0 where
+pub record Served (s : Service) (timeout : ℕ) (old new : Standing) (j : AssignedJob) (told : Told) : Type 0 where
   pub is_kept : Bool
   pub seen : Seen
   pub start : Option ℕ
   pub before : Link
   pub after : Link
   pub uses : Uses old new (request_of s j) is_kept seen start before after
+  pub in_time : InTime (deadline_from timeout start) seen.times
   pub answered : IsAnswered head_limits (most_body j) seen.read told is_kept
 
 -- what a job reports, or that there is none of its function: then nothing was done
-abbrev pub Tells : Service → Standing → Standing → AssignedJob → Option Told → Type 0
-Tells s old new j None = IsTrue (has_no_path j.function) × (new ≡ old)
-Tells s old new j (Some told) = (has_no_path j.function ≡ false) × Served s old new j told
+abbrev pub Tells : Service → ℕ → Standing → Standing → AssignedJob → Option Told → Type 0
+Tells s timeout old new j None = IsTrue (has_no_path j.function) × (new ≡ old)
+Tells s timeout old new j (Some told) = (has_no_path j.function ≡ false) × Served s timeout old new j told
 
 -- The job was begun over a connection: a prefix of its request went out, once, and this is why no answer came.
 pub record Failed (s : Service) (timeout : ℕ) (old new : Standing) (j : AssignedJob) (e : NotDone) : Type 0 where

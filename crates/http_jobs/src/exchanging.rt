@@ -8,6 +8,7 @@ ghost use Rattle.byte_io.specs.Sides.{and_then};
 ghost use Rattle.gear_packets.specs.Reading.{job_of};
 ghost use Rattle.job_runner.specs.Told.{told_of};
 ghost use Rattle.job_runner.specs.Run.{seen_link};
+ghost use Rattle.http_jobs.specs.Clock.{InTime};
 ghost use Rattle.http_jobs.specs.Exchange.{Explains, IsDone, Sees};
 ghost use Rattle.http_jobs.specs.Reading.{HasAsked, IsComplete};
 ghost use Rattle.http_jobs.specs.Reasons.{NotReceived, Seen};
@@ -91,7 +92,7 @@ fn receive<L: Source, C: Clock>(
     requires reading { client.reading ≡ Reads.Head }
     requires asked { HasAsked client.limits client }
     ensures received { (seen : Seen) × Sees (L.input link.old) (C.shown clock.old) seen (L.input link.new) (C.shown clock.new)
-        × MatchResult result (IsDone client.limits bounds.max_body seen.read)
+        × OnOk result (InTime bounds.deadline seen.times) × MatchResult result (IsDone client.limits bounds.max_body seen.read)
         (NotReceived client.limits bounds.deadline seen (L.input link.old) (L.input link.new)) }
     ensures no_failure { OnOk result ((L.input link.new).failures ≡ (L.input link.old).failures) }
     ensures output { L.output link.new ≡ L.output link.old }
@@ -130,7 +131,7 @@ pub fn exchange<L: Source + Sink, C: Clock>(
     requires reads { (L.input link.old).failures < 2 ^ 64 - 1 }
     requires writes { (L.output link.old).failures < 2 ^ 64 - 1 }
     ensures exchanged { (seen : Seen) × Sees (L.input link.old) (C.shown clock.old) seen (L.input link.new) (C.shown clock.new)
-        × MatchResult result (IsDone head_limits (most_body (job_of job.now)) seen.read)
+        × OnOk result (InTime deadline seen.times) × MatchResult result (IsDone head_limits (most_body (job_of job.now)) seen.read)
         (Explains deadline seen (seen_link L.input L.output link.old) (seen_link L.input L.output link.new)) }
     ensures request { OnOk result ((L.output link.new).got ≡ and_then (L.output link.old).got (request_of service.now (job_of job.now))) }
     ensures prefix { (count : ℕ) × ((L.output link.new).got

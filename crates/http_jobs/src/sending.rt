@@ -2,7 +2,7 @@
 
 ghost use Rattle.std.specs.Prelude.{◌≡◌, ◌≤◌, ◌<◌, ◌+◌, ◌-◌, ◌^◌, ℕ, List, Option, length, take, IfErr, OnOk};
 ghost use Rattle.byte_io.specs.Sides.{and_then, HasText};
-ghost use Rattle.http_jobs.specs.Clock.{shown_then};
+ghost use Rattle.http_jobs.specs.Clock.{InTime, shown_then};
 ghost use Rattle.http_jobs.specs.Reasons.{NotSent};
 
 use crate::clock::{Clock, is_late};
@@ -21,7 +21,7 @@ pub fn send<L: Sink, C: Clock>(
     ensures sent { OnOk result (HasText (L.output link.old) bytes.now (L.output link.new)) }
     ensures prefix { (count : ℕ) × ((L.output link.new).got ≡ and_then (L.output link.old).got (take count bytes.now)) }
     ensures why { (times : List (Option ℕ)) × (C.shown clock.new ≡ shown_then (C.shown clock.old) times)
-        × IfErr result (NotSent deadline times (L.output link.old) (L.output link.new)) }
+        × OnOk result (InTime deadline times) × IfErr result (NotSent deadline times (L.output link.old) (L.output link.new)) }
     ensures input { L.input link.new ≡ L.input link.old }
 {
     let mut count = 0;

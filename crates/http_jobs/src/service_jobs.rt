@@ -175,7 +175,7 @@ impl<L: Source + Sink + Look + Drop, D: Dial<L>, C: Clock> ServiceJobs<L, D, C> 
     /// It is sent once at most: over the kept connection, or over a new one if there is none, or if that has ended or holds a byte that
     /// nobody asked for. Unserved says that no answer came, and why.
     pub fn run(&mut self, alloc: Global, job: &Assignment) -> Result<Option<Outcome>, NotDone>
-        ensures served { IfOk result (λ outcome. Tells self.old.service
+        ensures served { IfOk result (λ outcome. Tells self.old.service self.old.timeout_ms
             (stands L.input L.output L.quiet self.old.kept (D.calls self.old.dial) (C.shown self.old.clock))
             (stands L.input L.output L.quiet self.new.kept (D.calls self.new.dial) (C.shown self.new.clock))
             (job_of job.now) (option_map told_of outcome)) }

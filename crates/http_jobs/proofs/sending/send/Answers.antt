@@ -1,7 +1,7 @@
 use Rattle.std.proofs.Common.{◌∙◌, ◌++◌, ◌∷◌, [], ◌≤◌, length, drop, arith, ap, subst, sym, refl, length-drop}
 use Rattle.byte_io.proofs.Devices.{more_gone, rest_taken}
 use Rattle.http_jobs.specs.Clock.{shown_then}
-use Rattle.http_jobs.proofs.Exchanges.{Shown, shown_twice}
+use Rattle.http_jobs.proofs.Exchanges.{Shown, in_time_more, shown_twice}
 use Rattle.http_jobs.proofs.sending.send.Goals as goal
 
 pub loop-count-preserved : goal.loop-count-preserved
@@ -15,17 +15,22 @@ loop-count-preserved g c =
       unfailed = omega (arith, c.in-Ok.ensures.fails, c.loop-count.invariant.unfailed);
       unread = c.in-Ok.ensures.input ∙ c.loop-count.invariant.unread;
       within = omega (arith, length-drop c.loop-count.count c.args.bytes.now);
-      shown = (so_far.0 ++ look.0 ∷ [], look.1 ∙ ap (λ (o : Shown). shown_then o (look.0 ∷ [])) so_far.1 ∙ shown_twice _ so_far.0 (look.0 ∷ []));
+      shown = (so_far.0 ++ look.0 ∷ [], look.1 ∙ ap (λ (o : Shown). shown_then o (look.0 ∷ [])) so_far.1 ∙ shown_twice _ so_far.0 (look.0 ∷ []), in_time_more c.args.deadline so_far.0 look.0 so_far.2 (sym look.2 ∙ c.if-is_late.false));
     }
 
 pub returns-then-is_late-clause-why : goal.returns-then-is_late-clause-why
 returns-then-is_late-clause-why g c =
     let so_far = c.loop-count.invariant.shown in
     let look = c.is_late.ensures in
-    (so_far.0 ++ look.0 ∷ [], look.1 ∙ ap (λ (o : Shown). shown_then o (look.0 ∷ [])) so_far.1 ∙ shown_twice _ so_far.0 (look.0 ∷ []), (so_far.0, look.0, refl, sym look.2 ∙ c.if-is_late.true))
+    (so_far.0 ++ look.0 ∷ [], look.1 ∙ ap (λ (o : Shown). shown_then o (look.0 ∷ [])) so_far.1 ∙ shown_twice _ so_far.0 (look.0 ∷ []), tt, (so_far.0, look.0, refl, so_far.2, sym look.2 ∙ c.if-is_late.true))
 
 pub returns-in-Err-clause-why : goal.returns-in-Err-clause-why
 returns-in-Err-clause-why g c =
     let so_far = c.loop-count.invariant.shown in
     let look = c.is_late.ensures in
-    (so_far.0 ++ look.0 ∷ [], look.1 ∙ ap (λ (o : Shown). shown_then o (look.0 ∷ [])) so_far.1 ∙ shown_twice _ so_far.0 (look.0 ∷ []), omega (arith, c.in-Err.ensures.fails, c.loop-count.invariant.unfailed))
+    (so_far.0 ++ look.0 ∷ [], look.1 ∙ ap (λ (o : Shown). shown_then o (look.0 ∷ [])) so_far.1 ∙ shown_twice _ so_far.0 (look.0 ∷ []), tt, omega (arith, c.in-Err.ensures.fails, c.loop-count.invariant.unfailed))
+
+pub returns-clause-why : goal.returns-clause-why
+returns-clause-why g c =
+    let so_far = c.loop-count.invariant.shown in
+    (so_far.0, so_far.1, so_far.2, tt)

@@ -1,6 +1,6 @@
 use Rattle.std.proofs.Common.{◌≡◌, ◌≤◌, ◌-◌, ℕ, List, Option, length, take}
 use Rattle.byte_io.specs.Sides.{and_then}
-use Rattle.http_jobs.specs.Clock.{shown_then}
+use Rattle.http_jobs.specs.Clock.{InTime, shown_then}
 use Rattle.http_jobs.proofs.sending.send.Given as goal
 
 -- what has gone out is the front of that length
@@ -10,7 +10,7 @@ invariant-loop-count g l = record {
   unfailed : (g.L.Device.output l.link).failures ≡ (g.L.Device.output l.fn.link).failures;
   unread : g.L.Device.input l.link ≡ g.L.Device.input l.fn.link;
   within : l.count ≤ length l.bytes;
-  shown : (times : List (Option ℕ)) × (g.C.Clock.shown l.clock ≡ shown_then (g.C.Clock.shown l.fn.clock) times);
+  shown : (times : List (Option ℕ)) × (g.C.Clock.shown l.clock ≡ shown_then (g.C.Clock.shown l.fn.clock) times) × InTime l.deadline times;
 }
 
 abbrev pub decreases-loop-count : goal.decreases-loop-count

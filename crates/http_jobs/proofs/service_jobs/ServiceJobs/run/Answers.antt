@@ -3,7 +3,7 @@ use Rattle.gear_packets.specs.Reading.{job_of}
 use Rattle.byte_io.specs.Sides.{and_then}
 use Rattle.job_runner.specs.Run.{seen_link}
 use Rattle.http_jobs.specs.declared.service.Service.{Service}
-use Rattle.http_jobs.specs.Clock.{shown_then}
+use Rattle.http_jobs.specs.Clock.{InTime, shown_then}
 use Rattle.http_jobs.specs.Exchange.{Explains}
 use Rattle.http_jobs.specs.Request.{has_no_path, request_of}
 use Rattle.http_jobs.specs.Serving.{Opens, stands, then_called}
@@ -40,7 +40,8 @@ returns-in-Ok-clause-served g c =
           shown = ap (λ k. g.C.Clock.shown k) c.leave.ensures.clock ∙ ex.1.2 ∙ ap (λ k. shown_then (g.C.Clock.shown k) ex.0.times) c.connect.ensures.clock
               ∙ ap (λ (o : Shown). shown_then o ex.0.times) start.1 ∙ shown_twice (g.C.Clock.shown old.clock) (start.0 ∷ []) ex.0.times;
         };
-        answered = ex.2;
+        in_time = subst (λ (d : Option ℕ). InTime d ex.0.times) start.2 ex.2;
+        answered = ex.3;
       },
     )
 
@@ -73,5 +74,5 @@ returns-in-Err-clause-failed g c =
         shown = ap (λ k. g.C.Clock.shown k) c.leave-in-Err.ensures.clock ∙ ex.1.2 ∙ ap (λ k. shown_then (g.C.Clock.shown k) ex.0.times) c.connect.ensures.clock
             ∙ ap (λ (o : Shown). shown_then o ex.0.times) start.1 ∙ shown_twice (g.C.Clock.shown old.clock) (start.0 ∷ []) ex.0.times;
       };
-      explained = subst (λ (d : Option ℕ). Explains d ex.0 (seen_link input output c.in_ok-link.link) (seen_link input output c.exchange.new.link) c.in-Err.e) start.2 ex.2;
+      explained = subst (λ (d : Option ℕ). Explains d ex.0 (seen_link input output c.in_ok-link.link) (seen_link input output c.exchange.new.link) c.in-Err.e) start.2 ex.3;
     })
