@@ -8,7 +8,9 @@ use Rattle.job_runner.specs.Run.{Link, seen_link}
 use Rattle.job_runner.specs.Told.{Told}
 use Rattle.http_jobs.specs.declared.service.Service.{Service}
 use Rattle.http_jobs.specs.declared.fault.NotDone.{NotDone}
-use Rattle.http_jobs.specs.declared.fault.NotDone.TheVariants.{Unserved as Not}
+use Rattle.job_runner.specs.declared.jobs.NotDone as session
+use Rattle.job_runner.specs.declared.jobs.NotDone.TheVariants as heard
+use Rattle.http_jobs.specs.declared.fault.NotDone.TheVariants.{Unserved as Not, Memory}
 use Rattle.http_jobs.specs.declared.fault.Unserved.TheVariants as why
 use Rattle.http_jobs.specs.Clock.{InTime, shown_then}
 use Rattle.http_jobs.specs.Reasons.{Seen}
@@ -134,3 +136,19 @@ abbrev pub NotServed : Service → ℕ → Standing → Standing → AssignedJob
 NotServed s timeout old new j (Not why.Unreachable) =
     (new.kept ≡ None) × (new.calls ≡ then_called old.calls (closings old.kept ++ failed ∷ []))
 NotServed s timeout old new j other = Failed s timeout old new j other
+
+-- ---- the jobs of a session
+
+-- how a session hears that a job was not done
+abbrev pub as_of_session : NotDone → session.NotDone
+as_of_session (Not why) = heard.Unserved
+as_of_session Memory = heard.Memory
+
+-- A job was done, and this is what it reports; the service and the timeout stay.
+abbrev pub IsDoneBy : Service → ℕ → Standing → Standing → Service → ℕ → AssignedJob → Option Told → Type 0
+IsDoneBy s timeout old new service time j told = Tells s timeout old new j told × (service ≡ s) × (time ≡ timeout)
+
+-- It was not done, for a reason of which a session hears so; the service and the timeout stay.
+abbrev pub IsNotDoneBy : Service → ℕ → Standing → Standing → Service → ℕ → AssignedJob → session.NotDone → Type 0
+IsNotDoneBy s timeout old new service time j error =
+    (e : NotDone) × NotServed s timeout old new j e × (error ≡ as_of_session e) × (service ≡ s) × (time ≡ timeout)

@@ -16,7 +16,7 @@ use crate::request::has_no_path;
 use crate::service::Service;
 use byte_io::{Device, Sink, Source};
 use gear_packets::Assignment;
-use job_runner::Outcome;
+use job_runner::{Jobs, Outcome};
 use std::alloc::Global;
 use std::snapshot::Snapshot;
 
@@ -174,7 +174,7 @@ impl<L: Source + Sink + Look + Drop, D: Dial<L>, C: Clock> ServiceJobs<L, D, C> 
     ///
     /// It is sent once at most: over the kept connection, or over a new one if there is none, or if that has ended or holds a byte that
     /// nobody asked for. Unserved says that no answer came, and why.
-    pub fn run(&mut self, alloc: Global, job: &Assignment) -> Result<Option<Outcome>, NotDone>
+    pub fn serve(&mut self, alloc: Global, job: &Assignment) -> Result<Option<Outcome>, NotDone>
         ensures served { IfOk result (λ outcome. Tells self.old.service self.old.timeout_ms
             (stands L.input L.output L.quiet self.old.kept (D.calls self.old.dial) (C.shown self.old.clock))
             (stands L.input L.output L.quiet self.new.kept (D.calls self.new.dial) (C.shown self.new.clock))
@@ -207,6 +207,33 @@ impl<L: Source + Sink + Look + Drop, D: Dial<L>, C: Clock> ServiceJobs<L, D, C> 
                 self.leave(link, false);
                 Err(e)
             }
+        }
+    }
+}
+
+/// A session's jobs are done by the service. A job that is not served ends the session as `Unserved`, whatever the reason.
+impl<L: Source + Sink + Look + Drop, D: Dial<L>, C: Clock> Jobs for ServiceJobs<L, D, C> {
+    ghost use Rattle.http_jobs.specs.Serving.{IsDoneBy, IsNotDoneBy, stands};
+
+    ghost tells = { λ before after job told. IsDoneBy before.service before.timeout_ms
+        (stands L.input L.output L.quiet before.kept (D.calls before.dial) (C.shown before.clock))
+        (stands L.input L.output L.quiet after.kept (D.calls after.dial) (C.shown after.clock))
+        after.service after.timeout_ms job told };
+
+    ghost fails = { λ before after job error. IsNotDoneBy before.service before.timeout_ms
+        (stands L.input L.output L.quiet before.kept (D.calls before.dial) (C.shown before.clock))
+        (stands L.input L.output L.quiet after.kept (D.calls after.dial) (C.shown after.clock))
+        after.service after.timeout_ms job error };
+
+    fn run(
+        &mut self,
+        alloc: Global,
+        job: Assignment,
+    ) -> Result<Option<Outcome>, job_runner::NotDone> {
+        match self.serve(alloc, &job) {
+            Ok(outcome) => Ok(outcome),
+            Err(NotDone::Unserved(_)) => Err(job_runner::NotDone::Unserved),
+            Err(NotDone::Memory) => Err(job_runner::NotDone::Memory),
         }
     }
 }

@@ -9,7 +9,7 @@ use Rattle.http_jobs.specs.Request.{has_no_path, request_of}
 use Rattle.http_jobs.specs.Serving.{Opens, stands, then_called}
 use Rattle.http_jobs.proofs.Exchanges.{Shown, shown_twice}
 use Rattle.http_jobs.proofs.Uses.{Calls, called_twice, failed_over}
-use Rattle.http_jobs.proofs.service_jobs.ServiceJobs.run.Goals as goal
+use Rattle.http_jobs.proofs.service_jobs.ServiceJobs.serve.Goals as goal
 
 pub returns-in-Ok-clause-served : goal.returns-in-Ok-clause-served
 returns-in-Ok-clause-served g c =
