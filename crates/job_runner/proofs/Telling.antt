@@ -14,7 +14,7 @@ use Rattle.job_runner.specs.declared.answering.Tally.{Tally}
 use Rattle.job_runner.specs.Told.{Told, Telling, telling, jobs_of, AreTold, IsMeant, meant}
 use Rattle.job_runner.specs.Book.{Ledger}
 use Rattle.job_runner.specs.Course.{Duty, Wrote, Even, Ends, PortReason}
-use Rattle.job_runner.specs.Run.{Acts, EndTold, IsLeftBy, Tells, end_of}
+use Rattle.job_runner.specs.Run.{Acts, EndTold, IsLeftBy, ToldSince, end_of}
 use Rattle.job_runner.specs.Loop.{IsSendFault}
 use Rattle.job_runner.proofs.Orders.{ends_at_rest}
 use Rattle.job_runner.proofs.Reasons.{port_served}
@@ -37,20 +37,20 @@ end_told_on tells fails first middle new reason xs ys h end = (end.0, told_on te
 -- ---- steps
 
 -- an end that is none of a job's
-abbrev pub Served : Result (Unit {0}) EndCause → Type 0
-Served result = IfErr result (λ e. e ≢ cause.Unserved)
+abbrev pub IsOfNoJob : Result (Unit {0}) EndCause → Type 0
+IsOfNoJob result = IfErr result (λ e. e ≢ cause.Unserved)
 
-pub port_serves : (generation : ℕ) (b : Ledger) (result : Result (Unit {0}) EndCause) → IfErr result (PortReason generation b) → Served result
+pub port_serves : (generation : ℕ) (b : Ledger) (result : Result (Unit {0}) EndCause) → IfErr result (PortReason generation b) → IsOfNoJob result
 port_serves generation b (Ok u) h = tt
 port_serves generation b (Err e) h = port_served generation b e h
 
-pub send_serves : (result : Result (Unit {0}) EndCause) → IfErr result IsSendFault → Served result
+pub send_serves : (result : Result (Unit {0}) EndCause) → IfErr result IsSendFault → IsOfNoJob result
 send_serves (Ok u) h = tt
 send_serves (Err e) h = λ same. subst IsSendFault same h
 
 -- a step in which this was told
 pub told_so : {J : Type 0} (tells : J → J → AssignedJob → Option Told → Type 0) (fails : J → J → AssignedJob → NotDone → Type 0) (old new : J)
-    (since : List Telling) (result : Result (Unit {0}) EndCause) → Served result → AreTold tells old new since → Tells tells fails old new since result
+    (since : List Telling) (result : Result (Unit {0}) EndCause) → IsOfNoJob result → AreTold tells old new since → ToldSince tells fails old new since result
 told_so tells fails old new since (Ok u) served h = h
 told_so tells fails old new since (Err e) served h = (new, h, inl (refl, served))
 

@@ -20,7 +20,7 @@ use Rattle.job_runner.specs.Book.{Ledger}
 use Rattle.job_runner.specs.Course.{Duty, Session, session_of, Ends, GoesOnOrEnds, PortReason, known, IsServing}
 use Rattle.job_runner.specs.Listening.{SaysFirst, IsReadEnd}
 use Rattle.job_runner.specs.Run.{AreAnswered, Acts, EndTold, Link, NoFault, Reason, ReadReason}
-use Rattle.job_runner.specs.Loop.{StepReason, Stands, Halts}
+use Rattle.job_runner.specs.Loop.{EndsForNoJob, StepReason, Stands, Halts}
 use Rattle.byte_io.specs.Sides.{and_then}
 use Rattle.job_runner.specs.Path.{IsWaitEnd, Went, Ended, place_of}
 use Rattle.job_runner.proofs.Orders.{ends_at_rest}
@@ -208,10 +208,6 @@ stands_halts duty Ran End before read old r s b reason st ran is no-fault = halt
 
 -- ---- reads
 
--- jobs that were run in this way, and an end that is none of theirs
-abbrev pub Kept : (List Telling → Type 0) → EndCause → List Telling → Type 0
-Kept Ran reason told = Ran told × (reason ≢ cause.Unserved)
-
 -- a session stands by what its jobs told
 pub stands_as : (Ran Runs : List Telling → Type 0) (session : Session) (written : Option (List ℕ)) (r : Reading) (s : State) (b : Ledger) (st : Stands session Ran written r s b) → Runs st.told → Stands session Runs written r s b
 stands_as Ran Runs session written r s b st runs = record { bytes = st.bytes; told = st.told; given = st.given; ran = runs; at = st.at; rests = st.rests; went = st.went }
@@ -221,16 +217,16 @@ pub stands_on : (Runs : List Telling → Type 0) (told : List Telling) (session 
 stands_on Runs told session written r s b runs st = stands_as (IsTold told) Runs session written r s b st (subst Runs (sym st.ran) runs)
 
 -- and ends so
-pub kept_end : {J : Type 0} (tells : J → J → AssignedJob → Option Told → Type 0) (fails : J → J → AssignedJob → NotDone → Type 0) (first last : J) (told : List Telling) (session : Session) (written : Option (List ℕ)) (t : Tally) (b : Ledger) (reason : EndCause) → AreTold tells first last told
-    → Halts session (Kept (IsTold told)) written t b reason → Halts session (EndTold tells fails first last) written t b reason
-kept_end tells fails first last told session written t b reason ran h = record { bytes = h.bytes; told = h.told; ran = (last, subst (AreTold tells first last) (sym h.ran.0) ran, inl (refl, h.ran.1)); at = h.at; ends = h.ends; ended = h.ended }
+pub ends_for_none : {J : Type 0} (tells : J → J → AssignedJob → Option Told → Type 0) (fails : J → J → AssignedJob → NotDone → Type 0) (first last : J) (told : List Telling) (session : Session) (written : Option (List ℕ)) (t : Tally) (b : Ledger) (reason : EndCause) → AreTold tells first last told
+    → Halts session (EndsForNoJob (IsTold told)) written t b reason → Halts session (EndTold tells fails first last) written t b reason
+ends_for_none tells fails first last told session written t b reason ran h = record { bytes = h.bytes; told = h.told; ran = (last, subst (AreTold tells first last) (sym h.ran.0) ran, inl (refl, h.ran.1)); at = h.at; ends = h.ends; ended = h.ended }
 
 -- an end of a step at the order
 pub glanced : (duty : Duty) (Ran : List Telling → Type 0) (before : Option (List ℕ)) (read : List ℕ) (out : Option (List ℕ)) (told : List Telling) (given : List Message) (r : Reading) (s : State) (b : Ledger) (old new : Link) (res : Result (Unit {0}) EndCause) → Ran told → reading read ≡ behind given r → jobs_of told ≡ assignments_in given
     → (more : List ℕ) × (out ≡ and_then before more) × Acts duty more told (jobs_of told) s b res
     → GoesOnOrEnds (Went duty before out given b (place_of s)) (Ended (session_of duty before read) out b) res
     → IfErr res (PortReason duty.generation b) → (res ≡ Err WriteFault → new.output.failures ≡ old.output.failures + 1) → (res ≡ Err Memory → NoFault old new)
-    → GoesOnOrEnds (Stands (session_of duty before read) Ran out r s b) (λ (e : EndCause). Halts (session_of duty before read) (Kept Ran) out s.tally b e × Reason (session_of duty before read) old new s.tally b e) res
+    → GoesOnOrEnds (Stands (session_of duty before read) Ran out r s b) (λ (e : EndCause). Halts (session_of duty before read) (EndsForNoJob Ran) out s.tally b e × Reason (session_of duty before read) old new s.tally b e) res
 glanced duty Ran before read out told given r s b old new (Ok u) ran heard jobs h gone reason fault none = record { bytes = h.0; told = told; given = given; ran = ran; at = h.1; rests = record { heard = heard; jobs_are = jobs; holds = h.2.0 }; went = gone }
 glanced duty Ran before read out told given r s b old new (Err e) ran heard jobs h gone reason fault none = (
   record {
@@ -248,10 +244,10 @@ glanced duty Ran before read out told given r s b old new (Err e) ran heard jobs
 
 -- an end at a read
 pub read_ended : (duty : Duty) (Ran : List Telling → Type 0) (before : Option (List ℕ)) (bytes read : List ℕ) (out : Option (List ℕ)) (told : List Telling) (given : List Message) (s : State) (b : Ledger) (old new : Link) (e : EndCause) → Ran told → out ≡ and_then before bytes → jobs_of told ≡ assignments_in given → AreAnswered duty bytes told s b → Went duty before out given b (place_of s) → SaysFirst read given → IsReadEnd e
-    → (e ≡ cause.Closed → new.input.has_ended ≡ true) → (e ≡ cause.ReadFault → new.input.failures ≡ old.input.failures + 1) → (e ≡ Memory → NoFault old new) → Halts (session_of duty before read) (Kept Ran) out s.tally b e × Reason (session_of duty before read) old new s.tally b e
-read_ended duty Ran before bytes read out told given s b old new cause.Closed ran at jobs holds went says is closed failed none = (halts_at_rest duty (Kept Ran) before bytes read out told given s b cause.Closed (ran, λ e. cc) at jobs holds went tt says (λ e. cc), closed refl)
-read_ended duty Ran before bytes read out told given s b old new cause.ReadFault ran at jobs holds went says is closed failed none = (halts_at_rest duty (Kept Ran) before bytes read out told given s b cause.ReadFault (ran, λ e. cc) at jobs holds went tt says (λ e. cc), failed refl)
-read_ended duty Ran before bytes read out told given s b old new Memory ran at jobs holds went says is closed failed none = (halts_at_rest duty (Kept Ran) before bytes read out told given s b Memory (ran, λ e. cc) at jobs holds went tt says (λ e. cc), none refl)
+    → (e ≡ cause.Closed → new.input.has_ended ≡ true) → (e ≡ cause.ReadFault → new.input.failures ≡ old.input.failures + 1) → (e ≡ Memory → NoFault old new) → Halts (session_of duty before read) (EndsForNoJob Ran) out s.tally b e × Reason (session_of duty before read) old new s.tally b e
+read_ended duty Ran before bytes read out told given s b old new cause.Closed ran at jobs holds went says is closed failed none = (halts_at_rest duty (EndsForNoJob Ran) before bytes read out told given s b cause.Closed (ran, λ e. cc) at jobs holds went tt says (λ e. cc), closed refl)
+read_ended duty Ran before bytes read out told given s b old new cause.ReadFault ran at jobs holds went says is closed failed none = (halts_at_rest duty (EndsForNoJob Ran) before bytes read out told given s b cause.ReadFault (ran, λ e. cc) at jobs holds went tt says (λ e. cc), failed refl)
+read_ended duty Ran before bytes read out told given s b old new Memory ran at jobs holds went says is closed failed none = (halts_at_rest duty (EndsForNoJob Ran) before bytes read out told given s b Memory (ran, λ e. cc) at jobs holds went tt says (λ e. cc), none refl)
 read_ended duty Ran before bytes read out told given s b old new WriteFault ran at jobs holds went says is closed failed none = absurd is
 read_ended duty Ran before bytes read out told given s b old new cause.Retired ran at jobs holds went says is closed failed none = absurd is
 read_ended duty Ran before bytes read out told given s b old new cause.Gone ran at jobs holds went says is closed failed none = absurd is

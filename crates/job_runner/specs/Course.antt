@@ -118,8 +118,8 @@ pub record Chain (tally : Tally) (book : Ledger) (answered begun : ℕ) : Type 0
   pub grabs : book.grabs ≡ tally.grabbed
   pub reports : book.reports ≡ tally.reported
 
--- A session that ends: `bytes` were written in all, and of the jobs assigned the first were run, in order, and told this. No job was run
--- that the port had not booked. If the session ends since a job was not served, each job that told something is answered.
+-- A session that ends: `bytes` were written in all, and of the jobs assigned the first were run, in order, and told this: no more
+-- than the port had booked. If the session ends since a job was not served, each job that told something is answered.
 pub record Ends (duty : Duty) (bytes : List ℕ) (told : List Telling) (taken : List AssignedJob) (tally : Tally) (book : Ledger)
     (reason : EndCause) : Type 0 where
   pub answered : List Telling

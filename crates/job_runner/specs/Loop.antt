@@ -1,5 +1,5 @@
 -- A session between its reads.
-use Rattle.std.specs.Prelude.{◌≡◌, ℕ, ◌<◌, List, [], ◌∷◌, length, Option, None}
+use Rattle.std.specs.Prelude.{◌≡◌, ◌≢◌, ℕ, ◌<◌, List, [], ◌∷◌, length, Option, None}
 use Rattle.gear_packets.specs.Response.{Message, server_error}
 use Rattle.gear_packets.specs.Text.{Reading, assignments_in, assignments}
 use Rattle.byte_io.specs.Sides.{and_then}
@@ -56,6 +56,10 @@ pub record Stands (session : Session) (Ran : List Telling → Type 0) (written :
   pub at : written ≡ and_then session.before bytes
   pub rests : Rests session bytes told given reader s book
   pub went : Went session.duty session.before written given book (place_of s)
+
+-- jobs were run in this way, and none of them ends the session
+abbrev pub EndsForNoJob : (List Telling → Type 0) → EndCause → List Telling → Type 0
+EndsForNoJob Ran reason told = Ran told × (reason ≢ cause.Unserved)
 
 -- the session is at its end, by jobs that were run in this way
 pub record Halts (session : Session) (Ran : EndCause → List Telling → Type 0) (written : Option (List ℕ)) (tally : Tally) (book : Ledger)

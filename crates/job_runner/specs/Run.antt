@@ -49,9 +49,9 @@ abbrev pub EndTold : {J : Type 0} → (J → J → AssignedJob → Option Told �
 EndTold {J} tells fails first new reason told = (last : J) × AreTold tells first last told × IsLeftBy fails last new reason
 
 -- what jobs told in a step, from the value before to the one after
-abbrev pub Tells : {J : Type 0} → (J → J → AssignedJob → Option Told → Type 0) → (J → J → AssignedJob → NotDone → Type 0) → J → J
+abbrev pub ToldSince : {J : Type 0} → (J → J → AssignedJob → Option Told → Type 0) → (J → J → AssignedJob → NotDone → Type 0) → J → J
     → List Telling → Result (Unit {0}) EndCause → Type 0
-Tells tells fails old new since result =
+ToldSince tells fails old new since result =
     GoesOnOrEnds (AreTold tells old new since) (λ reason. EndTold tells fails old new reason since) result
 
 -- The bytes read say the messages that were given, and those that the reader still holds. Each job assigned so far told this.

@@ -6,7 +6,7 @@ ghost use Rattle.byte_io.specs.Sides.{and_then};
 ghost use Rattle.job_runner.specs.Book.{Ledger};
 ghost use Rattle.job_runner.specs.Told.{Told, Telling, jobs_of, answer_to};
 ghost use Rattle.job_runner.specs.Course.{Duty, Wrote, Even, Ends, GoesOnOrEnds, AnswerReason, CanCount, CanBook};
-ghost use Rattle.job_runner.specs.Run.{LinkKept, Tells, seen_link};
+ghost use Rattle.job_runner.specs.Run.{LinkKept, ToldSince, seen_link};
 ghost use Rattle.job_runner.specs.Acting.{Replies, TellsAnswer};
 
 use crate::end::EndCause;
@@ -46,7 +46,7 @@ pub fn answer<L: Sink, P: PoolPort, J: Jobs>(
         (L.output link.old).got ≡ and_then before bytes → Wrote duty bytes registered done
         → Even tally.old (P.book port.old) (length done) →
         (more : List ℕ) × (since : List Telling) × ((L.output link.new).got ≡ and_then before more)
-        × Tells J.tells J.fails jobs.old jobs.new since result
+        × ToldSince J.tells J.fails jobs.old jobs.new since result
         × GoesOnOrEnds (Wrote duty more registered (done ++ since) × Even tally.new (P.book port.new) (length (done ++ since))
         × (jobs_of (done ++ since) ≡ jobs_of done ++ job_of job ∷ []))
         (Ends duty more (done ++ since) (jobs_of done ++ job_of job ∷ []) tally.new (P.book port.new)) result }

@@ -7,7 +7,7 @@ ghost use Rattle.byte_io.specs.Sides.{and_then};
 ghost use Rattle.job_runner.specs.Book.{Ledger};
 ghost use Rattle.job_runner.specs.Course.{Duty, PortReason, CanCount, CanBook};
 ghost use Rattle.job_runner.specs.Told.{Telling, jobs_of};
-ghost use Rattle.job_runner.specs.Run.{AreAnswered, Acts, LinkKept, Tells, seen_link};
+ghost use Rattle.job_runner.specs.Run.{AreAnswered, Acts, LinkKept, ToldSince, seen_link};
 ghost use Rattle.job_runner.specs.Loop.{StepReason, IsSendFault};
 ghost use Rattle.job_runner.specs.Acting.{moment, asked_by, Does, Glances, Sleeps};
 
@@ -59,7 +59,7 @@ pub fn act<L: Sink, P: PoolPort, J: Jobs>(
         duty.functions ≡ worker.now.place.settings.now.functions
         → (L.output link.old).got ≡ and_then before bytes → AreAnswered duty bytes done state.old (P.book port.old) →
         (more : List ℕ) × (since : List Telling) × ((L.output link.new).got ≡ and_then before more)
-        × Tells J.tells J.fails jobs.old jobs.new since result
+        × ToldSince J.tells J.fails jobs.old jobs.new since result
         × Acts duty more (done ++ since) (jobs_of done ++ assignments_in (message_of message ∷ [])) state.new (P.book port.new) result }
     ensures does { Does worker.now (asked_by (message_of message) state.old.phase)
         (moment state.old (L.output link.old).got (P.book port.old)) (moment state.new (L.output link.new).got (P.book port.new)) result }

@@ -1,6 +1,6 @@
 //! A whole session: from its worker's name to its end.
 
-ghost use Rattle.std.specs.Prelude.{◌≡◌, ◌≢◌, ◌+◌, ◌-◌, ◌<◌, ◌≤◌, ◌^◌, [], ℕ, List, length, IfErr, IfOk, OnOk, Option, string_bytes};
+ghost use Rattle.std.specs.Prelude.{◌≡◌, ◌+◌, ◌-◌, ◌<◌, ◌≤◌, ◌^◌, [], ℕ, List, length, IfErr, IfOk, OnOk, Option, string_bytes};
 ghost use Rattle.gear_packets.specs.Request.{set_client_id};
 ghost use Rattle.byte_io.specs.Sides.{and_then};
 ghost use Rattle.pool_settings.specs.Slots.{slots, worker_text};
@@ -9,7 +9,7 @@ ghost use Rattle.job_runner.specs.Book.{no_calls};
 ghost use Rattle.job_runner.specs.Course.{GoesOnOrEnds, IsAccepted, PortReason, session_of};
 ghost use Rattle.job_runner.specs.Run.{Acts, EndTold, ReadReason, Reason, Served, ServedBy, seen_link, LinkKept};
 ghost use Rattle.job_runner.specs.Acting.{moment, Begins};
-ghost use Rattle.job_runner.specs.Loop.{first_state, duty_in, duty_of, session_in, Stands, Halts};
+ghost use Rattle.job_runner.specs.Loop.{first_state, duty_in, duty_of, session_in, EndsForNoJob, Stands, Halts};
 
 use crate::answering::Tally;
 use crate::end::{EndCause, SessionEnd};
@@ -133,7 +133,7 @@ fn listen<L: Source + Sink, P: PoolPort>(
         → (more : List ℕ) × ((L.input link.new).given ≡ and_then start more) × (length more ≤ length read + 4096)
         × GoesOnOrEnds (Stands (session_in worker.now before more) (IsTold told)
         (L.output link.new).got reader.new state.new (P.book port.new))
-        (λ cause. Halts (session_in worker.now before more) (λ reason tellings. IsTold told tellings × (reason ≢ EndCause.Unserved))
+        (λ cause. Halts (session_in worker.now before more) (EndsForNoJob (IsTold told))
         (L.output link.new).got state.new.tally (P.book port.new) cause
         × Reason (session_in worker.now before more)
         (seen_link L.input L.output link.old) (seen_link L.input L.output link.new) state.new.tally (P.book port.new) cause) result }

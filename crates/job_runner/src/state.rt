@@ -7,7 +7,7 @@ ghost use Rattle.byte_io.specs.Sides.{and_then};
 ghost use Rattle.job_runner.specs.Book.{Ledger};
 ghost use Rattle.job_runner.specs.Course.{Duty, AnswerReason, PortReason, CanCount, CanBook};
 ghost use Rattle.job_runner.specs.Told.{Telling, jobs_of};
-ghost use Rattle.job_runner.specs.Run.{AreAnswered, Acts, LinkKept, Tells, seen_link};
+ghost use Rattle.job_runner.specs.Run.{AreAnswered, Acts, LinkKept, ToldSince, seen_link};
 ghost use Rattle.job_runner.specs.Acting.{moment, FollowsOrder, Serves};
 
 use crate::answering::{Tally, answer};
@@ -74,7 +74,7 @@ pub fn serve_job<L: Sink, P: PoolPort, J: Jobs>(
         duty.functions ≡ worker.now.place.settings.now.functions
         → (L.output link.old).got ≡ and_then before bytes → AreAnswered duty bytes done state.old (P.book port.old) →
         (more : List ℕ) × (since : List Telling) × ((L.output link.new).got ≡ and_then before more)
-        × Tells J.tells J.fails jobs.old jobs.new since result
+        × ToldSince J.tells J.fails jobs.old jobs.new since result
         × Acts duty more (done ++ since) (jobs_of done ++ job_of job ∷ []) state.new (P.book port.new) result }
     ensures serves { Serves worker.now (job_of job)
         (moment state.old (L.output link.old).got (P.book port.old)) (moment state.new (L.output link.new).got (P.book port.new)) result }

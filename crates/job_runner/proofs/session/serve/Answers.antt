@@ -9,7 +9,7 @@ use Rattle.job_runner.specs.Course.{session_of}
 use Rattle.job_runner.specs.Loop.{duty_in}
 use Rattle.byte_io.proofs.Devices.{told_nothing}
 use Rattle.job_runner.proofs.Reasons.{outer_reason, port_served, read_reason, reason_from}
-use Rattle.job_runner.proofs.Turning.{says_nothing, begun_halts, begun_stands, stands_as, stands_on, stands_halts, kept_end}
+use Rattle.job_runner.proofs.Turning.{says_nothing, begun_halts, begun_stands, stands_as, stands_on, stands_halts, ends_for_none}
 use Rattle.job_runner.proofs.Paths.{begun_gone}
 use Rattle.job_runner.specs.Acting.{moment}
 use Rattle.job_runner.proofs.session.serve.Goals as goal
@@ -100,7 +100,7 @@ returns-in-Err-listen-clause-ran g c =
       next.0,
       next.1,
       (
-        kept_end g.J.Jobs.tells g.J.Jobs.fails c.args.jobs.now c.drain.new.jobs left.told _ _ _ _ c.in-Err-listen.cause left.ran next.3.0,
+        ends_for_none g.J.Jobs.tells g.J.Jobs.fails c.args.jobs.now c.drain.new.jobs left.told _ _ _ _ c.in-Err-listen.cause left.ran next.3.0,
         reason_from (session_of duty before next.0) older old new c.listen.new.state.tally (g.P.PoolPort.book c.listen.new.port) c.in-Err-listen.cause next.3.1
             (ap (λ (i : Input). i.failures) c.drain.ensures.link.input ∙ c.loop-made.invariant.read_failures) (c.in-Ok-drain.ensures.link.no_failure ∙ c.loop-made.invariant.write_failures),
       ),
