@@ -8,7 +8,7 @@ use crate::reads::Reads;
 use crate::results::TimeLimit;
 use byte_io::{Device, DeviceFault, MAX_TIMEOUTS, Sink, Source, Took};
 use std::io;
-use std::io::{Read, Write};
+use std::io::{ErrorKind, Read, Write};
 use std::net::{Net, TcpStream, ToSocketAddrs};
 use std::time::Duration;
 
@@ -78,6 +78,22 @@ impl TcpLink {
             }
         }
         Err(last)
+    }
+
+    /// Whether the stream is open and nothing has come over it that was not read. It does not wait, and takes nothing. A stream of which
+    /// the system does not say that is not quiet.
+    pub fn is_quiet(&self) -> bool {
+        if self.stream.set_nonblocking(true).is_err() {
+            return false;
+        }
+        let seen = self.stream.peek(&mut [0u8; 1]);
+        if self.stream.set_nonblocking(false).is_err() {
+            return false;
+        }
+        match seen {
+            Ok(_) => false,
+            Err(error) => error.kind() == ErrorKind::WouldBlock,
+        }
     }
 
     /// A link over a stream that was just connected.

@@ -98,7 +98,7 @@ fn receive<L: Source, C: Clock>(
     ensures output { L.output link.new ≡ L.output link.old }
 {
     let mut spans = [EMPTY_HEADER_SPAN; 64];
-    let mut buffer = [0u8; 4096];
+    let mut buffer = [0u8; 16384];
     let mut reader = ResponseReader::new(alloc, client);
     for _turn in 0..u64::MAX {
         match reader.advance(&mut spans, bounds.max_body) {

@@ -10,6 +10,7 @@ mod request;
 mod sending;
 mod service;
 mod service_jobs;
+mod tcp;
 mod values;
 
 pub use clock::Clock;
@@ -17,3 +18,4 @@ pub use exchanging::{Done, exchange};
 pub use fault::{NotDone, Unserved};
 pub use service::{Service, ServiceError};
 pub use service_jobs::{Dial, Look, ServiceJobs};
+pub use tcp::{CallTimes, SystemClock, TcpDial};

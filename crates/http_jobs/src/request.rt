@@ -87,6 +87,9 @@ fn headers<'h>(
     Ok(headers)
 }
 
+/// Room for the head of a request, which is seldom longer.
+const HEAD_ROOM: usize = 1024;
+
 /// Writes the request of a job into memory.
 fn write_request(
     alloc: Global,
@@ -104,7 +107,7 @@ fn write_request(
     let headers = headers(alloc, service, job)?;
     let payload = job.payload.as_slice();
     let size = BodySize::Known(payload.len() as u64);
-    let mut text = Vec::new(alloc);
+    let mut text = Vec::with_capacity(alloc, payload.len().saturating_add(HEAD_ROOM))?;
     client.write_request(
         &mut text,
         b"POST",

@@ -29,7 +29,7 @@ returns-clause-text c =
     let asking = after_request client POST (Known n) hs in
     let one : c.write_request.new.self ≡ asking = c.in_ok-write_request.ensures.next in
     let two : c.write_data.new.self ≡ with_writing asking (after_data (writing asking) n) = c.in_ok-write_data.ensures.counted ∙ ap (λ (x : Client). with_writing x (after_data (writing x) n)) one in
-    let first : c.write_request.new.output.items ≡ planned_request client POST target (Known n) hs = c.in_ok-write_request.ensures.ok ∙ ap (λ (x : List ℕ). x ++ planned_request client POST target (Known n) hs) c.new-text.ensures.items in
+    let first : c.write_request.new.output.items ≡ planned_request client POST target (Known n) hs = c.in_ok-write_request.ensures.ok ∙ ap (λ (x : List ℕ). x ++ planned_request client POST target (Known n) hs) c.in_ok-text.ensures.items in
     let second : c.write_data.new.output.items ≡ planned_request client POST target (Known n) hs ++ data_text (writing asking) payload = c.in_ok-write_data.ensures.ok ∙ (λ i. first i ++ data_text (writing (one i)) payload) in
     c.in_ok-write_end.ensures.ok ∙ (λ i. second i ++ finish_text (writing (two i)) []) ∙ says_request client target payload n hs o refl accepted
     ∙ (λ i. request_text POST (same_target i) 1 (same_headers i ++ length_header (length (same_payload i)) ∷ []) ++ same_payload i)
