@@ -104,6 +104,10 @@ one_attempt settings lines line before joined filled now joins fills tells =
       each = ((fills.all, fills.each, tells.follows), tt);
     }
 
+-- the same attempts, behind other lines
+pub attempts_behind : (settings : Settings) (lines more : List Attempt) (before now : Option (List DialCall)) → Attempts settings [] more before now → Attempts settings lines (lines ++ more) before now
+attempts_behind settings lines more before now made = record { tries = made.tries; lines = ap (λ (l : List Attempt). lines ++ l) made.lines; calls = made.calls; each = made.each }
+
 pub more_attempts : (settings : Settings) (old mid new : List Attempt) (before between now : Option (List DialCall)) → Attempts settings old mid before between → Attempts settings mid new between now
     → Attempts settings old new before now
 more_attempts settings old mid new before between now first then = record {

@@ -9,6 +9,7 @@ pub mod PortCalls
 pub mod Published
 pub mod Reached
 pub mod Rounds
+pub mod Runs
 pub mod Sessions
 pub mod Steps
 pub mod Tries

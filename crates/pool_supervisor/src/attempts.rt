@@ -1,14 +1,16 @@
 //! The supervisor of a run, and the steps of an attempt, one after the other.
-ghost use Rattle.std.specs.Prelude.{◌≡◌, ◌+◌, ◌-◌, ◌<◌, ◌≤◌, ◌^◌, not, IfOk, IfSome, OnOk, vec_len, vec_capacity};
+ghost use Rattle.std.specs.Prelude.{◌≡◌, ◌+◌, ◌-◌, ◌<◌, ◌≤◌, ◌^◌, ◌∷◌, [], List, not, IfOk, IfSome, OnOk, vec_len, vec_capacity};
 ghost use Rattle.pool_settings.specs.Slots.{slots as slot_count};
 ghost use Rattle.pool_supervisor.specs.Asking.{Tells};
 ghost use Rattle.pool_supervisor.specs.Counted.{CountAHistory};
-ghost use Rattle.pool_supervisor.specs.Rounds.{PostAndStop, Posts, PostSince, StopsAll, TellRun};
-ghost use Rattle.pool_supervisor.specs.Tries.{Attempts, Dials, Fills, FillsOne, IsSeenAs};
+ghost use Rattle.pool_supervisor.specs.Rounds.{PostAndStop, Posts, PostSince, StopsAll};
+ghost use Rattle.pool_supervisor.specs.Runs.{IsRun, Keeps, most_kept};
+ghost use Rattle.pool_supervisor.specs.Tries.{Attempts, Fills, FillsOne, IsSeenAs};
 
 use crate::attempt::Attempt;
 use crate::crew::Crew;
 use crate::dial::Dial;
+use crate::jobs::JobSource;
 use crate::news::{Attempted, Progress};
 use crate::place::{Place, RunId};
 use crate::planner::Planner;
@@ -17,7 +19,6 @@ use crate::queue::Queue;
 use crate::run::RunEnd;
 use crate::session::{Enrolled, Site};
 use byte_io::{Sink, Source};
-use job_runner::NamedJobs;
 use order_board::{PublisherSeat, SeatSource};
 use plan_model::SlotId;
 use pool_core::{Chapter, Pass};
@@ -36,17 +37,26 @@ pub struct Seats {
     pub source: SeatSource,
 }
 
-/// What a run has to tell so far, with room for a line of each attempt that it makes.
+/// How long a run makes attempts.
+#[derive(Clone, Copy, Debug, PartialEq, Eq)]
+pub enum Until {
+    /// Until so many were made. Their lines are kept.
+    Rounds(u32),
+    /// Until the watch says that the run has to end. No line is kept.
+    Told,
+}
+
+/// What a run has to tell so far, with room for the lines that it keeps.
 #[derive(Drop)]
 pub struct Lines {
-    /// What each attempt so far came to, the first one first.
+    /// What each attempt so far came to, the first one first, if lines are kept.
     pub told: Vec<Attempt>,
     /// How many chapters of the history ended. It stays at the greatest number that it can hold.
     pub chapters: u32,
-    /// How many attempts the run makes.
-    pub rounds: u32,
+    /// How long the run makes attempts.
+    pub until: Until,
     /// There is room for the lines to come.
-    pub ghost room: { (vec_len told ≤ rounds) × (rounds ≤ vec_capacity told) },
+    pub ghost room: { (vec_len told ≤ most_kept until) × (most_kept until ≤ vec_capacity told) },
 }
 
 /// The supervisor of a run: where its sessions are, the sessions, and what it alone has.
@@ -120,7 +130,7 @@ impl<
     L: Source + Sink + Send + Drop,
     Y: Dial<L> + Drop,
     P: Planner,
-    J: NamedJobs + Sync,
+    J: JobSource + Sync,
     C: Watch + Progress + Sync,
     R: Threads + Wait + Sync,
 > Supervisor<'e, N, L, Y, P, J, C, R> {
@@ -215,32 +225,29 @@ impl<
         }
     }
 
-    /// The steps of an attempt but for its pause, with its line at the end of the lines. The error is that a thread could not be started.
+    /// The steps of the attempt of this number but for its pause, and what it came to. The error is that a thread could not be started.
     fn attempt<'s>(
         &mut self,
         scope: &Scope<'s, &'e ()>,
-        lines: &mut Lines,
-    ) -> Result<(), AllocError>
+        number: u32,
+        chapters: &mut u32,
+    ) -> Result<Attempt, AllocError>
     where
         'e: 's,
         N: 's,
         L: 's,
-        requires room { vec_len lines.old.told < lines.old.rounds }
-        ensures rounds { lines.new.rounds ≡ lines.old.rounds }
-        ensures one { OnOk result (vec_len lines.new.told ≡ vec_len lines.old.told + 1) }
-        ensures posts { OnOk result (PostSince N.settings lines.old.told.items lines.new.told.items
-            self.old.seats.publisher.posts self.new.seats.publisher.posts) }
-        ensures calls { OnOk result (Attempts N.settings lines.old.told.items lines.new.told.items
-            (Y.calls self.old.dial) (Y.calls self.new.dial)) }
+        ensures posts { IfOk result
+            (λ line. Posts N.settings line self.old.seats.publisher.posts self.new.seats.publisher.posts) }
+        ensures calls { IfOk result
+            (λ line. Attempts N.settings [] (line ∷ []) (Y.calls self.old.dial) (Y.calls self.new.dial)) }
     {
         let site = self.site;
-        let number = lines.told.len() as u32 + 1;
         self.crew
             .join_ended(&site, &mut self.seats.source, &mut self.dial);
         // The lock is free when the events of the chapter are dropped.
         let ended = site.end_chapter_if_due();
         if ended.is_some() {
-            lines.chapters = lines.chapters.saturating_add(1);
+            *chapters = chapters.saturating_add(1);
         }
         drop(ended);
         self.start_all(scope)?;
@@ -254,29 +261,60 @@ impl<
             alive: site.alive(),
             longest: self.longest,
         });
-        lines.told.push_reserved(attempt);
-        Ok(())
+        Ok(attempt)
     }
 
-    /// All attempts. The error is that a thread could not be started.
+    /// So many attempts in all, with their lines kept. The error is that a thread could not be started.
     fn attempt_all<'s>(
         &mut self,
         scope: &Scope<'s, &'e ()>,
+        rounds: u32,
         lines: &mut Lines,
     ) -> Result<(), AllocError>
     where
         'e: 's,
         N: 's,
         L: 's,
-        ensures lines { OnOk result (vec_len lines.new.told ≡ lines.old.rounds) }
+        requires rounds { lines.old.until ≡ Until.Rounds rounds }
+        ensures until { lines.new.until ≡ lines.old.until }
+        ensures lines { OnOk result (vec_len lines.new.told ≡ rounds) }
         ensures posts { OnOk result (PostSince N.settings lines.old.told.items lines.new.told.items
             self.old.seats.publisher.posts self.new.seats.publisher.posts) }
         ensures calls { OnOk result (Attempts N.settings lines.old.told.items lines.new.told.items
             (Y.calls self.old.dial) (Y.calls self.new.dial)) }
     {
         let site = self.site;
-        while lines.told.len() < lines.rounds as usize {
-            self.attempt(scope, lines)?;
+        while lines.told.len() < rounds as usize {
+            let number = lines.told.len() as u32 + 1;
+            let line = self.attempt(scope, number, &mut lines.chapters)?;
+            lines.told.push_reserved(line);
+            site.lent.watch.pause(site.run.settings.round_ms());
+        }
+        Ok(())
+    }
+
+    /// Attempts until the watch says that the run has to end. The error is that a thread could not be started.
+    fn attempt_until_told<'s>(
+        &mut self,
+        scope: &Scope<'s, &'e ()>,
+        chapters: &mut u32,
+    ) -> Result<(), AllocError>
+    where
+        'e: 's,
+        N: 's,
+        L: 's,
+        ensures attempts { OnOk result ((lines : List Attempt)
+            × PostSince N.settings [] lines self.old.seats.publisher.posts self.new.seats.publisher.posts
+            × Attempts N.settings [] lines (Y.calls self.old.dial) (Y.calls self.new.dial)) }
+    {
+        let site = self.site;
+        let mut number = 0u32;
+        for _attempt in site.lent.rt.forever() {
+            if site.lent.watch.has_to_end() {
+                return Ok(());
+            }
+            number = number.saturating_add(1);
+            self.attempt(scope, number, chapters)?;
             site.lent.watch.pause(site.run.settings.round_ms());
         }
         Ok(())
@@ -292,13 +330,14 @@ impl<
         'e: 's,
         N: 's,
         L: 's,
-        ensures lines { OnOk result (vec_len lines.new.told ≡ lines.old.rounds) }
-        ensures posts { OnOk result (PostAndStop N.settings lines.old.told.items lines.new.told.items
-            self.old.seats.publisher.posts self.new.seats.publisher.posts) }
-        ensures calls { OnOk result (Attempts N.settings lines.old.told.items lines.new.told.items
-            (Y.calls self.old.dial) (Y.calls self.new.dial)) }
+        ensures attempts { OnOk result ((all : List Attempt) × Keeps lines.old.until all lines.new.told.items
+            × PostAndStop N.settings lines.old.told.items all self.old.seats.publisher.posts self.new.seats.publisher.posts
+            × Attempts N.settings lines.old.told.items all (Y.calls self.old.dial) (Y.calls self.new.dial)) }
     {
-        let attempted = self.attempt_all(scope, lines);
+        let attempted = match lines.until {
+            Until::Rounds(rounds) => self.attempt_all(scope, rounds, lines),
+            Until::Told => self.attempt_until_told(scope, &mut lines.chapters),
+        };
         self.stop_all();
         attempted
     }
@@ -313,11 +352,9 @@ impl<
         'e: 's,
         N: 's,
         L: 's,
-        ensures lines { IfOk result (λ ended. vec_len ended.0.lines ≡ lines.rounds) }
-        ensures told { IfOk result (λ ended. TellRun N.settings lines.told.items ended.0.lines.items self.entry.seats.publisher.posts) }
+        ensures runs { IfOk result (λ ended. IsRun N.settings lines.until lines.told.items ended.0.lines.items
+            self.entry.seats.publisher.posts (Y.calls self.entry.dial) (Y.calls ended.1)) }
         ensures counts { IfOk result (λ ended. CountAHistory N.settings ended.0.totals) }
-        ensures dials { IfOk result
-            (λ ended. Dials N.settings lines.told.items ended.0.lines.items (Y.calls self.entry.dial) (Y.calls ended.1)) }
     {
         let attempted = self.attempt_and_stop(scope, &mut lines);
         let Supervisor {
@@ -338,22 +375,17 @@ impl<
 
     /// The run, with its sessions as threads of one scope. All that they are lent has one lifetime. What dials is handed back.
     pub fn run(self, lines: Lines) -> Result<(RunEnd, Y), AllocError>
-        ensures lines { IfOk result (λ ended. vec_len ended.0.lines ≡ lines.rounds) }
-        ensures told { IfOk result (λ ended. TellRun N.settings lines.told.items ended.0.lines.items self.entry.seats.publisher.posts) }
+        ensures runs { IfOk result (λ ended. IsRun N.settings lines.until lines.told.items ended.0.lines.items
+            self.entry.seats.publisher.posts (Y.calls self.entry.dial) (Y.calls ended.1)) }
         ensures counts { IfOk result (λ ended. CountAHistory N.settings ended.0.totals) }
-        ensures dials { IfOk result
-            (λ ended. Dials N.settings lines.told.items ended.0.lines.items (Y.calls self.entry.dial) (Y.calls ended.1)) }
     {
         thread::scope(
             thread::scope_env(),
             self.site.lent.rt,
             |scope| -> Result<(RunEnd, Y), AllocError>
-                ensures lines { IfOk result (λ ended. vec_len ended.0.lines ≡ lines.rounds) }
-                ensures told { IfOk result
-                    (λ ended. TellRun N.settings lines.told.items ended.0.lines.items self.entry.seats.publisher.posts) }
+                ensures runs { IfOk result (λ ended. IsRun N.settings lines.until lines.told.items ended.0.lines.items
+                    self.entry.seats.publisher.posts (Y.calls self.entry.dial) (Y.calls ended.1)) }
                 ensures counts { IfOk result (λ ended. CountAHistory N.settings ended.0.totals) }
-                ensures dials { IfOk result (λ ended. Dials N.settings lines.told.items ended.0.lines.items
-                    (Y.calls self.entry.dial) (Y.calls ended.1)) }
             { self.supervise(scope, lines) },
         )
     }

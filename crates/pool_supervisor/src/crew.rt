@@ -9,13 +9,13 @@ use crate::attempts::Lines;
 use crate::dial::Dial;
 use crate::ends::EndCounts;
 use crate::job_counts::JobCounts;
+use crate::jobs::JobSource;
 use crate::news::{EndedWorker, Progress};
 use crate::place::{Grabs, Place, Reports, RunId};
 use crate::port::Watch;
 use crate::run::RunEnd;
 use crate::session::{Enrolled, Papers, Returned, Site, run_worker};
 use byte_io::{Sink, Source};
-use job_runner::NamedJobs;
 use order_board::SeatSource;
 use std::alloc::{AllocError, Global};
 use std::marker::Model;
@@ -236,7 +236,7 @@ impl<N: RunId, L: Source + Sink> Crew<N, L> {
         let Lines {
             told,
             chapters,
-            rounds: _,
+            until: _,
         } = lines;
         let totals = site
             .shared
@@ -254,7 +254,7 @@ impl<N: RunId, L: Source + Sink> Crew<N, L> {
     }
 }
 
-impl<'e, N: RunId, J: NamedJobs + Sync, C: Watch + Sync, R: Threads + Wait + Sync> Site<
+impl<'e, N: RunId, J: JobSource + Sync, C: Watch + Sync, R: Threads + Wait + Sync> Site<
     'e,
     N,
     J,

@@ -24,6 +24,11 @@ pub trait Watch {
 
     /// Lets so many milliseconds pass.
     fn pause(&self, milliseconds: u32);
+
+    /// Whether a run that makes attempts until it is told has to end. Any other run does not ask.
+    fn has_to_end(&self) -> bool {
+        false
+    }
 }
 
 /// A session's way to the shared pool, with a share of each of its books.

@@ -1,18 +1,20 @@
 //! A run of the pool: what it makes, and what it came to.
-ghost use Rattle.std.specs.Prelude.{◌≡◌, ◌+◌, ◌≤◌, ◌^◌, [], IfOk, vec_len};
+ghost use Rattle.std.specs.Prelude.{◌≡◌, ◌+◌, ◌≤◌, ◌^◌, [], List, IfOk, vec_len};
 ghost use Rattle.pool_settings.specs.Slots.{slots as slot_count};
 ghost use Rattle.pool_core.specs.Book.{totals_of};
 ghost use Rattle.pool_supervisor.specs.Counted.{CountAHistory};
 ghost use Rattle.pool_supervisor.specs.JobCounts.{answered};
 ghost use Rattle.pool_supervisor.specs.Rounds.{TellRun};
+ghost use Rattle.pool_supervisor.specs.Runs.{IsRun};
 ghost use Rattle.pool_supervisor.specs.Tries.{Dials};
 
 use crate::attempt::Attempt;
-use crate::attempts::{Lines, Seats, Supervisor};
+use crate::attempts::{Lines, Seats, Supervisor, Until};
 use crate::crew::{Crew, PARTS};
 use crate::dial::Dial;
 use crate::ends::EndCounts;
 use crate::job_counts::JobCounts;
+use crate::jobs::JobSource;
 use crate::news::Progress;
 use crate::place::{Grabs, Reports, RunBoard, RunId};
 use crate::planner::Planner;
@@ -46,7 +48,7 @@ pub struct RunEnd {
     pub ends: EndCounts,
     /// How many chapters of the history ended.
     pub chapters: u32,
-    /// What each attempt came to, the first one first.
+    /// What each attempt came to, the first one first. Nothing if the run made attempts until it was told.
     pub lines: Vec<Attempt>,
     /// Each job that was grabbed is running, reported or lost.
     pub ghost accounts: { totals.grabbed ≡ totals.running + totals.reported + totals.lost },
@@ -76,6 +78,7 @@ struct Made {
 }
 
 /// What the supervisor of a run is lent by its caller, beside what its sessions are.
+#[derive(Drop)]
 struct Tools<'e, L, Y, P> {
     settings: &'e Settings,
     dial: Y,
@@ -87,7 +90,7 @@ impl<'e, L: Source + Sink + Send + Drop, Y: Dial<L> + Drop, P: Planner> Tools<'e
     /// The run of this name.
     fn run<
         N: RunId + Send + Sync,
-        J: NamedJobs + Sync,
+        J: JobSource + Sync,
         C: Watch + Progress + Sync,
         R: Threads + Wait + Sync,
     >(
@@ -101,11 +104,9 @@ impl<'e, L: Source + Sink + Send + Drop, Y: Dial<L> + Drop, P: Planner> Tools<'e
         requires settings { (self.settings.now ≡ N.settings) × (made.pool.settings ≡ N.settings) }
         requires grabbed { (grabbed.name ≡ N.grabs) × (grabbed.parts ≡ 2 ^ 40) }
         requires reported { (reported.name ≡ N.reports) × (reported.parts ≡ 2 ^ 40) }
-        ensures lines { IfOk result (λ ended. vec_len ended.0.lines ≡ made.lines.rounds) }
-        ensures told { IfOk result (λ ended. TellRun made.pool.settings [] ended.0.lines.items []) }
+        ensures runs { IfOk result (λ ended. IsRun made.pool.settings made.lines.until [] ended.0.lines.items []
+            (Y.calls self.entry.dial) (Y.calls ended.1)) }
         ensures counts { IfOk result (λ ended. CountAHistory made.pool.settings ended.0.totals) }
-        ensures dials { IfOk result
-            (λ ended. Dials made.pool.settings [] ended.0.lines.items (Y.calls self.entry.dial) (Y.calls ended.1)) }
     {
         let Tools {
             settings,
@@ -140,26 +141,48 @@ impl<'e, L: Source + Sink + Send + Drop, Y: Dial<L> + Drop, P: Planner> Tools<'e
         };
         supervisor.run(lines)
     }
+
+    /// A run that makes attempts for so long.
+    fn run_whole<J: JobSource + Sync, C: Watch + Progress + Sync, R: Threads + Wait + Sync>(
+        self,
+        lent: Lent<'e, J, C, R>,
+        until: Until,
+    ) -> Result<(RunEnd, Y), AllocError>
+        ensures runs { IfOk result (λ e. IsRun self.entry.settings.now until [] e.0.lines.items []
+            (Y.calls self.entry.dial) (Y.calls e.1)) }
+        ensures counts { IfOk result (λ e. CountAHistory self.entry.settings.now e.0.totals) }
+    {
+        report_lacking(lent.watch, lent.jobs, self.settings);
+        let made = make(lent.alloc, self.settings, until)?;
+        let watch = lent.watch;
+        let ran = self.run::<Brand, J, C, R>(lent, made, Blank::new(PARTS), Blank::new(PARTS));
+        report(watch, &ran);
+        ran
+    }
 }
 
-/// The lines of a run of so many attempts: none yet. The error is that memory was refused.
-fn no_lines(alloc: Global, rounds: u32) -> Result<Lines, AllocError>
-    ensures rounds { IfOk result (λ lines. lines.rounds ≡ rounds) }
+/// The lines of a run that makes attempts for so long: none yet. The error is that memory was refused.
+fn no_lines(alloc: Global, until: Until) -> Result<Lines, AllocError>
+    ensures until { IfOk result (λ lines. lines.until ≡ until) }
     ensures none { IfOk result (λ lines. lines.told.items ≡ []) }
 {
+    let told = match until {
+        Until::Rounds(rounds) => Vec::with_capacity(alloc, rounds as usize)?,
+        Until::Told => Vec::new(alloc),
+    };
     Ok(Lines {
-        told: Vec::with_capacity(alloc, rounds as usize)?,
+        told,
         chapters: 0,
-        rounds,
+        until,
     })
 }
 
 /// What a run of these settings makes: its pool, its board, and room for its lines. The error is that memory was refused.
-fn make(alloc: Global, settings: &Settings, rounds: u32) -> Result<Made, AllocError>
+fn make(alloc: Global, settings: &Settings, until: Until) -> Result<Made, AllocError>
     ensures settings { IfOk result (λ made. made.pool.settings ≡ settings.now) }
-    ensures lines { IfOk result (λ made. made.lines.rounds ≡ rounds) }
+    ensures until { IfOk result (λ made. made.lines.until ≡ until) }
 {
-    let lines = no_lines(alloc, rounds)?;
+    let lines = no_lines(alloc, until)?;
     let pool = Pool::new(alloc, settings.copy(alloc)?)?;
     let Ok((board, publisher, source)) = Board::new(alloc, settings.slots()) else {
         return Err(AllocError);
@@ -172,9 +195,64 @@ fn make(alloc: Global, settings: &Settings, rounds: u32) -> Result<Made, AllocEr
     })
 }
 
-/// Runs a pool of these settings for so many attempts, with a session for each slot, and then ends all sessions. The watch is told of each
-/// function without a job, of each attempt, of each worker's end, and of what the run came to. What dials is handed back with that, so that
-/// its calls are known. The only error is that memory or a thread was refused.
+/// Runs a pool of these settings for so many attempts, with a session for each slot, and then ends all sessions. Each session has the jobs
+/// that the source gives it. The watch is told of each function without a job, of each attempt, of each worker's end, and of what the run
+/// came to. What dials is handed back with that, so that its calls are known. The only error is that memory or a thread was refused.
+pub fn run_sessions<
+    L: Source + Sink + Send + Drop,
+    Y: Dial<L> + Drop,
+    P: Planner,
+    S: JobSource + Sync,
+    H: Watch + Progress + Threads + Wait + Sync,
+>(
+    lent: Lent<'_, S, H, H>,
+    dial: Y,
+    planner: &P,
+    settings: Settings,
+    rounds: u32,
+) -> Result<(RunEnd, Y), AllocError>
+    ensures lines { IfOk result (λ e. vec_len e.0.lines ≡ rounds) }
+    ensures told { IfOk result (λ e. TellRun settings [] e.0.lines.items []) }
+    ensures counts { IfOk result (λ e. CountAHistory settings e.0.totals) }
+    ensures dials { IfOk result (λ e. Dials settings [] e.0.lines.items (Y.calls dial) (Y.calls e.1)) }
+{
+    let tools: Tools<'_, L, Y, P> = Tools {
+        settings: &settings,
+        dial,
+        planner,
+        links: PhantomData,
+    };
+    tools.run_whole(lent, Until::Rounds(rounds))
+}
+
+/// [`run_sessions`] that makes attempts until the watch says that the run has to end. It keeps no line of an attempt: the watch is told
+/// each.
+pub fn run_until_told<
+    L: Source + Sink + Send + Drop,
+    Y: Dial<L> + Drop,
+    P: Planner,
+    S: JobSource + Sync,
+    H: Watch + Progress + Threads + Wait + Sync,
+>(
+    lent: Lent<'_, S, H, H>,
+    dial: Y,
+    planner: &P,
+    settings: Settings,
+) -> Result<(RunEnd, Y), AllocError>
+    ensures attempts { IfOk result (λ e. (lines : List Attempt) × TellRun settings [] lines []
+        × Dials settings [] lines (Y.calls dial) (Y.calls e.1)) }
+    ensures counts { IfOk result (λ e. CountAHistory settings e.0.totals) }
+{
+    let tools: Tools<'_, L, Y, P> = Tools {
+        settings: &settings,
+        dial,
+        planner,
+        links: PhantomData,
+    };
+    tools.run_whole(lent, Until::Told)
+}
+
+/// [`run_sessions`] with jobs by name, the same for each session, and with what it is lent one by one.
 pub fn run_pool<
     L: Source + Sink + Send + Drop,
     Y: Dial<L> + Drop,
@@ -197,8 +275,6 @@ pub fn run_pool<
     ensures counts { IfOk result (λ e. CountAHistory settings e.0.totals) }
     ensures dials { IfOk result (λ e. Dials settings [] e.0.lines.items (Y.calls dial) (Y.calls e.1)) }
 {
-    report_lacking(watch, jobs, &settings);
-    let made = make(alloc, &settings, rounds)?;
     let tools: Tools<'_, L, Y, P> = Tools {
         settings: &settings,
         dial,
@@ -209,15 +285,13 @@ pub fn run_pool<
         rt,
         alloc,
         watch,
-        jobs,
+        jobs: &jobs,
     };
-    let ran = tools.run::<Brand, J, C, R>(lent, made, Blank::new(PARTS), Blank::new(PARTS));
-    report(watch, &ran);
-    ran
+    tools.run_whole(lent, Until::Rounds(rounds))
 }
 
-/// Reports each function of the settings that no job serves.
-fn report_lacking<C: Progress, J: NamedJobs>(watch: &C, jobs: &J, settings: &Settings) {
+/// Reports each function of the settings that the source has no job for.
+fn report_lacking<C: Progress, J: JobSource>(watch: &C, jobs: &J, settings: &Settings) {
     for number in 0..settings.functions() {
         let function = FuncId::new(number);
         if !jobs.serves(settings.function_name(function).as_bytes()) {

@@ -4,16 +4,18 @@ ghost use Rattle.byte_io.specs.Sides.{and_then};
 ghost use Rattle.job_runner.specs.Book.{Ledger};
 ghost use Rattle.job_runner.specs.Loop.{duty_of};
 ghost use Rattle.job_runner.specs.Course.{session_of};
-ghost use Rattle.job_runner.specs.Run.{ServedBy};
+ghost use Rattle.job_runner.specs.Run.{EndTold, Served};
+ghost use Rattle.job_runner.specs.Told.{Telling};
 ghost use Rattle.pool_settings.specs.Slots.{slots};
 ghost use Rattle.pool_supervisor.specs.JobCounts.{answered};
 
 use crate::job_counts::JobCounts;
+use crate::jobs::JobSource;
 use crate::place::{Grabs, Place, Reports, RunBoard, RunId};
 use crate::port::{SharedPort, Watch};
 use crate::shared::Shared;
 use byte_io::{Sink, Source};
-use job_runner::{NamedJobs, SessionEnd, run_session};
+use job_runner::{SessionEnd, Workplace, serve_worker};
 use pool_core::Pass;
 use std::alloc::{AllocError, Global};
 use std::sync::Wait;
@@ -27,7 +29,7 @@ pub struct Lent<'e, J, C, R> {
     pub alloc: Global,
     /// What tells the time.
     pub watch: &'e C,
-    /// The jobs that workers can do.
+    /// What gives each session its jobs.
     pub jobs: &'e J,
 }
 
@@ -122,9 +124,10 @@ pub struct Returned<N: RunId> {
     pub ghost ends_counted: { answered jobs ≡ end.reported },
 }
 
-/// A worker's session over the shared pool, to its end. It promises of what it reads and writes what [`run_session`] does. The
-/// shares begin at 0 and come back at the counts of its end, so the pool has booked just what the session reports.
-pub fn run_worker<N: RunId, L: Source + Sink, J: NamedJobs, C: Watch, R: Wait>(
+/// A worker's session over the shared pool, to its end, with the jobs that the source gives it. It promises of what it reads and writes
+/// what [`serve_worker`] does. The shares begin at 0 and come back at the counts of its end, so the pool has booked just what the session
+/// reports.
+pub fn run_worker<N: RunId, L: Source + Sink, J: JobSource, C: Watch, R: Wait>(
     site: &Site<'_, N, J, C, R>,
     link: &mut L,
     papers: Papers<N>,
@@ -132,11 +135,12 @@ pub fn run_worker<N: RunId, L: Source + Sink, J: NamedJobs, C: Watch, R: Wait>(
     requires slot { papers.worker.pass.slot < slots site.now.run.settings.now }
     requires output { (L.output link.old).failures < 2 ^ 64 - 1 }
     requires input { (L.input link.old).failures < 2 ^ 64 - 1 }
-    ensures served { (read bytes : List ℕ) × (book : Ledger)
+    ensures served { (read bytes : List ℕ) × (told : List Telling) × (book : Ledger) × (first last : J.Jobs)
+        × J.gives site.now.lent.jobs.now papers.worker.pass first
         × ((L.input link.new).given ≡ and_then (L.input link.old).given read)
         × ((L.output link.new).got ≡ and_then (L.output link.old).got bytes)
-        × ServedBy (J.told site.now.lent.jobs.now)
-        (session_of (duty_of site.now.run.settings.now papers.worker.pass) (L.output link.old).got read) bytes
+        × EndTold J.Jobs.tells J.Jobs.fails first last result.end.cause told
+        × Served (session_of (duty_of site.now.run.settings.now papers.worker.pass) (L.output link.old).got read) told bytes
         (record { input = L.input link.old; output = L.output link.old })
         (record { input = L.input link.new; output = L.output link.new })
         book result.end }
@@ -159,7 +163,13 @@ pub fn run_worker<N: RunId, L: Source + Sink, J: NamedJobs, C: Watch, R: Wait>(
     } = site.run;
     let shares = (grabbed, reported);
     let mut port = SharedPort::new(rt, site.shared, watch, board, place, shares);
-    let end = run_session(alloc, link, &mut port, jobs, settings, pass, TURNS);
+    let mut jobs = jobs.jobs_of(pass.name());
+    let place = Workplace {
+        alloc,
+        settings,
+        turns: TURNS,
+    };
+    let end = serve_worker(place, pass, link, &mut port, &mut jobs);
     let jobs_done = port.jobs();
     let (grabbed, reported, place) = port.into_parts();
     Returned {

@@ -9,6 +9,6 @@ mod watching;
 
 pub use host::Host;
 pub use pool_supervisor::{Attempt, Attempted, EndedWorker, Progress, RunEnd, Watch};
-pub use running::{run_jobs, run_rounds};
+pub use running::{run_jobs, run_rounds, run_source};
 pub use stock_jobs::{StockJob, stock_jobs};
 pub use system::System;

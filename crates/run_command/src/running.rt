@@ -11,12 +11,12 @@ use byte_io::Sink;
 use job_runner::NamedJobs;
 use plan_commands::{Exit, Fault, deliver, read_settings};
 use pool_settings::Settings;
-use pool_supervisor::{ArenaPlanner, RunEnd, run_pool};
+use pool_supervisor::{ArenaPlanner, JobSource, Lent, RunEnd, run_sessions};
 use std::alloc::{AllocError, Global};
 use stock_jobs::stock_jobs;
 
-/// Runs the pool with these jobs.
-fn run_with<H: Host, J: NamedJobs + Sync>(
+/// Runs the pool with the jobs of this source.
+fn run_with<H: Host, J: JobSource + Sync>(
     host: &H,
     alloc: Global,
     jobs: &J,
@@ -33,7 +33,13 @@ fn run_with<H: Host, J: NamedJobs + Sync>(
         lull_ms: settings.lull_ms(),
     };
     let planner = ArenaPlanner::new(alloc);
-    let (ended, _route) = run_pool(host, alloc, route, host, &planner, jobs, settings, rounds)?;
+    let lent = Lent {
+        rt: host,
+        alloc,
+        watch: host,
+        jobs,
+    };
+    let (ended, _route) = run_sessions(lent, route, &planner, settings, rounds)?;
     Ok(ended)
 }
 
@@ -45,7 +51,7 @@ struct Told {
 }
 
 /// Runs the pool of these settings.
-fn run_told<H: Host, J: NamedJobs + Sync>(
+fn run_told<H: Host, J: JobSource + Sync>(
     host: &H,
     alloc: Global,
     jobs: &J,
@@ -63,18 +69,18 @@ fn run_told<H: Host, J: NamedJobs + Sync>(
     Ok(Told { ended, text })
 }
 
-/// Runs a pool of workers by these settings against their job server: `rounds` attempts to plan, a session in a thread for each worker, and
-/// these jobs. When all sessions have ended it writes what the run came to: a line for each attempt, from the first on; the line of the
-/// chapters of the history that ended, if one did; and the line of the pool's totals, which account for each job that was grabbed: it runs,
-/// was reported or was lost. The exit status is 1 if some round had no plan, and else 0. An unreachable server, a bad status text or a
-/// refused call is reported in the attempt's line; the exit status stays 0.
+/// Runs a pool of workers by these settings against their job server: `rounds` attempts to plan, and a session in a thread for each worker,
+/// with the jobs that the source gives it. When all sessions have ended it writes what the run came to: a line for each attempt, from the
+/// first on; the line of the chapters of the history that ended, if one did; and the line of the pool's totals, which account for each job
+/// that was grabbed: it runs, was reported or was lost. The exit status is 1 if some round had no plan, and else 0. An unreachable server,
+/// a bad status text or a refused call is reported in the attempt's line; the exit status stays 0.
 ///
 /// Faults are looked for in the settings, before anything is dialled. If memory is refused, or a thread, so that the run cannot go on,
 /// the sessions are ended and the fault is `Memory`. Nothing is written before the run has ended: after a `WriteFault`, which comes
 /// only if the sink failed, a prefix of the text was written and not all of it, and after any other fault nothing.
 ///
 /// It returns once all sessions have ended, so it waits for jobs that are running.
-pub fn run_jobs<H: Host, J: NamedJobs + Sync, S: Sink>(
+pub fn run_source<H: Host, J: JobSource + Sync, S: Sink>(
     host: &H,
     alloc: Global,
     jobs: &J,
@@ -92,6 +98,21 @@ pub fn run_jobs<H: Host, J: NamedJobs + Sync, S: Sink>(
         }
         Err(fault) => Exit::refused(fault),
     }
+}
+
+/// [`run_source`] with jobs by name, the same for each session.
+pub fn run_jobs<H: Host, J: NamedJobs + Sync, S: Sink>(
+    host: &H,
+    alloc: Global,
+    jobs: &J,
+    settings_text: &[u8],
+    rounds: u32,
+    sink: &mut S,
+) -> Exit
+    requires sink { (S.output sink.old).failures < 2 ^ 64 - 1 }
+    ensures supervises { spec.Supervises settings_text.now rounds (S.output sink.old) (S.output sink.new) result }
+{
+    run_source(host, alloc, &jobs, settings_text, rounds, sink)
 }
 
 /// [`run_jobs`] with the stock jobs (`StockJob`).

@@ -1,25 +1,36 @@
-use Rattle.std.proofs.Common.{refl, ◌∙◌}
-use Rattle.pool_supervisor.proofs.Rounds.{since_none, since_both}
-use Rattle.pool_supervisor.proofs.Tries.{no_attempts, more_attempts}
+use Rattle.std.proofs.Common.{List, refl, sym, subst, ◌++◌, ◌∷◌, []}
+use Rattle.pool_supervisor.specs.declared.attempt.Attempt.{Attempt}
+use Rattle.pool_supervisor.specs.Rounds.{PostSince}
+use Rattle.pool_supervisor.specs.Tries.{Attempts}
+use Rattle.pool_supervisor.proofs.Rounds.{since_none, since_one, since_both}
+use Rattle.pool_supervisor.proofs.Tries.{no_attempts, attempts_behind, more_attempts}
 use Rattle.pool_supervisor.proofs.attempts.Supervisor.attempt_all.Goals as goal
 
-pub loop-lines-init : goal.loop-lines-init
-loop-lines-init g c = (
+pub loop-site-init : goal.loop-site-init
+loop-site-init g c = (
   since_none g.N.RunId.settings c.args.lines.now.told.items c.args.self.now.seats.publisher.posts,
   refl,
   no_attempts g.N.RunId.settings c.args.lines.now.told.items (g.Y.Dial.calls c.args.self.now.dial),
 )
 
-pub loop-lines-preserved : goal.loop-lines-preserved
-loop-lines-preserved g c =
+pub loop-site-preserved : goal.loop-site-preserved
+loop-site-preserved g c =
     let settings = g.N.RunId.settings in
     let first = c.args.lines.now.told.items in
-    let now = c.loop-lines.lines.told.items in
-    let new = c.attempt.new.lines.told.items in
+    let now = c.loop-site.lines.told.items in
+    let line = c.in_ok-line.line in
+    let more = now ++ line ∷ [] in
     let before = c.args.self.now.seats.publisher.posts in
-    let between = c.loop-lines.self.seats.publisher.posts in
-    let after = c.attempt.new.self.seats.publisher.posts in (
-      since_both settings first now new before between after c.loop-lines.invariant.0 c.in_ok-attempt.ensures.posts,
-      c.attempt.ensures.rounds ∙ c.loop-lines.invariant.1,
-      more_attempts settings first now new (g.Y.Dial.calls c.args.self.now.dial) (g.Y.Dial.calls c.loop-lines.self.dial) (g.Y.Dial.calls c.attempt.new.self.dial) c.loop-lines.invariant.2 c.in_ok-attempt.ensures.calls,
+    let between = c.loop-site.self.seats.publisher.posts in
+    let after = c.attempt.new.self.seats.publisher.posts in
+    let called = g.Y.Dial.calls c.args.self.now.dial in
+    let calling = g.Y.Dial.calls c.loop-site.self.dial in
+    let calls = g.Y.Dial.calls c.attempt.new.self.dial in
+    let posts = since_both settings first now more before between after c.loop-site.invariant.0
+    (since_one settings now line between after c.in_ok-line.ensures.posts) in
+    let made = more_attempts settings first now more called calling calls c.loop-site.invariant.2
+    (attempts_behind settings now (line ∷ []) calling calls c.in_ok-line.ensures.calls) in (
+      subst (λ (l : List Attempt). PostSince settings first l before after) (sym c.push_reserved.ensures.items) posts,
+      c.loop-site.invariant.1,
+      subst (λ (l : List Attempt). Attempts settings first l called calls) (sym c.push_reserved.ensures.items) made,
     )

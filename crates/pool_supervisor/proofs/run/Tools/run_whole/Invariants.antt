@@ -1,4 +1,4 @@
-use Rattle.pool_supervisor.proofs.run.run_pool.Given as goal
+use Rattle.pool_supervisor.proofs.run.Tools.run_whole.Given as goal
 
 abbrev pub ghosts-run : goal.ghosts-run
 ghosts-run g a = record { board = a.made.board.id; settings = a.made.pool.settings; grabs = a.grabbed.name; reports = a.reported.name }

@@ -2,7 +2,7 @@ use Rattle.std.proofs.Common.{inl, subst, ap, ◌∙◌}
 use Rattle.plan_commands.specs.Ending.{Delivers}
 use Rattle.plan_commands.specs.Fault.{answered}
 use Rattle.run_command.specs.Run.{run_text, status_after}
-use Rattle.run_command.proofs.running.run_jobs.Goals as goal
+use Rattle.run_command.proofs.running.run_source.Goals as goal
 
 pub returns-in-Ok : goal.returns-in-Ok
 returns-in-Ok g c =

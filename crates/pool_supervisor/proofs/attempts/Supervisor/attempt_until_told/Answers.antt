@@ -1,0 +1,28 @@
+use Rattle.std.proofs.Common.{◌++◌, ◌∷◌, []}
+use Rattle.pool_supervisor.proofs.Rounds.{since_none, since_one, since_both}
+use Rattle.pool_supervisor.proofs.Tries.{no_attempts, attempts_behind, more_attempts}
+use Rattle.pool_supervisor.proofs.attempts.Supervisor.attempt_until_told.Goals as goal
+
+pub loop-attempt-init : goal.loop-attempt-init
+loop-attempt-init g c = (
+  [],
+  since_none g.N.RunId.settings [] c.args.self.now.seats.publisher.posts,
+  no_attempts g.N.RunId.settings [] (g.Y.Dial.calls c.args.self.now.dial),
+)
+
+pub loop-attempt-preserved : goal.loop-attempt-preserved
+loop-attempt-preserved g c =
+    let settings = g.N.RunId.settings in
+    let so_far = c.loop-attempt.invariant in
+    let line = c.in_ok-attempt.field-0 in
+    let more = so_far.0 ++ line ∷ [] in
+    let before = c.args.self.now.seats.publisher.posts in
+    let between = c.loop-attempt.self.seats.publisher.posts in
+    let after = c.attempt.new.self.seats.publisher.posts in
+    let called = g.Y.Dial.calls c.args.self.now.dial in
+    let calling = g.Y.Dial.calls c.loop-attempt.self.dial in
+    let calls = g.Y.Dial.calls c.attempt.new.self.dial in (
+      more,
+      since_both settings [] so_far.0 more before between after so_far.1 (since_one settings so_far.0 line between after c.in_ok-attempt.ensures.posts),
+      more_attempts settings [] so_far.0 more called calling calls so_far.2 (attempts_behind settings so_far.0 (line ∷ []) calling calls c.in_ok-attempt.ensures.calls),
+    )
