@@ -1,0 +1,4 @@
+pub mod Addresses
+pub mod Sendable
+pub mod Machines
+pub mod Blank

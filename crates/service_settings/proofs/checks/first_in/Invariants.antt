@@ -1,0 +1,13 @@
+use Rattle.std.proofs.Common.{◌≡◌, Option}
+use Rattle.pool_settings.specs.Entries.{entries_if, entries_view}
+use Rattle.pool_settings.specs.Place.{first_in}
+use Rattle.pool_settings.specs.Tree.{Entry}
+use Rattle.service_settings.specs.Entries.{AnswersAs}
+use Rattle.service_settings.specs.Reading.{Where}
+use Rattle.service_settings.proofs.checks.first_in.Given as goal
+
+-- what is left decides
+abbrev pub invariant-loop-key : goal.invariant-loop-key
+invariant-loop-key g l =
+    goal.F-IsAlwaysCallable g l.check
+    × ((find : Entry → Option Where) → AnswersAs (goal.F-post g l.check) find → first_in find (entries_view l.key-iterator) ≡ first_in find (entries_if l.table))

@@ -1,0 +1,59 @@
+//! A services file whose text is TOML, and what it means beside the settings.
+
+ghost use Rattle.std.specs.Prelude.{◌≡◌, IfErr, IfOk, Ok, Some, length};
+ghost use Rattle.toml.specs.View.{table_view};
+ghost use Rattle.pool_settings.specs.Reading.{tree_of};
+ghost use Rattle.service_settings.specs.Fault.{RefusesText, RefusesTree};
+ghost use Rattle.service_settings.specs.Reading as spec;
+
+use crate::ServicesError;
+use crate::checked::checked;
+use crate::fault::ServicesFault;
+use crate::place::ServicesPlace;
+use crate::services::{Services, services_of};
+use pool_settings::{Settings, SettingsFault, SettingsFile};
+use std::alloc::Global;
+use toml::Table;
+
+/// A services file whose text is TOML. A key with a default that it does not give has its default.
+#[derive(Drop)]
+pub struct ServicesFile {
+    /// The tree of the file.
+    pub tree: Table,
+}
+
+impl ServicesFile {
+    /// Reads the text of a services file, whether its services are good or not. The errors are `Text`, with its place, and `Memory`. A
+    /// text that is not UTF-8 is at fault after its last character.
+    pub fn read(alloc: Global, text: &[u8]) -> Result<ServicesFile, ServicesFault<'_>>
+        ensures ok { IfOk result (λ file. tree_of text.now ≡ Some (table_view file.tree)) }
+        ensures refused { IfErr result (RefusesText text.now) }
+    {
+        match SettingsFile::read(alloc, text) {
+            Ok(file) => Ok(ServicesFile { tree: file.tree }),
+            Err(SettingsFault::At(_, place)) => Err(ServicesFault::At(
+                ServicesError::Text,
+                ServicesPlace::At(place),
+            )),
+            Err(SettingsFault::Memory) => Err(ServicesFault::Memory),
+        }
+    }
+
+    /// What the file means beside the settings, or its first fault. The place is the first in the order of `ServicesError`: the top table
+    /// before `functions`, that before `machines`, and that before `page`, keys and names in byte order. `Memory` comes only if there is
+    /// no fault.
+    pub fn services<'f>(
+        &'f self,
+        alloc: Global,
+        settings: &'f Settings,
+    ) -> Result<Services, ServicesFault<'f>>
+        ensures ok { IfOk result (λ services. spec.read_tree settings.now (table_view self.now.tree) ≡ Ok services) }
+        ensures refused { IfErr result (RefusesTree settings.now (table_view self.now.tree)) }
+        ensures machines { IfOk result (λ services. length services.urls ≡ length settings.now.machines) }
+        ensures functions { IfOk result (λ services. length services.timeouts ≡ length settings.now.functions) }
+    {
+        checked(settings, &self.tree)?;
+        let services = services_of(alloc, settings, &self.tree)?;
+        Ok(services)
+    }
+}

@@ -1,0 +1,131 @@
+//! The services of a farm.
+
+ghost use Rattle.std.specs.Prelude.{◌≡◌, ◌≢◌, ◌<◌, ◌≤◌, Err, IfErr, IfOk, Ok, Some, length, slice_get, slice_index};
+ghost use Rattle.std.specs.Option.{option_copied};
+ghost use Rattle.toml.specs.Errors.{IsBlank};
+ghost use Rattle.toml.specs.View.{table_view};
+ghost use Rattle.service_settings.specs.Reading as spec;
+
+use crate::build::{timeouts_of, urls_of};
+use crate::page::Page;
+use crate::service_url::ServiceUrl;
+use crate::values::connect_in;
+use crate::{ServicesError, ServicesFile};
+use plan_model::{FuncId, MachineId};
+use pool_settings::Settings;
+use std::alloc::{AllocError, Global};
+use std::marker::Model;
+use toml::Table;
+
+/// The services of a farm: where the jobs of each machine go, how long one may take, and the page. Machines and functions have the
+/// numbers of the settings that the file was read with.
+#[derive(Drop)]
+pub struct Services {
+    connect_ms: u32,
+    urls: Vec<ServiceUrl>,
+    timeouts: Vec<u32>,
+    page: Option<Page>,
+}
+
+impl Model for Services {
+    ghost use Rattle.std.specs.Prelude.{◌≤◌};
+    ghost use Rattle.service_settings.specs.Services as meant;
+
+    ghost Value = { meant.Services };
+
+    ghost use Rattle.service_settings.specs.Kept.{services_view};
+
+    ghost view = { services_view };
+
+    ghost invariant = { λ s. (1 ≤ s.connect_ms) × (s.connect_ms ≤ 60000) };
+}
+
+/// The services of a tree, less the machines that have no URL.
+pub fn services_of(alloc: Global, settings: &Settings, tree: &Table) -> Result<Services, AllocError>
+    ensures { IfOk result (λ s. s ≡ spec.services_of settings.now (table_view tree.now)) }
+{
+    let urls = urls_of(alloc, settings, tree)?;
+    let timeouts = timeouts_of(alloc, settings, tree)?;
+    let page = Page::read(alloc, tree)?;
+    Ok(Services {
+        connect_ms: connect_in(tree).unwrap_or(1_000),
+        urls,
+        timeouts,
+        page,
+    })
+}
+
+impl Services {
+    /// Reads a services file beside the settings: TOML, with the keys of this table and no others.
+    ///
+    /// | key | place | value | default |
+    /// |---|---|---|---|
+    /// | `version` | top | 1 | required |
+    /// | `url` | top | a URL: for each machine that has none of its own | none |
+    /// | `connect_ms` | top | 1 to 60,000 milliseconds: how long opening a connection may take | 1,000 |
+    /// | `machines` | top | a table of one table for some machines of the settings | empty |
+    /// | `url` | a machine | a URL | that of the top |
+    /// | `functions` | top | a table of one table for some functions of the settings | empty |
+    /// | `timeout_ms` | a function | 1 to 4,294,967,295 milliseconds: how long a job may take | `job_timeout_ms` of the settings |
+    /// | `page` | top | a table | no page |
+    /// | `listen` | the page | an IPv4 address or an IPv6 address in brackets, a colon and a port | required |
+    /// | `hosts` | the page | a list of names or addresses, as in a URL: under these too the page is asked for | none |
+    ///
+    /// A URL is `http://HOST[:PORT][/PATH]`. HOST is a name of letters, digits, `-` and `.`, an IPv4 address or an IPv6 address in
+    /// brackets. PORT is 1 to 65,535 without zeros before it, and 80 if it is left out. PATH has visible characters of ASCII, but no `?`
+    /// and no `#`; a slash at its end is dropped.
+    ///
+    /// Each machine of the settings has to have a URL. A job takes `job_timeout_ms` of the settings at most, whatever `timeout_ms` is. The
+    /// file is checked in the order of `ServicesError`, each check over the whole file before the next, and the first that fails is
+    /// answered; `ServicesError` says what each is. What should be a table and is not has no keys and lacks none: it is `BadValue`.
+    /// `Memory` comes only if a growth was refused, and may come in the place of a later refusal; a file with nothing but white space and
+    /// comments is `Version`, whatever memory there is.
+    pub fn read(alloc: Global, text: &[u8], settings: &Settings) -> Result<Services, ServicesError>
+        ensures ok { IfOk result (λ services. spec.reading settings.now text.now ≡ Ok services) }
+        ensures refused { IfErr result (λ f. f ≢ ServicesError.Memory → spec.reading settings.now text.now ≡ Err f) }
+        ensures memory { IfErr result (λ f. f ≡ ServicesError.Memory → ¬ IsBlank text.now) }
+        ensures machines { IfOk result (λ services. length services.urls ≡ length settings.now.machines) }
+        ensures functions { IfOk result (λ services. length services.timeouts ≡ length settings.now.functions) }
+    {
+        let file = match ServicesFile::read(alloc, text) {
+            Ok(file) => file,
+            Err(fault) => return Err(fault.error()),
+        };
+        match file.services(alloc, settings) {
+            Ok(services) => Ok(services),
+            Err(fault) => Err(fault.error()),
+        }
+    }
+
+    /// How long opening a connection may take, in milliseconds: from 1 to 60,000.
+    pub fn connect_ms(&self) -> u32
+        ensures all { result ≡ self.now.connect_ms }
+        ensures some { 1 ≤ result }
+        ensures few { result ≤ 60000 }
+    {
+        self.connect_ms
+    }
+
+    /// Where the jobs of a machine go.
+    pub fn url(&self, machine: MachineId) -> &ServiceUrl
+        requires { machine < length self.now.urls }
+        ensures { slice_get self.now.urls machine ≡ Some result.now }
+    {
+        &self.urls[machine.number() as usize]
+    }
+
+    /// How long a job of a function may take, in milliseconds: the least of what the file and the settings say.
+    pub fn timeout_ms(&self, function: FuncId) -> u32
+        requires { function < length self.now.timeouts }
+        ensures { result ≡ slice_index self.now.timeouts function }
+    {
+        self.timeouts[function.number() as usize]
+    }
+
+    /// The page, if the file has one.
+    pub fn page(&self) -> Option<&Page>
+        ensures { option_copied result ≡ self.now.page }
+    {
+        self.page.as_ref()
+    }
+}
