@@ -1,10 +1,12 @@
 -- The text of a request.
 use Rattle.std.proofs.Common.{◌≡◌, ℕ, min, Bool, true, false, not, cond, ltb, eqb, ◌&&◌, ◌||◌, List, [], ◌∷◌, ◌++◌, length, codes, Option, Some, None, Result, Ok, Err, sym, refl, ap, ◌∙◌, subst, subst₂, append_assoc, count_by, string_bytes}
+use Rattle.std.specs.Prelude.{IsOk, MatchOption}
+use Rattle.http1.specs.declared.encode.Frame.{Frame}
 use Rattle.std.specs.List.{AllByRecursion, list_any}
 use Rattle.std.proofs.lemmas.List.{append-nil}
 use Rattle.std.proofs.lemmas.List.Folds.{list_any-append}
 use Rattle.http1.specs.declared.framing.FramingError.TheVariants.{InvalidTransferEncoding}
-use Rattle.http1.specs.Encoder.{encoder_for, piece_text, end_text, after_piece as encoder_after}
+use Rattle.http1.specs.Encoder.{encoder_for, end_text, after_piece as encoder_after}
 use Rattle.http1.specs.declared.framing.Framing.{Framing}
 use Rattle.http1.specs.declared.framing.Framing.TheVariants as Framed
 use Rattle.http1.specs.declared.framing.FramingError.{FramingError}
@@ -23,7 +25,7 @@ use Rattle.http1.specs.Fields.{Header, is_named, is_framing_field, elements_name
 use Rattle.http1.specs.Framing.{method_kind, request_framing, by_fields}
 use Rattle.http1.specs.Head.{request_text}
 use Rattle.http1.specs.Output.{GivesOrRefuses}
-use Rattle.http1.specs.Conn.{Plan, plan_refusal, planned_headers, length_header, states_framing, fits, is_plain, awaits_head, data_text, finish_text, after_data}
+use Rattle.http1.specs.Conn.{Plan, plan_refusal, planned_headers, length_header, states_framing, fits, is_plain, awaits_head, finish_text, after_data}
 use Rattle.http1.specs.Client.{request_plan, request_refusal, planned_request, plan_fields, plan_framed, framing_headers, requesting, after_request, after_end, with_writing, writing}
 use Rattle.http1.proofs.MessageRoundTrip.{request_plan_framed}
 use Rattle.http_jobs.specs.declared.service.Service.{Service}
@@ -175,18 +177,24 @@ pub not_refused : (o : Option WriteError) (spare len : ℕ) (u : Unit {0}) → G
 not_refused None spare len u h = refl
 not_refused (Some e) spare len u h = cc
 
+-- what is not refused succeeds
+pub never_refused : (o : Option WriteError) (e : WriteError) (r : Result Frame WriteError) → MatchOption o (IsOk r) (λ x. r ≡ Err x) → r ≡ Err e → o ≡ None → ⊥
+never_refused None e (Ok f) h is none = cc
+never_refused None e (Err x) h is none = cc
+never_refused (Some x) e r h is none = cc
+
 pub only_memory : (o : Option WriteError) (spare len : ℕ) (e : WriteError) → GivesOrRefuses {T = Unit {0}} o spare len (Err e) → o ≡ None → e ≡ Refusal.OutOfMemory
 only_memory None spare len e h none = h.0
 only_memory (Some x) spare len e h none = cc
 
 -- ---- the text
 
-unchunked_text : (f : Framing) (payload : List ℕ) → is_unchunked f ≡ true → piece_text (encoder_for f) payload ++ end_text (encoder_after (encoder_for f) (length payload)) [] ≡ payload
+unchunked_end : (f : Framing) (n : ℕ) → is_unchunked f ≡ true → end_text (encoder_after (encoder_for f) n) [] ≡ []
 unfolding is_unchunked
-unchunked_text Framed.NoBody payload e = append-nil (payload ++ []) ∙ append-nil payload
-unchunked_text (Framed.Length n) payload e = append-nil (payload ++ []) ∙ append-nil payload
-unchunked_text Framed.Chunked payload e = cc
-unchunked_text Framed.UntilClose payload e = append-nil (payload ++ []) ∙ append-nil payload
+unchunked_end Framed.NoBody n e = refl
+unchunked_end (Framed.Length m) n e = refl
+unchunked_end Framed.Chunked n e = cc
+unchunked_end Framed.UntilClose n e = refl
 
 post : method_kind (codes "POST") ≡ Method.Other
 post = refl
@@ -194,7 +202,7 @@ post = refl
 abbrev pub POST : List ℕ
 POST = codes "POST"
 
-module _ (c : Client) (target payload : List ℕ) (n : ℕ) (hs : List Header) (o : AreOrdinary hs) (len : length payload ≡ n) (accepted : request_refusal c POST target (Known n) hs ≡ None) where
+module _ (c : Client) (target : List ℕ) (n : ℕ) (hs : List Header) (o : AreOrdinary hs) (accepted : request_refusal c POST target (Known n) hs ≡ None) where
   plan : (p : Plan) × (request_plan c POST (Known n) hs ≡ Ok p)
   plan = is_planned (request_plan c POST (Known n) hs) _ hs accepted
 
@@ -216,16 +224,15 @@ module _ (c : Client) (target payload : List ℕ) (n : ℕ) (hs : List Header) (
   text_at r =
       let a = requesting c POST hs r in
       let b = with_writing a (after_data (writing a) n) in
-      (request_text POST target 1 (planned_headers r hs) ++ data_text (writing a) payload) ++ finish_text (writing b) []
+      request_text POST target 1 (planned_headers r hs) ++ finish_text (writing b) []
 
-  pub says_request : (planned_request c POST target (Known n) hs ++ data_text (writing asking) payload) ++ finish_text (writing sending) [] ≡ request_text POST target 1 (hs ++ length_header n ∷ []) ++ payload
-  says_request =
+  -- the head, and nothing behind it
+  pub says_head : planned_request c POST target (Known n) hs ++ finish_text (writing sending) [] ≡ request_text POST target 1 (hs ++ length_header n ∷ [])
+  says_head =
       let p = plan.0 in
-      let e = encoder_for p.framing in
       let front = request_text POST target 1 (hs ++ p.extra) in
-      ap text_at plan.1 ∙ append_assoc front (piece_text e payload) (end_text (encoder_after e n) [])
-      ∙ ap (λ x. front ++ x) (subst (λ m. piece_text e payload ++ end_text (encoder_after e m) [] ≡ payload) len (unchunked_text p.framing payload unchunked))
-      ∙ ap (λ x. request_text POST target 1 (hs ++ x) ++ payload) extra
+      ap text_at plan.1 ∙ ap (λ x. front ++ x) (unchunked_end p.framing n unchunked) ∙ append-nil front
+      ∙ ap (λ x. request_text POST target 1 (hs ++ x)) extra
 
   no_upgrades : (known_fields (hs ++ plan.0.extra)).upgrade ≡ false
   unfolding known_fields

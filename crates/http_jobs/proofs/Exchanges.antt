@@ -2,7 +2,8 @@
 use Rattle.std.proofs.Common.{◌≡◌, ℕ, ◌+◌, List, [], ◌∷◌, ◌++◌, Option, Some, None, Result, Ok, Err, sym, refl, ap, ◌∙◌, subst, append_assoc, IsSome, MatchResult, OnOk, false}
 use Rattle.std.proofs.lemmas.List.{append-nil}
 use Rattle.http1.specs.declared.conn.Limits.{Limits}
-use Rattle.byte_io.specs.Sides.{Input, and_then, counted}
+use Rattle.std.specs.Prelude.{IfErr}
+use Rattle.byte_io.specs.Sides.{Input, Output, and_then, counted}
 use Rattle.byte_io.proofs.Devices.{told_twice, counted_twice, counted_nothing, told_nothing}
 use Rattle.job_runner.specs.Run.{Link}
 use Rattle.http_jobs.specs.declared.exchanging.Done.{Done}
@@ -116,6 +117,19 @@ fill_fails limits deadline seen first old new Memory same h = tt
 
 late_after : (deadline : Option ℕ) (times more : List (Option ℕ)) → InTime deadline times → IsLate deadline more → IsLate deadline (times ++ more)
 late_after deadline times more before h = (times ++ h.0, h.1, ap (λ x. times ++ x) h.2 ∙ sym (append_assoc times h.0 (h.1 ∷ [])), in_time_both deadline times h.0 before h.3, h.4)
+
+-- times that were shown before the write that was not made
+pub not_sent_behind : (deadline : Option ℕ) (times more : List (Option ℕ)) (old mid new : Output) (r : Result (Unit {0}) NotDone) → InTime deadline times → mid.failures ≡ old.failures → IfErr r (NotSent deadline more mid new) → IfErr r (NotSent deadline (times ++ more) old new)
+not_sent_behind deadline times more old mid new (Ok x) before same h = tt
+not_sent_behind deadline times more old mid new (Err (Not why.Unreachable)) before same h = absurd h
+not_sent_behind deadline times more old mid new (Err (Not why.Write)) before same h = h ∙ ap (λ (n : ℕ). n + 1) same
+not_sent_behind deadline times more old mid new (Err (Not why.Read)) before same h = absurd h
+not_sent_behind deadline times more old mid new (Err (Not why.Ended)) before same h = absurd h
+not_sent_behind deadline times more old mid new (Err (Not why.Late)) before same h = late_after deadline times more before h
+not_sent_behind deadline times more old mid new (Err (Not (why.NoResponse e))) before same h = absurd h
+not_sent_behind deadline times more old mid new (Err (Not (why.Status status))) before same h = absurd h
+not_sent_behind deadline times more old mid new (Err (Not why.Endless)) before same h = absurd h
+not_sent_behind deadline times more old mid new (Err Memory) before same h = absurd h
 
 pub not_received : (deadline : Option ℕ) (times : List (Option ℕ)) (seen : Seen) (old mid new : Link) (e : NotDone) → InTime deadline times → mid.input ≡ old.input → NotReceived head_limits deadline seen mid.input new.input e → Explains deadline (before_it times seen) old new e
 not_received deadline times seen old mid new (Not why.Unreachable) before same h = absurd h

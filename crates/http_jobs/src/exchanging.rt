@@ -20,7 +20,7 @@ use crate::fault::{NotDone, Unserved};
 use crate::outcome::{failure, outcome_of};
 use crate::reader::{Fill, ResponseReader, Stage};
 use crate::request::{encode_request, most_body};
-use crate::sending::send;
+use crate::sending::send_request;
 use crate::service::Service;
 use byte_io::{Sink, Source};
 use gear_packets::Assignment;
@@ -140,8 +140,8 @@ pub fn exchange<L: Source + Sink, C: Clock>(
         × ((L.output link.new).failures ≡ (L.output link.old).failures)) }
 {
     let mut client = Client::new(HEAD_LIMITS);
-    let text = encode_request(alloc, &mut client, service, job)?;
-    send(link, clock, deadline, text.as_slice())?;
+    let request = encode_request(alloc, &mut client, service, job)?;
+    send_request(link, clock, deadline, &request)?;
     let bounds = Bounds {
         max_body: most_body(job),
         deadline,

@@ -90,15 +90,38 @@ fn headers<'h>(
 /// Room for the head of a request, which is seldom longer.
 const HEAD_ROOM: usize = 1024;
 
+/// The longest data that is sent in one write with the head of its request.
+const MOST_COPIED: usize = 16384;
+
+/// A request, as it is sent.
+#[derive(Drop)]
+pub struct EncodedRequest<'j> {
+    /// Its head, and the job's data if that is short.
+    pub text: Vec<u8>,
+    /// What comes after: longer data, as it lies with its job.
+    pub rest: &'j [u8],
+}
+
+/// What is copied of a job's data, and what is sent from where it lies.
+fn split_data(data: &[u8]) -> (&[u8], &[u8])
+    ensures { result.0.now ++ result.1.now ≡ data.now }
+{
+    if data.len() <= MOST_COPIED {
+        data.split_at(data.len())
+    } else {
+        data.split_at(0)
+    }
+}
+
 /// Writes the request of a job into memory.
-fn write_request(
+fn write_request<'j>(
     alloc: Global,
     client: &mut Client,
     service: &Service,
-    job: &Assignment,
-) -> Result<Vec<u8>, WriteError>
+    job: &'j Assignment,
+) -> Result<EncodedRequest<'j>, WriteError>
     requires fresh { client.old ≡ new_client client.old.limits }
-    ensures text { IfOk result (λ text. text.items ≡ request_of service.now (job_of job.now)) }
+    ensures text { IfOk result (λ r. r.text.items ++ r.rest.now ≡ request_of service.now (job_of job.now)) }
     ensures asked { OnOk result (HasAsked client.old.limits client.new) }
     ensures reads { OnOk result (client.new.reading ≡ client.old.reading) }
     ensures memory { IfErr result (λ e. e ≡ WriteError.OutOfMemory) }
@@ -107,7 +130,8 @@ fn write_request(
     let headers = headers(alloc, service, job)?;
     let payload = job.payload.as_slice();
     let size = BodySize::Known(payload.len() as u64);
-    let mut text = Vec::with_capacity(alloc, payload.len().saturating_add(HEAD_ROOM))?;
+    let (near, rest) = split_data(payload);
+    let mut text = Vec::with_capacity(alloc, near.len().saturating_add(HEAD_ROOM))?;
     client.write_request(
         &mut text,
         b"POST",
@@ -115,25 +139,27 @@ fn write_request(
         headers.as_slice(),
         size,
     )?;
-    client.write_data(&mut text, payload)?;
+    // Nothing stands around data of a known length, so it is counted here and sent as it is.
+    client.frame_data(payload.len())?;
     client.write_end(&mut text, &[])?;
-    Ok(text)
+    text.extend_from_slice(near)?;
+    Ok(EncodedRequest { text, rest })
 }
 
 /// Encodes the request of a job, for a client that has asked nothing yet. The only error is out of memory.
-pub fn encode_request(
+pub fn encode_request<'j>(
     alloc: Global,
     client: &mut Client,
     service: &Service,
-    job: &Assignment,
-) -> Result<Vec<u8>, AllocError>
+    job: &'j Assignment,
+) -> Result<EncodedRequest<'j>, AllocError>
     requires fresh { client.old ≡ new_client client.old.limits }
-    ensures text { IfOk result (λ text. text.items ≡ request_of service.now (job_of job.now)) }
+    ensures text { IfOk result (λ r. r.text.items ++ r.rest.now ≡ request_of service.now (job_of job.now)) }
     ensures asked { OnOk result (HasAsked client.old.limits client.new) }
     ensures reads { OnOk result (client.new.reading ≡ client.old.reading) }
 {
     match write_request(alloc, client, service, job) {
-        Ok(text) => Ok(text),
+        Ok(request) => Ok(request),
         Err(_) => Err(AllocError),
     }
 }

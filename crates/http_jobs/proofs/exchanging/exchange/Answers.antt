@@ -8,25 +8,25 @@ use Rattle.http_jobs.specs.Response.{head_limits}
 use Rattle.http_jobs.proofs.Exchanges.{in_time_behind, sees_nothing, sees_times, sees_before, nothing, only_times, before_it, not_sent, received, received_at}
 use Rattle.http_jobs.proofs.exchanging.exchange.Goals as goal
 
-pub returns-in_err-text-clause-exchanged : goal.returns-in_err-text-clause-exchanged
-returns-in_err-text-clause-exchanged g c =
+pub returns-in_err-request-clause-exchanged : goal.returns-in_err-request-clause-exchanged
+returns-in_err-request-clause-exchanged g c =
     let p = err_from_is_err_and c.from_residual.result c.from_residual.ensures.1 in
     (nothing, sees_nothing (g.L.Device.input c.args.link.now) (g.C.Clock.shown c.args.clock.now), rw p.1 tt, rw (p.1, p.2) tt)
 
-pub returns-in_err-send-clause-exchanged : goal.returns-in_err-send-clause-exchanged
-returns-in_err-send-clause-exchanged g c =
+pub returns-in_err-send_request-clause-exchanged : goal.returns-in_err-send_request-clause-exchanged
+returns-in_err-send_request-clause-exchanged g c =
     let seen = seen_link g.L.Device.input g.L.Device.output in
-    let why = c.in_err-send.ensures.why in
-    let p = err_from_is_err_and c.from_residual-in_err-send.result c.from_residual-in_err-send.ensures.1 in
-    (only_times why.0, sees_times (g.L.Device.input c.args.link.now) (g.L.Device.input c.send.new.link) (g.C.Clock.shown c.args.clock.now) (g.C.Clock.shown c.send.new.clock) why.0 c.send.ensures.input why.1, rw p.1 tt, rw (p.1, p.2) (not_sent c.args.deadline why.0 (seen c.args.link.now) (seen c.send.new.link) c.in_err-send.field-0.0 why.3))
+    let why = c.in_err-send_request.ensures.why in
+    let p = err_from_is_err_and c.from_residual-in_err-send_request.result c.from_residual-in_err-send_request.ensures.1 in
+    (only_times why.0, sees_times (g.L.Device.input c.args.link.now) (g.L.Device.input c.send_request.new.link) (g.C.Clock.shown c.args.clock.now) (g.C.Clock.shown c.send_request.new.clock) why.0 c.send_request.ensures.input why.1, rw p.1 tt, rw (p.1, p.2) (not_sent c.args.deadline why.0 (seen c.args.link.now) (seen c.send_request.new.link) c.in_err-send_request.field-0.0 why.3))
 
 pub returns-clause-exchanged : goal.returns-clause-exchanged
 returns-clause-exchanged g c =
     let seen = seen_link g.L.Device.input g.L.Device.output in
     let job = job_of c.args.job.now in
-    let why = c.in_ok-send.ensures.why in
+    let why = c.in_ok-send_request.ensures.why in
     let got = c.receive.ensures.received in
-    let fresh : c.encode_request.new.client.limits ≡ head_limits = c.in_ok-text.ensures.asked.limited ∙ ap (λ (x : Client). x.limits) c.new-client.ensures in
-    let result = received c.args.deadline why.0 (most_body job) got.0 (seen c.args.link.now) (seen c.send.new.link) (seen c.receive.new.link) c.receive.result why.2 c.send.ensures.input
-    (received_at c.encode_request.new.client.limits head_limits _ (most_body job) c.args.deadline got.0 (g.L.Device.input c.send.new.link) (g.L.Device.input c.receive.new.link) c.receive.result fresh c.most_body.ensures got.3) in
-    (before_it why.0 got.0, sees_before (g.L.Device.input c.args.link.now) (g.L.Device.input c.send.new.link) (g.L.Device.input c.receive.new.link) (g.C.Clock.shown c.args.clock.now) (g.C.Clock.shown c.send.new.clock) (g.C.Clock.shown c.receive.new.clock) why.0 got.0 c.send.ensures.input why.1 got.1, in_time_behind c.args.deadline why.0 got.0.times c.receive.result why.2 got.2, result)
+    let fresh : c.encode_request.new.client.limits ≡ head_limits = c.in_ok-request.ensures.asked.limited ∙ ap (λ (x : Client). x.limits) c.new-client.ensures in
+    let result = received c.args.deadline why.0 (most_body job) got.0 (seen c.args.link.now) (seen c.send_request.new.link) (seen c.receive.new.link) c.receive.result why.2 c.send_request.ensures.input
+    (received_at c.encode_request.new.client.limits head_limits _ (most_body job) c.args.deadline got.0 (g.L.Device.input c.send_request.new.link) (g.L.Device.input c.receive.new.link) c.receive.result fresh c.most_body.ensures got.3) in
+    (before_it why.0 got.0, sees_before (g.L.Device.input c.args.link.now) (g.L.Device.input c.send_request.new.link) (g.L.Device.input c.receive.new.link) (g.C.Clock.shown c.args.clock.now) (g.C.Clock.shown c.send_request.new.clock) (g.C.Clock.shown c.receive.new.clock) why.0 got.0 c.send_request.ensures.input why.1 got.1, in_time_behind c.args.deadline why.0 got.0.times c.receive.result why.2 got.2, result)
