@@ -6,7 +6,7 @@ set -eu
 cd "$(dirname "$0")/.."
 jobs=${1:-200000}
 source bench/scratch.sh
-begin sessions 'job_runner pool_core pool_settings worker_state gear_status byte_io devices gear_packets plan_model'
+begin sessions 'tests_job_runner job_runner pool_core pool_settings worker_state gear_status byte_io devices gear_packets plan_model'
 build memory 1 1
 gcc -O2 -o "$scratch/server" bench/sessions/server.c
 # Over memory: jobs and bytes of a body.
