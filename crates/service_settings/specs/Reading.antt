@@ -64,6 +64,10 @@ text_at key table = option_and_then as_str (get_member key table)
 abbrev pub entry_table : Section → Members → List ℕ → Option Members
 entry_table section tree name = option_and_then (table_at name) (table_at (section_key section) tree)
 
+-- the table of a function has the key; a function that is not there has none
+abbrev pub function_has_key : List ℕ → List ℕ → Members → Bool
+function_has_key name key tree = option_map_or (has_key key) (entry_table section.Functions tree name) false
+
 -- the address of a page, if it is one
 abbrev pub listen_in : Members → Option (List ℕ)
 listen_in page = option_and_then (λ text. if is_socket text then Some text else None) (text_at listen_key page)

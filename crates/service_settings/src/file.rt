@@ -2,7 +2,7 @@
 
 ghost use Rattle.std.specs.Prelude.{◌≡◌, IfErr, IfOk, Ok, Some, length};
 ghost use Rattle.toml.specs.View.{table_view};
-ghost use Rattle.pool_settings.specs.Reading.{tree_of};
+ghost use Rattle.pool_settings.specs.Reading.{has_key, tree_of};
 ghost use Rattle.service_settings.specs.Fault.{RefusesText, RefusesTree};
 ghost use Rattle.service_settings.specs.Reading as spec;
 
@@ -11,7 +11,8 @@ use crate::checked::checked;
 use crate::fault::ServicesFault;
 use crate::place::ServicesPlace;
 use crate::services::{Services, services_of};
-use pool_settings::{Settings, SettingsFault, SettingsFile};
+use crate::tree::{entry_table, value_at};
+use pool_settings::{Section, Settings, SettingsFault, SettingsFile};
 use std::alloc::Global;
 use toml::Table;
 
@@ -55,5 +56,22 @@ impl ServicesFile {
         checked(settings, &self.tree)?;
         let services = services_of(alloc, settings, &self.tree)?;
         Ok(services)
+    }
+
+    /// Whether the top table has a key.
+    pub fn has_key(&self, key: &str) -> bool
+        ensures { result ≡ has_key key.now (table_view self.now.tree) }
+    {
+        value_at(&self.tree, key).is_some()
+    }
+
+    /// Whether the table of a function has a key. A function that is not there has none.
+    pub fn function_has_key(&self, function: &str, key: &str) -> bool
+        ensures { result ≡ spec.function_has_key function.now key.now (table_view self.now.tree) }
+    {
+        match entry_table(Section::Functions, &self.tree, function) {
+            Some(table) => value_at(table, key).is_some(),
+            None => false,
+        }
     }
 }
