@@ -52,6 +52,7 @@ judged_at p met whole (Err fault.Memory) judges = whole.2
 judged_at p met whole (Err (fault.BadCommand n)) judges = absurd judges
 judged_at p met whole (Err (fault.UnknownWorker place)) judges = absurd judges
 judged_at p met whole (Err (fault.Settings e)) judges = absurd judges
+judged_at p met whole (Err (fault.Services e)) judges = absurd judges
 judged_at p met whole (Err (fault.Status e)) judges = absurd judges
 judged_at p met whole (Err fault.TooLong) judges = absurd judges
 judged_at p met whole (Err fault.ReadFault) judges = absurd judges

@@ -27,6 +27,7 @@ pub settings_refused : (text : List ℕ) (lost : List (List ℕ)) (side : Input)
     → Poses text lost (nothing_from side) (Err f)
 settings_refused text lost side fault.Memory reads = (Err fault.Memory, reads, inl (refl, refl, refl))
 settings_refused text lost side (fault.Settings mistake) reads = (Err (fault.Settings mistake), reads, (refl, (refl, refl, refl)))
+settings_refused text lost side (fault.Services mistake) reads = absurd reads
 settings_refused text lost side fault.ReadFault reads = absurd reads
 settings_refused text lost side (fault.BadCommand n) reads = absurd reads
 settings_refused text lost side (fault.UnknownWorker place) reads = absurd reads
@@ -48,6 +49,7 @@ lost_refused text lost side p (fault.BadCommand n) good due = (let other = (due 
 lost_refused text lost side p fault.TooLong good due = (let other = (due (λ q. cc)).0 in cc)
 lost_refused text lost side p fault.WriteFault good due = (let other = (due (λ q. cc)).0 in cc)
 lost_refused text lost side p (fault.File file e) good due = (let other = (due (λ q. cc)).0 in cc)
+lost_refused text lost side p (fault.Services e) good due = (let other = (due (λ q. cc)).0 in cc)
 lost_refused text lost side p (fault.Settings e) good due = (let other = (due (λ q. cc)).0 in cc)
 lost_refused text lost side p (fault.Status e) good due = (let other = (due (λ q. cc)).0 in cc)
 lost_refused text lost side p (fault.Report e) good due = (let other = (due (λ q. cc)).0 in cc)
@@ -62,6 +64,7 @@ load_refused text lost met p (fault.UnknownWorker place) good workers told = (Ok
 load_refused text lost met p (fault.BadCommand n) good workers told = (Ok p, good, (rw (workers, told.0) refl, told.1))
 load_refused text lost met p fault.TooLong good workers told = (Ok p, good, (rw (workers, told.0) refl, told.1))
 load_refused text lost met p (fault.File file e) good workers told = (Ok p, good, (rw (workers, told.0) refl, told.1))
+load_refused text lost met p (fault.Services e) good workers told = (Ok p, good, (rw (workers, told.0) refl, told.1))
 load_refused text lost met p (fault.Settings e) good workers told = (Ok p, good, (rw (workers, told.0) refl, told.1))
 load_refused text lost met p (fault.Status e) good workers told = (Ok p, good, (rw (workers, told.0) refl, told.1))
 load_refused text lost met p (fault.Report e) good workers told = (Ok p, good, (rw (workers, told.0) refl, told.1))

@@ -13,6 +13,7 @@ use Rattle.pool_report.specs.declared.error.ReadError.{ReadError}
 use Rattle.pool_report.specs.declared.error.ReadError.TheVariants as read
 use Rattle.pool_settings.specs.SettingsRefusals.{settings_label}
 use Rattle.refusal.specs.Label.{label_words}
+use Rattle.service_settings.specs.Refusals.{services_label}
 use Rattle.plan_commands.specs.declared.ending.Exit.{Exit}
 use Rattle.plan_commands.specs.declared.fault.Fault.{Fault}
 use Rattle.plan_commands.specs.declared.fault.NamedFile.{NamedFile}
@@ -46,6 +47,7 @@ input_words input.Memory = codes "memory"
 -- The fault as one line for a person and a script: a word for what is at fault, a number, a name, and the line.
 abbrev pub fault_line : Fault → List ℕ
 fault_line (fault.Settings mistake) = codes "settings " ++ label_words (settings_label mistake.error)
+fault_line (fault.Services mistake) = codes "services " ++ label_words (services_label mistake.error)
 fault_line (fault.UnknownWorker place) = codes "lost 1 UnknownWorker"
 fault_line (fault.Status e) = codes "status " ++ label_words (status_label e) ++ on_line (status_line e)
 fault_line (fault.Report e) = codes "report " ++ label_words (read_label e) ++ on_line (report_line e)

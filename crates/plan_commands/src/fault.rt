@@ -5,6 +5,7 @@ ghost use Rattle.std.specs.Fmt.{WritesOnOk};
 ghost use Rattle.plan_commands.specs.Fault as spec;
 
 use crate::mistake::Mistake;
+use crate::services_mistake::ServicesMistake;
 use devices::InputError;
 use gear_status::StatusError;
 use pool_report::{ReadError, WriteError};
@@ -17,18 +18,22 @@ use std::fmt;
 pub enum NamedFile {
     /// The settings.
     Settings,
+    /// The services.
+    Services,
     /// A status text.
     Status,
 }
 
 /// Why a command ends without an answer. Each is displayed as its fault line, which is meant for a
 /// person and for a script alike: a word for what is at fault, a number, a name, and the line, if
-/// there is one. Which file or which lost worker it is about, and where in the settings it is, is in the
-/// fault and not in its line.
+/// there is one. Which file or which lost worker it is about, and where in the settings or the services
+/// it is, is in the fault and not in its line.
 #[derive(Debug, PartialEq, Eq, Drop)]
 pub enum Fault {
     /// The settings file breaks a rule: which one, and where.
     Settings(Mistake),
+    /// The services file breaks a rule, by itself or beside the settings: which one, and where.
+    Services(ServicesMistake),
     /// A lost worker is none of the settings: the one at this place, from 0, of those that were named.
     UnknownWorker(usize),
     /// The status text breaks a rule.
@@ -67,6 +72,7 @@ impl Fault {
     {
         match self {
             Fault::Settings(_)
+            | Fault::Services(_)
             | Fault::UnknownWorker(_)
             | Fault::Status(_)
             | Fault::Report(_)
@@ -86,6 +92,10 @@ impl fmt::Display for Fault {
             Fault::Settings(mistake) => {
                 let label = mistake.error.label();
                 write!(f, "settings {} {}", label.number(), label.name())
+            }
+            Fault::Services(mistake) => {
+                let label = mistake.error.label();
+                write!(f, "services {} {}", label.number(), label.name())
             }
             Fault::UnknownWorker(_) => f.write_str("lost 1 UnknownWorker"),
             Fault::Status(error) => {

@@ -7,9 +7,11 @@ mod ending;
 mod fault;
 mod found;
 mod mistake;
+mod place;
 mod plan;
 mod problem;
 mod reading;
+mod services_mistake;
 
 pub use check::{Verdict, check_text};
 pub use ending::{Exit, deliver};
@@ -17,4 +19,7 @@ pub use fault::{Fault, NamedFile};
 pub use mistake::Mistake;
 pub use plan::plan_text;
 pub use problem::{Problem, pose, pose_text};
-pub use reading::read_settings;
+pub use reading::{
+    read_services, read_services_file, read_settings, read_settings_file, services_in, settings_in,
+};
+pub use services_mistake::ServicesMistake;

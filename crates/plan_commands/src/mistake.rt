@@ -5,6 +5,7 @@ ghost use Rattle.pool_settings.specs.Place.{place_view};
 ghost use Rattle.plan_commands.specs.Mistake.{kept_view, mistake_view};
 
 use crate::found::found;
+use crate::place::{keep, lent};
 use pool_settings::{Place, SettingsError};
 use std::alloc::{AllocError, Global};
 
@@ -55,40 +56,6 @@ impl Mistake {
     pub fn lent_place(&self) -> Place<&str>
         ensures { place_view (λ t. t.now) result ≡ kept_view self.now.place }
     {
-        match &self.place {
-            Place::Text { line, column } => Place::Text {
-                line: *line,
-                column: *column,
-            },
-            Place::Key(key) => Place::Key(key.as_str()),
-            Place::Entry(section, name) => Place::Entry(*section, name.as_str()),
-            Place::EntryKey(section, name, key) => {
-                Place::EntryKey(*section, name.as_str(), key.as_str())
-            }
-            Place::Listed(machine, function) => Place::Listed(machine.as_str(), function.as_str()),
-            Place::Count(counted) => Place::Count(*counted),
-        }
+        lent(&self.place)
     }
-}
-
-/// The place with texts of its own.
-fn keep(alloc: Global, place: &Place<&str>) -> Result<Place<String>, AllocError>
-    ensures { IfOk result (λ kept. kept_view kept ≡ place_view (λ t. t.now) place.now) }
-{
-    let kept = match *place {
-        Place::Text { line, column } => Place::Text { line, column },
-        Place::Key(key) => Place::Key(String::from_str(alloc, key)?),
-        Place::Entry(section, name) => Place::Entry(section, String::from_str(alloc, name)?),
-        Place::EntryKey(section, name, key) => Place::EntryKey(
-            section,
-            String::from_str(alloc, name)?,
-            String::from_str(alloc, key)?,
-        ),
-        Place::Listed(machine, function) => Place::Listed(
-            String::from_str(alloc, machine)?,
-            String::from_str(alloc, function)?,
-        ),
-        Place::Count(counted) => Place::Count(counted),
-    };
-    Ok(kept)
 }

@@ -17,6 +17,7 @@ use Rattle.replay_command.specs.Replay.{GivesRun}
 pub refused_by : (text : List ℕ) (side : Input) (f : Fault) → Reads text (Err f) → GivesRun text (nothing_from side) (Err f)
 refused_by text side fault.Memory reads = (refl, omega arith)
 refused_by text side (fault.Settings mistake) reads = (reads, (refl, refl, refl))
+refused_by text side (fault.Services mistake) reads = absurd reads
 refused_by text side fault.ReadFault reads = absurd reads
 refused_by text side (fault.BadCommand n) reads = absurd reads
 refused_by text side (fault.UnknownWorker place) reads = absurd reads

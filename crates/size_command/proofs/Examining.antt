@@ -53,6 +53,7 @@ module _ (text : List ℕ) (level : Option ℕ) where
   judged_at p met whole (Err (fault.BadCommand n)) judges = absurd judges
   judged_at p met whole (Err (fault.UnknownWorker place)) judges = absurd judges
   judged_at p met whole (Err (fault.Settings e)) judges = absurd judges
+  judged_at p met whole (Err (fault.Services e)) judges = absurd judges
   judged_at p met whole (Err (fault.Status e)) judges = absurd judges
   judged_at p met whole (Err fault.TooLong) judges = absurd judges
   judged_at p met whole (Err fault.ReadFault) judges = absurd judges

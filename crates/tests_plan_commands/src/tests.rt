@@ -4,3 +4,4 @@ mod failing;
 mod lines;
 mod one_worker;
 mod planning;
+mod services;

@@ -2,9 +2,10 @@
 
 use devices::InputError;
 use gear_status::StatusError;
-use plan_commands::{Fault, Mistake, NamedFile};
+use plan_commands::{Fault, Mistake, NamedFile, ServicesMistake};
 use pool_report::ReadError;
-use pool_settings::{Counted, Place, SettingsError};
+use pool_settings::{Counted, Place, Section, SettingsError};
+use service_settings::{ServicesError, ServicesPlace};
 use std::alloc::{AllocError, Global};
 
 /// Whether the fault is displayed as this line and ends with this status.
@@ -26,6 +27,36 @@ fn lines_of_settings_and_workers(rt: HostRuntime) -> Result<(), AllocError> {
     assert!(rt; prints(alloc, workers, "settings 8 TooMany", 3));
     assert!(rt; prints(alloc, Fault::UnknownWorker(0), "lost 1 UnknownWorker", 3));
     assert!(rt; prints(alloc, Fault::TooLong, "input 1 TooLong", 3));
+    Ok(())
+}
+
+/// Whether a mistake in the services is displayed as this line, and lends the place that it was made with.
+fn prints_services(
+    alloc: Global,
+    error: ServicesError,
+    place: ServicesPlace<&str>,
+    line: &str,
+) -> Result<bool, AllocError> {
+    let mistake = ServicesMistake::new(alloc, error, &place)?;
+    let is_there = mistake.lent_place() == place;
+    Ok(is_there && prints(alloc, Fault::Services(mistake), line, 3))
+}
+
+#[test]
+fn lines_of_services(rt: HostRuntime) -> Result<(), AllocError> {
+    let text = ServicesPlace::At(Place::Text { line: 2, column: 1 });
+    let name = ServicesPlace::At(Place::Entry(Section::Machines, "a"));
+    let key = ServicesPlace::At(Place::EntryKey(Section::Machines, "a", "url"));
+    let page = ServicesPlace::PageKey("listen");
+    let rows = [
+        (ServicesError::Text, text, "services 1 Text"),
+        (ServicesError::MissingKey, page, "services 4 MissingKey"),
+        (ServicesError::BadUrl, key, "services 9 BadUrl"),
+        (ServicesError::NoUrl, name, "services 11 NoUrl"),
+    ];
+    for (error, place, line) in rows {
+        assert!(rt; prints_services(rt.alloc(), error, place, line)?);
+    }
     Ok(())
 }
 
@@ -84,7 +115,7 @@ fn lines_of_devices_and_memory(rt: HostRuntime) {
     let alloc = rt.alloc();
     assert!(rt; prints(alloc, Fault::ReadFault, "device 1 ReadFault", 4));
     assert!(rt; prints(alloc, Fault::WriteFault, "device 2 WriteFault", 4));
-    for file in [NamedFile::Settings, NamedFile::Status] {
+    for file in [NamedFile::Settings, NamedFile::Services, NamedFile::Status] {
         let missing = Fault::File(file, InputError::NoFile);
         assert!(rt; prints(alloc, missing, "device 3 NoFile", 4));
         let hidden = Fault::File(file, InputError::NoPermission);
