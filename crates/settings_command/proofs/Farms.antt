@@ -1,5 +1,5 @@
 -- The farm of settings is a planning problem, and what an answer for it says of least numbers.
-use Rattle.std.proofs.Common.{◌≡◌, ◌∙◌, ℕ, ◌<◌, ◌≤◌, List, Bool, true, false, cond, Option, Some, All, get_or, length, sum_by, replicate, ap, refl, subst, sym}
+use Rattle.std.proofs.Common.{◌≡◌, ◌∙◌, ℕ, ◌<◌, ◌≤◌, List, Bool, true, false, cond, Option, Some, All, get_or, length, replicate, ap, refl, subst, sym}
 use Rattle.std.proofs.Common.{arith, inl, inr, max, min}
 use Rattle.std.proofs.lemmas.Bool.{and_parts, cases_lt}
 use Rattle.std.proofs.lemmas.List.{get_or-replicate, get_or_past, length-replicate}

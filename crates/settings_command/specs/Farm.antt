@@ -1,5 +1,5 @@
 -- The farm of settings as a planning problem, and whether its least numbers can be met.
-use Rattle.std.specs.Prelude.{ℕ, List, Bool, true, Option, None, Some, length, replicate, slice_index}
+use Rattle.std.specs.Prelude.{ℕ, List, true, Option, None, Some, length, replicate, slice_index}
 use Rattle.plan_model.specs.Planning.{Assignment, Instance, IsSound, LacksWorkers, machines_of, neighbours}
 use Rattle.plan_model.specs.declared.answer.Answer.{Answer}
 use Rattle.plan_model.specs.declared.answer.Answer.TheVariants.{NoPlan, Planned}

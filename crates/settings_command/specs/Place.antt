@@ -1,4 +1,4 @@
--- Where a fault of a settings file is, as a line.
+-- Where a fault of a settings file or a services file is, as a line.
 use Rattle.std.specs.Prelude.{ℕ, List, [], ◌∷◌, ◌++◌, codes}
 use Rattle.std.specs.Fmt.{decimal}
 use Rattle.toml_writer.specs.Text.{key_text}
@@ -8,6 +8,8 @@ use Rattle.pool_settings.specs.declared.place.Place.{Place}
 use Rattle.pool_settings.specs.declared.place.Place.TheVariants as place
 use Rattle.pool_settings.specs.declared.place.Section.{Section}
 use Rattle.pool_settings.specs.declared.place.Section.TheVariants as section
+use Rattle.service_settings.specs.declared.place.ServicesPlace.{ServicesPlace}
+use Rattle.service_settings.specs.declared.place.ServicesPlace.TheVariants as services_place
 
 abbrev pub section_name : Section → List ℕ
 section_name section.Functions = codes "functions"
@@ -38,3 +40,11 @@ place_words (place.Count counted) = counted_name counted
 
 abbrev pub line_of_place : Place (List ℕ) → List ℕ
 line_of_place at = codes "at " ++ place_words at ++ 10 ∷ []
+
+-- a key of the page of a services file
+abbrev pub line_of_page_key : List ℕ → List ℕ
+line_of_page_key key = codes "at page." ++ key_text key ++ 10 ∷ []
+
+abbrev pub line_of_services_place : ServicesPlace (List ℕ) → List ℕ
+line_of_services_place (services_place.At at) = line_of_place at
+line_of_services_place (services_place.PageKey key) = line_of_page_key key

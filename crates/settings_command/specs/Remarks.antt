@@ -101,13 +101,19 @@ jobless_remark settings = if length (jobless_names settings) == 0 then [] else j
 
 -- ---- all of them
 
--- The remarks, by kind and then by name, where the set shows that no plan meets the least numbers, if one does.
-abbrev pub farm_remarks : Settings → Option (List ℕ) → List ℕ
-farm_remarks settings short =
+-- The remarks whatever the jobs are, by kind and then by name, where the set shows that no plan meets the least numbers, if one does.
+abbrev pub limit_remarks : Settings → Option (List ℕ) → List ℕ
+limit_remarks settings short =
     flat_map (workerless_remark settings) (machines settings) ++ flat_map (few_remark settings) (functions settings)
     ++ flat_map (crossed_remark settings) (functions settings) ++ short_remark settings short ++ history_remark settings
-    ++ jobless_remark settings
+
+-- with that on the jobs of `run`
+abbrev pub farm_remarks : Settings → Option (List ℕ) → List ℕ
+farm_remarks settings short = limit_remarks settings short ++ jobless_remark settings
 
 -- The text is these remarks, with no set or one of which that is shown.
+abbrev pub AreLimitRemarks : Settings → List ℕ → Type 0
+AreLimitRemarks settings text = (short : Option (List ℕ)) × IsShown settings short × (text ≡ limit_remarks settings short)
+
 abbrev pub AreFarmRemarks : Settings → List ℕ → Type 0
 AreFarmRemarks settings text = (short : Option (List ℕ)) × IsShown settings short × (text ≡ farm_remarks settings short)

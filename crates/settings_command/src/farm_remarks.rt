@@ -245,8 +245,8 @@ fn push_history(out: &mut String, settings: &Settings) -> Result<(), AllocError>
     }
 }
 
-/// All remarks, by kind.
-fn push_all(
+/// The remarks on the farm alone, by kind.
+fn push_limits(
     out: &mut String,
     settings: &Settings,
     workers: &Input,
@@ -254,26 +254,35 @@ fn push_all(
 ) -> Result<(), AllocError>
     requires workers { workers.now ≡ farm settings.now }
     requires shown { IsShown settings.now short.now }
-    ensures { OnOk result (string_bytes out.new ≡ string_bytes out.old ++ spec.farm_remarks settings.now short.now) }
+    ensures { OnOk result (string_bytes out.new ≡ string_bytes out.old ++ spec.limit_remarks settings.now short.now) }
 {
     push_workerless(out, settings)?;
     push_few(out, settings, workers)?;
     push_crossed(out, settings)?;
     push_if_short(out, settings, workers, short)?;
-    push_history(out, settings)?;
-    push_jobless(out, settings)
+    push_history(out, settings)
 }
 
-/// What a farm of these settings cannot do, a line each: the machines without workers, the functions that need more workers than may do
-/// them, those whose least number is above their greatest, the functions whose least numbers no plan meets together, a history that one
-/// job of each worker may fill between two attempts to plan, and the functions that `run` has no job for. The only error is out of memory.
-pub fn push_farm_remarks(out: &mut String, settings: &Settings) -> Result<(), AllocError>
-    ensures { OnOk result ((text : List ℕ) × spec.AreFarmRemarks settings.now text
+/// What a farm of these settings cannot do, whatever its jobs are, a line each: the machines without workers, the functions that need more
+/// workers than may do them, those whose least number is above their greatest, the functions whose least numbers no plan meets together,
+/// and a history that one job of each worker may fill between two attempts to plan. The only error is out of memory.
+pub fn push_limit_remarks(out: &mut String, settings: &Settings) -> Result<(), AllocError>
+    ensures { OnOk result ((text : List ℕ) × spec.AreLimitRemarks settings.now text
         × (string_bytes out.new ≡ string_bytes out.old ++ text)) }
 {
     let alloc = *out.allocator();
     let workers = farm_of(alloc, settings)?;
     let short = short_set(alloc, settings, &workers)?;
-    push_all(out, settings, &workers, &short)?;
+    push_limits(out, settings, &workers, &short)?;
+    Ok(())
+}
+
+/// What a farm of these settings cannot do: the same, and the functions that `run` has no job for. The only error is out of memory.
+pub fn push_farm_remarks(out: &mut String, settings: &Settings) -> Result<(), AllocError>
+    ensures { OnOk result ((text : List ℕ) × spec.AreFarmRemarks settings.now text
+        × (string_bytes out.new ≡ string_bytes out.old ++ text)) }
+{
+    push_limit_remarks(out, settings)?;
+    push_jobless(out, settings)?;
     Ok(())
 }

@@ -14,7 +14,7 @@ use std::alloc::{AllocError, Global};
 use std::fmt::Write;
 
 /// What marks a value that the file does not give.
-fn mark(is_given: bool) -> &'static str
+pub(crate) fn mark(is_given: bool) -> &'static str
     ensures { result.now ≡ spec.mark is_given }
 {
     if is_given { "" } else { " (default)" }

@@ -1,8 +1,15 @@
-use Rattle.std.proofs.Common.{refl}
-use Rattle.settings_command.specs.Remarks.{farm_remarks}
+use Rattle.std.proofs.Common.{◌∙◌, ◌++◌, ap, append_assoc, refl, string_bytes}
+use Rattle.settings_command.specs.Remarks.{farm_remarks, jobless_remark, limit_remarks}
 use Rattle.settings_command.proofs.farm_remarks.push_farm_remarks.Goals as goal
 
 pub returns : goal.returns
 returns c =
-    let short = c.in_ok-short.short in
-    (farm_remarks c.args.settings.now short, (short, c.in_ok-short.ensures, refl), c.in_ok-push_all.ensures)
+    let p = c.args.settings.now in
+    let told = c.in_ok-push_limit_remarks.ensures in
+    let short = told.1.0 in
+    let out = string_bytes c.args.out.now in
+    let jobless = jobless_remark p in (
+      farm_remarks p short,
+      (short, told.1.1, refl),
+      c.in_ok-push_jobless.ensures ∙ ap (λ t. t ++ jobless) (told.2 ∙ ap (λ t. out ++ t) told.1.2) ∙ append_assoc out (limit_remarks p short) jobless,
+    )

@@ -1,0 +1,56 @@
+-- What services mean, as lines of one fact each.
+use Rattle.std.specs.Prelude.{ℕ, List, [], ◌++◌, codes, slice_get, slice_index}
+use Rattle.std.specs.List.{flat_map}
+use Rattle.std.specs.Option.{option_map_or}
+use Rattle.std.specs.Fmt.{decimal}
+use Rattle.toml.specs.Data.{Members}
+use Rattle.pool_settings.specs.Names.{name_at}
+use Rattle.pool_settings.specs.Reading.{has_key}
+use Rattle.pool_settings.specs.Settings.{Settings}
+use Rattle.service_settings.specs.Reading.{connect_key, function_has_key, timeout_key}
+use Rattle.service_settings.specs.Services.{Page, Services}
+use Rattle.settings_command.specs.Meaning.{functions, machines, mark}
+use Rattle.text_pieces.specs.Lines.{ended}
+
+-- the only version that there is
+abbrev pub version_line : List ℕ
+version_line = ended (codes "services version 1")
+
+-- how long opening a connection may take, and what marks a default
+abbrev pub connect_line : ℕ → List ℕ → List ℕ
+connect_line connect_ms marked = ended (codes "services connect_ms " ++ decimal connect_ms ++ marked)
+
+-- where the jobs of a machine go: as in the file, with the port in any case, and without a slash at the end
+abbrev pub url_line : List ℕ → List ℕ → List ℕ → List ℕ
+url_line machine host path = ended (codes "machine " ++ machine ++ codes " url http://" ++ host ++ path)
+
+abbrev pub machine_line : Settings → Services → ℕ → List ℕ
+machine_line settings services machine =
+    option_map_or (λ url. url_line (name_at settings.machines machine) url.host url.path) (slice_get services.urls machine) []
+
+-- how long a job of a function may take, and what marks a default
+abbrev pub timeout_line : List ℕ → ℕ → List ℕ → List ℕ
+timeout_line function timeout marked = ended (codes "function " ++ function ++ codes " timeout_ms " ++ decimal timeout ++ marked)
+
+abbrev pub function_line : Members → Settings → Services → ℕ → List ℕ
+function_line tree settings services f =
+    timeout_line (name_at settings.functions f) (slice_index services.timeouts f)
+    (mark (function_has_key (name_at settings.functions f) timeout_key tree))
+
+abbrev pub listen_line : List ℕ → List ℕ
+listen_line address = ended (codes "page listen " ++ address)
+
+abbrev pub host_line : List ℕ → List ℕ
+host_line host = ended (codes "page host " ++ host)
+
+-- where the page is, and a line for each further name of it
+abbrev pub page_lines : Page → List ℕ
+page_lines page = listen_line page.listen ++ flat_map host_line page.hosts
+
+-- what services mean, of which the file gives the keys of this tree
+abbrev pub services_meaning : Members → Settings → Services → List ℕ
+services_meaning tree settings services =
+    version_line ++ connect_line services.connect_ms (mark (has_key connect_key tree))
+    ++ flat_map (machine_line settings services) (machines settings)
+    ++ flat_map (function_line tree settings services) (functions settings)
+    ++ option_map_or page_lines services.page []

@@ -1,0 +1,174 @@
+//! What services mean, as lines of one fact each.
+
+ghost use Rattle.std.specs.Prelude.{◌≡◌, ◌++◌, ◌<◌, [], OnOk, length, map, string_bytes};
+ghost use Rattle.std.specs.List.{flat_map};
+ghost use Rattle.std.specs.Option.{option_map_or};
+ghost use Rattle.toml.specs.View.{table_view};
+ghost use Rattle.pool_settings.specs.Reading.{has_key};
+ghost use Rattle.service_settings.specs.Reading.{connect_key};
+ghost use Rattle.settings_command.specs.Meaning.{functions, machines};
+ghost use Rattle.settings_command.specs.Meaning as meaning;
+ghost use Rattle.settings_command.specs.ServicesMeaning as spec;
+
+use crate::meaning::mark;
+use plan_model::{FuncId, MachineId};
+use pool_settings::Settings;
+use service_settings::{Page, Services, ServicesFile};
+use std::alloc::AllocError;
+use std::fmt::Write;
+
+fn push_connect_line(out: &mut String, connect_ms: u32, mark: &str) -> Result<(), AllocError>
+    ensures { OnOk result (string_bytes out.new ≡ string_bytes out.old ++ spec.connect_line connect_ms mark.now) }
+{
+    write!(out, "services connect_ms {connect_ms}{mark}\n")
+}
+
+/// How long opening a connection may take.
+fn push_connect(
+    out: &mut String,
+    services: &Services,
+    file: &ServicesFile,
+) -> Result<(), AllocError>
+    ensures { OnOk result (string_bytes out.new ≡ string_bytes out.old
+        ++ spec.connect_line services.now.connect_ms (meaning.mark (has_key connect_key (table_view file.now.tree)))) }
+{
+    let mark = mark(file.has_key("connect_ms"));
+    push_connect_line(out, services.connect_ms(), mark)
+}
+
+fn push_url_line(out: &mut String, machine: &str, host: &str, path: &str) -> Result<(), AllocError>
+    ensures { OnOk result (string_bytes out.new ≡ string_bytes out.old ++ spec.url_line machine.now host.now path.now) }
+{
+    write!(out, "machine {machine} url http://{host}{path}\n")
+}
+
+/// Where the jobs of a machine go.
+fn push_url(
+    out: &mut String,
+    settings: &Settings,
+    services: &Services,
+    machine: MachineId,
+) -> Result<(), AllocError>
+    requires { machine < length services.now.urls }
+    ensures { OnOk result (string_bytes out.new ≡ string_bytes out.old ++ spec.machine_line settings.now services.now machine) }
+{
+    let name = settings.machine_name(machine);
+    let url = services.url(machine);
+    push_url_line(out, name, url.host(), url.path())
+}
+
+fn push_urls(out: &mut String, settings: &Settings, services: &Services) -> Result<(), AllocError>
+    requires { length services.now.urls ≡ length settings.now.machines }
+    ensures { OnOk result (string_bytes out.new ≡ string_bytes out.old
+        ++ flat_map (spec.machine_line settings.now services.now) (machines settings.now)) }
+{
+    for number in 0..settings.machines() {
+        push_url(out, settings, services, MachineId::new(number))?;
+    }
+    Ok(())
+}
+
+fn push_timeout_line(
+    out: &mut String,
+    function: &str,
+    timeout_ms: u32,
+    mark: &str,
+) -> Result<(), AllocError>
+    ensures { OnOk result (string_bytes out.new ≡ string_bytes out.old ++ spec.timeout_line function.now timeout_ms mark.now) }
+{
+    write!(out, "function {function} timeout_ms {timeout_ms}{mark}\n")
+}
+
+/// How long a job of a function may take.
+fn push_timeout(
+    out: &mut String,
+    settings: &Settings,
+    services: &Services,
+    file: &ServicesFile,
+    function: FuncId,
+) -> Result<(), AllocError>
+    requires { function < length services.now.timeouts }
+    ensures { OnOk result (string_bytes out.new ≡ string_bytes out.old
+        ++ spec.function_line (table_view file.now.tree) settings.now services.now function) }
+{
+    let name = settings.function_name(function);
+    let mark = mark(file.function_has_key(name, "timeout_ms"));
+    push_timeout_line(out, name, services.timeout_ms(function), mark)
+}
+
+fn push_timeouts(
+    out: &mut String,
+    settings: &Settings,
+    services: &Services,
+    file: &ServicesFile,
+) -> Result<(), AllocError>
+    requires { length services.now.timeouts ≡ length settings.now.functions }
+    ensures { OnOk result (string_bytes out.new ≡ string_bytes out.old
+        ++ flat_map (spec.function_line (table_view file.now.tree) settings.now services.now) (functions settings.now)) }
+{
+    for number in 0..settings.functions() {
+        push_timeout(out, settings, services, file, FuncId::new(number))?;
+    }
+    Ok(())
+}
+
+fn push_listen(out: &mut String, address: &str) -> Result<(), AllocError>
+    ensures { OnOk result (string_bytes out.new ≡ string_bytes out.old ++ spec.listen_line address.now) }
+{
+    write!(out, "page listen {address}\n")
+}
+
+fn push_host(out: &mut String, host: &str) -> Result<(), AllocError>
+    ensures { OnOk result (string_bytes out.new ≡ string_bytes out.old ++ spec.host_line host.now) }
+{
+    write!(out, "page host {host}\n")
+}
+
+/// The further names of the page.
+fn push_hosts(out: &mut String, hosts: &[String]) -> Result<(), AllocError>
+    ensures { OnOk result (string_bytes out.new ≡ string_bytes out.old
+        ++ flat_map spec.host_line (map (λ s. string_bytes s) hosts.now)) }
+{
+    for host in hosts {
+        push_host(out, host.as_str())?;
+    }
+    Ok(())
+}
+
+fn push_page(out: &mut String, page: &Page) -> Result<(), AllocError>
+    ensures { OnOk result (string_bytes out.new ≡ string_bytes out.old ++ spec.page_lines page.now) }
+{
+    push_listen(out, page.listen())?;
+    push_hosts(out, page.hosts())
+}
+
+/// The page, if there is one.
+fn push_if_page(out: &mut String, services: &Services) -> Result<(), AllocError>
+    ensures { OnOk result (string_bytes out.new ≡ string_bytes out.old ++ option_map_or spec.page_lines services.now.page []) }
+{
+    match services.page() {
+        Some(page) => push_page(out, page),
+        None => Ok(()),
+    }
+}
+
+/// What services mean: a line for the version and one for `connect_ms`, one for each machine with its URL, one for each function with its
+/// time, and the lines of the page, if there is one, all in the order of the settings. A value that the file does not give is marked
+/// `(default)`; the URL at its top is given. The only error is out of memory.
+pub fn push_services(
+    out: &mut String,
+    settings: &Settings,
+    services: &Services,
+    file: &ServicesFile,
+) -> Result<(), AllocError>
+    requires machines { length services.now.urls ≡ length settings.now.machines }
+    requires functions { length services.now.timeouts ≡ length settings.now.functions }
+    ensures { OnOk result (string_bytes out.new ≡ string_bytes out.old
+        ++ spec.services_meaning (table_view file.now.tree) settings.now services.now) }
+{
+    out.push_str("services version 1\n")?;
+    push_connect(out, services, file)?;
+    push_urls(out, settings, services)?;
+    push_timeouts(out, settings, services, file)?;
+    push_if_page(out, services)
+}
