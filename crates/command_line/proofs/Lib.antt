@@ -3,3 +3,4 @@ pub mod Chain
 pub mod Number
 pub mod Required
 pub mod Levels
+pub mod Flags

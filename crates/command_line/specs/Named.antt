@@ -4,10 +4,10 @@ use Rattle.std.specs.Int.NonZero.{non_zero_u32_get}
 use Rattle.clap.specs.Words.{IsAmong, Kinds, kind_of}
 use Rattle.clap.specs.declared.error.Error.{Error}
 use Rattle.clap.specs.declared.error.kind.ErrorKind.TheVariants.{OutOfMemory}
-use Rattle.command_line.specs.Words.{Named, plan, check, size, check_size, replay, show_settings, run}
+use Rattle.command_line.specs.Words.{Named, plan, check, size, check_size, replay, show_settings, run, serve}
 use Rattle.command_line.specs.Words.{least_rounds, most_rounds}
 use Rattle.command_line.specs.declared.command.Command.{Command}
-use Rattle.command_line.specs.declared.command.Command.TheVariants.{Plan, Check, Size, CheckSize, Replay, Settings, Run}
+use Rattle.command_line.specs.declared.command.Command.TheVariants.{Plan, Check, Size, CheckSize, Replay, Settings, Run, Serve}
 use Rattle.command_line.specs.declared.command.CommandError.{CommandError}
 use Rattle.command_line.specs.declared.command.CommandError.TheVariants.{Usage, Memory}
 
@@ -18,8 +18,9 @@ named (Size settings level lost) = size settings.now (option_map non_zero_u32_ge
 named (CheckSize settings status level lost) =
     check_size settings.now status.now (option_map non_zero_u32_get level) (map (λ w. w.now) lost.items)
 named (Replay settings) = replay settings.now
-named (Settings settings) = show_settings settings.now
+named (Settings settings services) = show_settings settings.now (option_map (λ t. t.now) services)
 named (Run settings rounds) = run settings.now rounds
+named (Serve settings services until_input) = serve settings.now services.now until_input
 
 -- the rounds of a run, if the command is one, are neither too few nor too many
 abbrev pub HasRoundsInRange : Command → Type 0

@@ -1,5 +1,5 @@
 -- The program's command line: the words that each command takes, and the command that they ask for.
-use Rattle.std.specs.Prelude.{List, [], ◌∷◌, ◌^◌, drop, slice_get, nat_lt, is_some, true, codes, if◌then◌else◌, ℕ, pos}
+use Rattle.std.specs.Prelude.{Bool, List, [], ◌∷◌, ◌^◌, drop, slice_get, nat_lt, is_some, false, true, codes, if◌then◌else◌, ℕ, pos}
 use Rattle.std.specs.Prelude.{Option, Some, None, option_map, option_and_then, unwrap_or}
 use Rattle.std.specs.Option.{option_map_or}
 use Rattle.std.specs.Str.{bytes_eq}
@@ -9,7 +9,7 @@ use Rattle.clap.specs.Walk.{Text, Row, Rule, first_of, all_of, one_of}
 use Rattle.clap.specs.Kinds.{or_else}
 use Rattle.clap.specs.Words.{Kinds, fault_of}
 use Rattle.clap.specs.Simple.{App, matches_of, new_app, new_rule, on_top, with_rule, with_subcommand}
-use Rattle.clap.specs.declared.builder.action.ArgAction.TheVariants.{Set, Append}
+use Rattle.clap.specs.declared.builder.action.ArgAction.TheVariants.{Set, SetTrue, Append}
 use Rattle.clap.specs.declared.builder.value_parser.ValueParser.TheVariants.{Signed}
 use Rattle.clap.specs.declared.error.kind.ErrorKind.TheVariants.{MissingSubcommand, ValueValidation}
 use Rattle.text_pieces.specs.Numbers.{plain_number_below}
@@ -22,6 +22,14 @@ operand id = record (new_rule id) { required = true; action = Some Set }
 abbrev pub number : Text → ℕ → ℕ → Rule
 number id least most = record (operand id) { parser = Some (Signed (pos least) (pos most)) }
 
+-- a word that may be there
+abbrev pub optional : Text → Rule
+optional id = record (new_rule id) { action = Some Set }
+
+-- a flag `--NAME`, which may be there
+abbrev pub flag : Text → Rule
+flag name = record (new_rule name) { long = Some name; action = Some SetTrue }
+
 -- any number of words
 abbrev pub operands : Text → Rule
 operands id = record (new_rule id) {
@@ -31,6 +39,12 @@ operands id = record (new_rule id) {
 
 abbrev pub settings : Text
 settings = codes "SETTINGS"
+
+abbrev pub services : Text
+services = codes "SERVICES"
+
+abbrev pub until_input : Text
+until_input = codes "until-input"
 
 abbrev pub status : Text
 status = codes "STATUS"
@@ -73,31 +87,32 @@ abbrev pub check_size_app : App
 check_size_app =
     with_rules (new_app (codes "check-size")) (operand settings ∷ operand status ∷ operand backlog ∷ operands lost ∷ [])
 
--- a command whose one operand is its settings
-abbrev pub settings_alone : Text → App
-settings_alone name = with_rules (new_app name) (operand settings ∷ [])
-
 -- `replay SETTINGS`
 abbrev pub replay_app : App
-replay_app = settings_alone (codes "replay")
+replay_app = with_rules (new_app (codes "replay")) (operand settings ∷ [])
 
--- `settings SETTINGS`
+-- `settings SETTINGS [SERVICES]`
 abbrev pub settings_app : App
-settings_app = settings_alone (codes "settings")
+settings_app = with_rules (new_app (codes "settings")) (operand settings ∷ optional services ∷ [])
 
 -- `run SETTINGS ROUNDS`
 abbrev pub run_app : App
 run_app = with_rules (new_app (codes "run")) (operand settings ∷ number rounds least_rounds most_rounds ∷ [])
 
--- a command with its texts, a size with the level that is asked for, and a run with its number of rounds
+-- `serve SETTINGS SERVICES [--until-input]`
+abbrev pub serve_app : App
+serve_app = with_rules (new_app (codes "serve")) (operand settings ∷ operand services ∷ flag until_input ∷ [])
+
+-- a command with its texts, a size with the level that is asked for, a run with its number of rounds, and `serve` with its flag
 pub data Named : Type 0 where
   plan : Text → List Text → Named
   check : Text → Text → List Text → Named
   size : Text → Option ℕ → List Text → Named
   check_size : Text → Text → Option ℕ → List Text → Named
   replay : Text → Named
-  show_settings : Text → Named
+  show_settings : Text → Option Text → Named
   run : Text → ℕ → Named
+  serve : Text → Text → Bool → Named
 
 abbrev pub lost_in : List Row → List Text
 lost_in rows = unwrap_or (all_of lost rows) []
@@ -145,7 +160,7 @@ abbrev pub replay_in : List Row → Option Named
 replay_in rows = option_map replay (first_of settings rows)
 
 abbrev pub settings_in : List Row → Option Named
-settings_in rows = option_map show_settings (first_of settings rows)
+settings_in rows = option_map (λ s. show_settings s (first_of services rows)) (first_of settings rows)
 
 -- the number that a text writes in decimal digits, of which a `+` may come first
 abbrev pub decimal : Text → ℕ
@@ -161,12 +176,23 @@ run_of rows s = option_map (run s) (rounds_in rows)
 abbrev pub run_in : List Row → Option Named
 run_in rows = option_and_then (run_of rows) (first_of settings rows)
 
--- the command of a name that takes nothing from standard input, from its own words, of which the name is the first
+-- a flag is there if its value is `true`
+abbrev pub is_set : Text → List Row → Bool
+is_set name rows = option_map_or (λ text. bytes_eq text (codes "true")) (one_of name rows) false
+
+abbrev pub serve_of : List Row → Text → Option Named
+serve_of rows s = option_map (λ t. serve s t (is_set until_input rows)) (first_of services rows)
+
+abbrev pub serve_in : List Row → Option Named
+serve_in rows = option_and_then (serve_of rows) (first_of settings rows)
+
+-- the command of a name that takes no text from standard input, from its own words, of which the name is the first
 abbrev pub named_without_input : Text → List Text → Option Named
 named_without_input name words =
     if bytes_eq name (codes "settings") then settings_in (matches_of settings_app words)
     else (if bytes_eq name (codes "run") then run_in (matches_of run_app words)
-    else None)
+    else (if bytes_eq name (codes "serve") then serve_in (matches_of serve_app words)
+    else None))
 
 -- the same of a command about sizes too
 abbrev pub named_of_sizes : Text → List Text → Option Named
@@ -191,23 +217,24 @@ command_in words = option_and_then (λ name. command_named name (drop 1 words)) 
 abbrev pub bare_app : App
 bare_app = on_top (λ top. record top { subcommand_required = true; has_version = true }) (new_app (codes "poolman"))
 
--- the command line that wants one of seven commands, each with its operands, by which words that name none are answered
+-- the command line that wants one of eight commands, each with its operands, by which words that name none are answered
 abbrev pub overview_app : App
 overview_app =
-    with_subcommand (with_subcommand (with_subcommand (with_subcommand (with_subcommand (with_subcommand (with_subcommand
+    with_subcommand (with_subcommand (with_subcommand (with_subcommand (with_subcommand (with_subcommand (with_subcommand (with_subcommand
     bare_app
-    plan_app.top) check_app.top) size_app.top) check_size_app.top) replay_app.top) settings_app.top) run_app.top
+    plan_app.top) check_app.top) size_app.top) check_size_app.top) replay_app.top) settings_app.top) run_app.top) serve_app.top
 
 -- what is wrong with words that name no command: the kinds of `clap`'s first fault, and else that a command is missing
 abbrev pub overview_faults : List Text → Kinds
 overview_faults words = or_else (fault_of overview_app words) (MissingSubcommand ∷ [])
 
--- What is wrong with words that have this name of a command which takes nothing from standard input, or of none.
+-- What is wrong with words that have this name of a command which takes no text from standard input, or of none.
 abbrev pub faults_without_input : List Text → Text → Kinds
 faults_without_input words name =
     if bytes_eq name (codes "settings") then fault_of settings_app (drop 1 words)
     else (if bytes_eq name (codes "run") then fault_of run_app (drop 1 words)
-    else overview_faults words)
+    else (if bytes_eq name (codes "serve") then fault_of serve_app (drop 1 words)
+    else overview_faults words))
 
 -- The same of a command about sizes too.
 abbrev pub faults_of_sizes : List Text → Text → Kinds

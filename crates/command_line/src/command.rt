@@ -7,8 +7,8 @@ ghost use Rattle.command_line.specs.Named.{HasRoundsInRange, IsOfKinds, Tells, n
 ghost use Rattle.command_line.specs.Words as spec;
 
 use crate::operands::{
-    check_size_words, check_words, overview, plan_words, replay_words, run_words, settings_words,
-    size_words,
+    check_size_words, check_words, overview, plan_words, replay_words, run_words, serve_words,
+    settings_words, size_words,
 };
 use clap::Error;
 use clap::error::ErrorKind;
@@ -48,14 +48,22 @@ pub enum Command<'a> {
     Replay {
         settings: &'a str,
     },
-    /// `settings SETTINGS`: what the settings file means, or where its first fault is.
+    /// `settings SETTINGS [SERVICES]`: what the settings file means, or where its first fault is; with a services file what both mean.
     Settings {
         settings: &'a str,
+        services: Option<&'a str>,
     },
     /// `run SETTINGS ROUNDS`: keeps workers on the functions that need them, for 1 to 65,536 rounds.
     Run {
         settings: &'a str,
         rounds: u32,
+    },
+    /// `serve SETTINGS SERVICES [--until-input]`: keeps the functions of a job server served by the services of a farm, until it is told to
+    /// stop. With the flag it ends when standard input does, too.
+    Serve {
+        settings: &'a str,
+        services: &'a str,
+        until_input: bool,
     },
 }
 
@@ -164,7 +172,7 @@ fn settings_of<'a, W: AsStr>(alloc: Global, words: &'a [W]) -> Result<Command<'a
     ensures usage { IfErr result (IsOfKinds (fault_of spec.settings_app (map W.text words.now))) }
 {
     match settings_words(alloc, words) {
-        Ok(settings) => Ok(Command::Settings { settings }),
+        Ok((settings, services)) => Ok(Command::Settings { settings, services }),
         Err(error) => Err(refused(error)),
     }
 }
@@ -181,7 +189,22 @@ fn run_of<'a, W: AsStr>(alloc: Global, words: &'a [W]) -> Result<Command<'a>, Co
     }
 }
 
-/// The command of this name, from words of which it is the second, if it is one that takes nothing from standard input.
+fn serve_of<'a, W: AsStr>(alloc: Global, words: &'a [W]) -> Result<Command<'a>, CommandError>
+    ensures ok { IfOk result (λ c. spec.serve_in (matches_of spec.serve_app (map W.text words.now)) ≡ Some (named c)) }
+    ensures taken { IfOk result (λ _. fault_of spec.serve_app (map W.text words.now) ≡ []) }
+    ensures usage { IfErr result (IsOfKinds (fault_of spec.serve_app (map W.text words.now))) }
+{
+    match serve_words(alloc, words) {
+        Ok((settings, services, until_input)) => Ok(Command::Serve {
+            settings,
+            services,
+            until_input,
+        }),
+        Err(error) => Err(refused(error)),
+    }
+}
+
+/// The command of this name, from words of which it is the second, if it is one that takes no text from standard input.
 fn command_without_input<'a, W: AsStr>(
     alloc: Global,
     name: &str,
@@ -197,12 +220,14 @@ fn command_without_input<'a, W: AsStr>(
         settings_of(alloc, &words[1..])
     } else if name == "run" {
         run_of(alloc, &words[1..])
+    } else if name == "serve" {
+        serve_of(alloc, &words[1..])
     } else {
         Err(refused(overview(alloc, words)?))
     }
 }
 
-/// The command of this name, from words of which it is the second, if it is one about sizes, or one that takes nothing from standard
+/// The command of this name, from words of which it is the second, if it is one about sizes, or one that takes no text from standard
 /// input.
 fn command_of_sizes<'a, W: AsStr>(
     alloc: Global,

@@ -2,6 +2,7 @@
 #![tactic(auto)]
 
 mod command;
+mod help;
 mod operands;
 
 pub use command::{Command, CommandError, command_of};

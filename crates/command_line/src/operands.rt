@@ -13,68 +13,13 @@ ghost use Rattle.clap.specs.declared.error.kind.ErrorKind.TheVariants.{ValueVali
 ghost use Rattle.command_line.specs.Required.{Requires, RequiresNumber};
 ghost use Rattle.command_line.specs.Words as spec;
 
+use crate::help::{CHECK, CHECK_SIZE, Help, PLAN, PROGRAM, REPLAY, RUN, SERVE, SETTINGS, SIZE};
 use clap::error::ErrorKind;
 use clap::{Arg, ArgAction, ArgMatches, Command, Error, value_parser};
 use std::alloc::{AllocError, Global};
 use std::convert::AsStr;
 use std::num::NonZeroU32;
 use text_pieces::plain_number_u32;
-
-/// What the help of a command says beside its operands.
-#[derive(Clone, Copy)]
-struct Help {
-    about: &'static str,
-    usage: &'static str,
-    example: &'static str,
-}
-
-const PLAN: Help = Help {
-    about: "Reads a status text and prints the best plan, with what shows it",
-    usage: "poolman plan SETTINGS [LOST]... < STATUS",
-    example: "Example: poolman plan settings.toml b/0 < status.txt",
-};
-
-const CHECK: Help = Help {
-    about: "Reads a report and says whether it is shown, by the settings and the status text alone",
-    usage: "poolman check SETTINGS STATUS [LOST]... < REPORT",
-    example: "Example: poolman check settings.toml status.txt b/0 < report.txt",
-};
-
-const SIZE: Help = Help {
-    about: "Reads a status text and prints how many workers have to be added, and where, with what shows it",
-    usage: "poolman size SETTINGS BACKLOG [LOST]... < STATUS",
-    example: "Example: poolman size settings.toml 4 < status.txt",
-};
-
-const CHECK_SIZE: Help = Help {
-    about: "Reads a size and says whether it is shown, by the settings and the status text alone",
-    usage: "poolman check-size SETTINGS STATUS BACKLOG [LOST]... < SIZE",
-    example: "Example: poolman check-size settings.toml status.txt 4 < size.txt",
-};
-
-const REPLAY: Help = Help {
-    about: "Reads command lines and prints what each answers, on a pool in which nothing has happened yet",
-    usage: "poolman replay SETTINGS < COMMANDS",
-    example: "Example: printf 'join a/0\\nload x 6 0\\nround\\norder a/0\\n' | poolman replay settings.toml",
-};
-
-const SETTINGS: Help = Help {
-    about: "Reads a settings file and prints what it means, or where its first fault is",
-    usage: "poolman settings SETTINGS",
-    example: "Example: poolman settings settings.toml",
-};
-
-const RUN: Help = Help {
-    about: "Keeps workers on the functions that need them, for ROUNDS rounds, and accounts for each job",
-    usage: "poolman run SETTINGS ROUNDS",
-    example: "Example: poolman run settings.toml 3600",
-};
-
-const PROGRAM: Help = Help {
-    about: "Plans which worker of a Gearman pool serves which function, and shows that no plan is better",
-    usage: "poolman COMMAND ...",
-    example: "`poolman COMMAND --help` explains a command.",
-};
 
 /// The version of the program.
 const VERSION: &str = "0.1.0";
@@ -91,6 +36,31 @@ fn operand<'a>(alloc: Global, id: &'a str, help: &'a str) -> Arg<'a>
     Arg::new(alloc, id)
         .required(true)
         .action(ArgAction::Set)
+        .help(help)
+}
+
+/// A word that may be there.
+fn optional<'a>(alloc: Global, id: &'a str, help: &'a str) -> Arg<'a>
+    ensures rule { rule_of result ≡ spec.optional id.entry.now }
+    ensures id { result.id ≡ id.entry }
+    ensures help { result.help ≡ Some help.entry }
+    ensures plain { IsPlainArg result }
+    ensures local { result.global ≡ false }
+{
+    Arg::new(alloc, id).action(ArgAction::Set).help(help)
+}
+
+/// A flag `--NAME`, which may be there.
+fn flag<'a>(alloc: Global, name: &'a str, help: &'a str) -> Arg<'a>
+    ensures rule { rule_of result ≡ spec.flag name.entry.now }
+    ensures id { result.id ≡ name.entry }
+    ensures help { result.help ≡ Some help.entry }
+    ensures plain { IsPlainArg result }
+    ensures local { result.global ≡ false }
+{
+    Arg::new(alloc, name)
+        .long(name)
+        .action(ArgAction::SetTrue)
         .help(help)
 }
 
@@ -120,6 +90,42 @@ fn settings<'a>(alloc: Global) -> Arg<'a>
         "SETTINGS",
         "The settings file: machines, functions, least and greatest numbers",
     )
+}
+
+fn services<'a>(alloc: Global) -> Arg<'a>
+    ensures rule { rule_of result ≡ spec.operand spec.services }
+    ensures id { result.id.now ≡ spec.services }
+    ensures explained { IsSomeAnd result.help (λ help. 0 < length help.now) }
+    ensures fits { FitsChain result }
+    ensures value { TakesValue result }
+{
+    operand(
+        alloc,
+        "SERVICES",
+        "The services file: where the jobs of each machine go",
+    )
+}
+
+fn optional_services<'a>(alloc: Global) -> Arg<'a>
+    ensures rule { rule_of result ≡ spec.optional spec.services }
+    ensures id { result.id.now ≡ spec.services }
+    ensures explained { IsSomeAnd result.help (λ help. 0 < length help.now) }
+    ensures fits { FitsChain result }
+{
+    optional(
+        alloc,
+        "SERVICES",
+        "The services file, read beside the settings: where the jobs of each machine go",
+    )
+}
+
+fn until_input<'a>(alloc: Global) -> Arg<'a>
+    ensures rule { rule_of result ≡ spec.flag spec.until_input }
+    ensures id { result.id.now ≡ spec.until_input }
+    ensures explained { IsSomeAnd result.help (λ help. 0 < length help.now) }
+    ensures fits { FitsChain result }
+{
+    flag(alloc, "until-input", "End when standard input ends")
 }
 
 fn status<'a>(alloc: Global) -> Arg<'a>
@@ -247,31 +253,24 @@ fn check_size<'a>(alloc: Global) -> Result<Command<'a>, AllocError>
         .arg(lost(alloc))
 }
 
-/// A command whose one operand is its settings.
-fn settings_alone<'a>(alloc: Global, name: &'a str, help: Help) -> Result<Command<'a>, AllocError>
-    ensures app { IfOk result (λ c. app_of c ≡ spec.settings_alone name.entry.now) }
-    ensures local { IfOk result (λ c. (fields_of c).has_globals ≡ false) }
-    ensures settings { IfOk result (Requires spec.settings) }
-{
-    command(alloc, name, help).arg(settings(alloc))
-}
-
 /// `replay` with its operand.
 fn replay<'a>(alloc: Global) -> Result<Command<'a>, AllocError>
     ensures app { IfOk result (λ c. app_of c ≡ spec.replay_app) }
     ensures local { IfOk result (λ c. (fields_of c).has_globals ≡ false) }
     ensures settings { IfOk result (Requires spec.settings) }
 {
-    settings_alone(alloc, "replay", REPLAY)
+    command(alloc, "replay", REPLAY).arg(settings(alloc))
 }
 
-/// `settings` with its operand.
+/// `settings` with its operands.
 fn show_settings<'a>(alloc: Global) -> Result<Command<'a>, AllocError>
     ensures app { IfOk result (λ c. app_of c ≡ spec.settings_app) }
     ensures local { IfOk result (λ c. (fields_of c).has_globals ≡ false) }
     ensures settings { IfOk result (Requires spec.settings) }
 {
-    settings_alone(alloc, "settings", SETTINGS)
+    command(alloc, "settings", SETTINGS)
+        .arg(settings(alloc))?
+        .arg(optional_services(alloc))
 }
 
 /// `run` with its operands.
@@ -284,6 +283,19 @@ fn run<'a>(alloc: Global) -> Result<Command<'a>, AllocError>
     command(alloc, "run", RUN)
         .arg(settings(alloc))?
         .arg(rounds(alloc))
+}
+
+/// `serve` with its operands and its flag.
+fn serve<'a>(alloc: Global) -> Result<Command<'a>, AllocError>
+    ensures app { IfOk result (λ c. app_of c ≡ spec.serve_app) }
+    ensures local { IfOk result (λ c. (fields_of c).has_globals ≡ false) }
+    ensures settings { IfOk result (Requires spec.settings) }
+    ensures services { IfOk result (Requires spec.services) }
+{
+    command(alloc, "serve", SERVE)
+        .arg(settings(alloc))?
+        .arg(services(alloc))?
+        .arg(until_input(alloc))
 }
 
 /// The word of an operand that has to be there.
@@ -419,14 +431,45 @@ pub fn replay_words<'a, W: AsStr>(alloc: Global, words: &'a [W]) -> Result<&'a s
     Ok(text_of(&matches, "SETTINGS"))
 }
 
-/// The text of the word of `settings`: the settings.
-pub fn settings_words<'a, W: AsStr>(alloc: Global, words: &'a [W]) -> Result<&'a str, Error>
-    ensures settings { IfOk result (λ m. first_of spec.settings (matches_of spec.settings_app (map W.text words.now)) ≡ Some m.now) }
+/// The texts of the words of `settings`: the settings, and the services if there are any.
+pub fn settings_words<'a, W: AsStr>(
+    alloc: Global,
+    words: &'a [W],
+) -> Result<(&'a str, Option<&'a str>), Error>
+    ensures settings { IfOk result (λ m. first_of spec.settings (matches_of spec.settings_app (map W.text words.now)) ≡ Some m.0.now) }
+    ensures services { IfOk result
+        (λ m. first_of spec.services (matches_of spec.settings_app (map W.text words.now)) ≡ option_map (λ t. t.now) m.1) }
     ensures kinds { FailsBy (fault_of spec.settings_app (map W.text words.now)) result }
 {
     let command = show_settings(alloc)?;
     let matches = command.try_get_matches_from(words)?;
-    Ok(text_of(&matches, "SETTINGS"))
+    let services = matches.get_str("SERVICES");
+    Ok((text_of(&matches, "SETTINGS"), services))
+}
+
+/// Whether a flag is there.
+fn is_set(matches: &ArgMatches<'_>, name: &str) -> bool
+    ensures { result ≡ spec.is_set name.now (rows_of (found_of matches.now)) }
+{
+    matches.get_one::<bool>(name).unwrap_or(false)
+}
+
+/// What the words of `serve` give: its settings, its services, and whether it ends when its input does.
+pub fn serve_words<'a, W: AsStr>(
+    alloc: Global,
+    words: &'a [W],
+) -> Result<(&'a str, &'a str, bool), Error>
+    ensures settings { IfOk result (λ m. first_of spec.settings (matches_of spec.serve_app (map W.text words.now)) ≡ Some m.0.now) }
+    ensures services { IfOk result (λ m. first_of spec.services (matches_of spec.serve_app (map W.text words.now)) ≡ Some m.1.now) }
+    ensures until_input { IfOk result (λ m. spec.is_set spec.until_input (matches_of spec.serve_app (map W.text words.now)) ≡ m.2) }
+    ensures kinds { FailsBy (fault_of spec.serve_app (map W.text words.now)) result }
+{
+    let command = serve(alloc)?;
+    let matches = command.try_get_matches_from(words)?;
+    let settings = text_of(&matches, "SETTINGS");
+    let services = text_of(&matches, "SERVICES");
+    let until_input = is_set(&matches, "until-input");
+    Ok((settings, services, until_input))
 }
 
 /// What the words of `run` give: its settings and its rounds.
@@ -464,7 +507,8 @@ fn program<'a>(alloc: Global) -> Result<Command<'a>, AllocError>
         .subcommand(check_size(alloc)?)?
         .subcommand(replay(alloc)?)?
         .subcommand(show_settings(alloc)?)?
-        .subcommand(run(alloc)?)
+        .subcommand(run(alloc)?)?
+        .subcommand(serve(alloc)?)
 }
 
 /// What to print if the words name no command: the help that they ask for, or what is wrong.

@@ -6,7 +6,7 @@ use std::alloc::Global;
 use std::num::NonZeroU32;
 use std::test::Fail;
 
-/// The settings, the status text and the number of lost workers of a command, if the words name one.
+/// The settings, the second file and the number of lost workers of a command, if the words name one.
 fn texts_of<'a>(alloc: Global, words: &'a [&'a str]) -> Option<(&'a str, Option<&'a str>, usize)> {
     match command_of(alloc, words).ok()? {
         Command::Plan { settings, lost } => Some((settings, None, lost.len())),
@@ -22,10 +22,9 @@ fn texts_of<'a>(alloc: Global, words: &'a [&'a str]) -> Option<(&'a str, Option<
             lost,
             ..
         } => Some((settings, Some(status), lost.len())),
-        Command::Replay { settings } | Command::Settings { settings } => {
-            Some((settings, None, 0))
-        }
-        Command::Run { .. } => None,
+        Command::Replay { settings } => Some((settings, None, 0)),
+        Command::Settings { settings, services } => Some((settings, services, 0)),
+        Command::Run { .. } | Command::Serve { .. } => None,
     }
 }
 
@@ -33,6 +32,18 @@ fn texts_of<'a>(alloc: Global, words: &'a [&'a str]) -> Option<(&'a str, Option<
 fn run_of<'a>(alloc: Global, words: &'a [&'a str]) -> Option<(&'a str, u32)> {
     match command_of(alloc, words).ok()? {
         Command::Run { settings, rounds } => Some((settings, rounds)),
+        _ => None,
+    }
+}
+
+/// The settings, the services and the flag of `serve`, if the words ask for it.
+fn serve_of<'a>(alloc: Global, words: &'a [&'a str]) -> Option<(&'a str, &'a str, bool)> {
+    match command_of(alloc, words).ok()? {
+        Command::Serve {
+            settings,
+            services,
+            until_input,
+        } => Some((settings, services, until_input)),
         _ => None,
     }
 }
@@ -79,6 +90,26 @@ fn commands_of_words(rt: HostRuntime) {
     assert!(rt; texts_of(alloc, &replay) == Some(("s.toml", None, 0)));
     let settings = ["poolman", "settings", "s.toml"];
     assert!(rt; texts_of(alloc, &settings) == Some(("s.toml", None, 0)));
+    let both = ["poolman", "settings", "s.toml", "v.toml"];
+    assert!(rt; texts_of(alloc, &both) == Some(("s.toml", Some("v.toml"), 0)));
+}
+
+#[test]
+fn words_of_serve(rt: HostRuntime) {
+    let alloc = rt.alloc();
+    let serve = ["poolman", "serve", "s.toml", "v.toml"];
+    assert!(rt; serve_of(alloc, &serve) == Some(("s.toml", "v.toml", false)));
+    let last = ["poolman", "serve", "s.toml", "v.toml", "--until-input"];
+    assert!(rt; serve_of(alloc, &last) == Some(("s.toml", "v.toml", true)));
+    let first = ["poolman", "serve", "--until-input", "s.toml", "v.toml"];
+    assert!(rt; serve_of(alloc, &first) == Some(("s.toml", "v.toml", true)));
+    let missing = Some((ErrorKind::MissingRequiredArgument, 2));
+    assert!(rt; usage_of(alloc, &["poolman", "serve"]) == missing);
+    assert!(rt; usage_of(alloc, &["poolman", "serve", "s.toml", "--until-input"]) == missing);
+    let unknown = Some((ErrorKind::UnknownArgument, 2));
+    assert!(rt; usage_of(alloc, &["poolman", "serve", "s.toml", "v.toml", "w.toml"]) == unknown);
+    assert!(rt; usage_of(alloc, &["poolman", "serve", "s.toml", "v.toml", "--until"]) == unknown);
+    assert!(rt; usage_of(alloc, &["poolman", "settings", "s.toml", "v.toml", "w.toml"]) == unknown);
 }
 
 #[test]
@@ -208,6 +239,12 @@ fn help_lists_the_operands_either_way(rt: HostRuntime) {
     let run = ["<SETTINGS>  ", "<ROUNDS>  "];
     assert!(rt; helps(alloc, &["poolman", "run", "--help"], &run));
     assert!(rt; helps(alloc, &["poolman", "help", "run"], &run));
+    let settings = ["<SETTINGS>  ", "[SERVICES]  "];
+    assert!(rt; helps(alloc, &["poolman", "settings", "--help"], &settings));
+    assert!(rt; helps(alloc, &["poolman", "help", "settings"], &settings));
+    let serve = ["<SETTINGS>  ", "<SERVICES>  ", "--until-input  "];
+    assert!(rt; helps(alloc, &["poolman", "serve", "--help"], &serve));
+    assert!(rt; helps(alloc, &["poolman", "help", "serve"], &serve));
     for name in ["replay", "settings"] {
         assert!(rt; helps(alloc, &["poolman", name, "--help"], &["<SETTINGS>  "]));
         assert!(rt; helps(alloc, &["poolman", "help", name], &["<SETTINGS>  "]));

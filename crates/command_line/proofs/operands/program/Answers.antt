@@ -15,7 +15,9 @@ returns c =
     let five = app_with_subcommand c.in_ok-subcommand-4.field-0 c.in_ok-replay.field-0 c.in_ok-subcommand-5.field-0 c.in_ok-subcommand-5.ensures
     c.in_ok-replay.ensures.local four c.in_ok-replay.ensures.app in
     let six = app_with_subcommand c.in_ok-subcommand-5.field-0 c.in_ok-show_settings.field-0 c.in_ok-subcommand-6.field-0 c.in_ok-subcommand-6.ensures
-    c.in_ok-show_settings.ensures.local five c.in_ok-show_settings.ensures.app in record {
-      app = app_if_subcommand c.in_ok-subcommand-6.field-0 c.in_ok-run.field-0 c.subcommand-7.result c.subcommand-7.ensures
-          c.in_ok-run.ensures.local six c.in_ok-run.ensures.app;
+    c.in_ok-show_settings.ensures.local five c.in_ok-show_settings.ensures.app in
+    let seven = app_with_subcommand c.in_ok-subcommand-6.field-0 c.in_ok-run.field-0 c.in_ok-subcommand-7.field-0 c.in_ok-subcommand-7.ensures
+    c.in_ok-run.ensures.local six c.in_ok-run.ensures.app in record {
+      app = app_if_subcommand c.in_ok-subcommand-7.field-0 c.in_ok-serve.field-0 c.subcommand-8.result c.subcommand-8.ensures
+          c.in_ok-serve.ensures.local seven c.in_ok-serve.ensures.app;
     }

@@ -1,6 +1,6 @@
 use Rattle.command_line.specs.Words as spec
 use Rattle.command_line.proofs.Required.{only}
-use Rattle.command_line.proofs.operands.settings_alone.Goals as goal
+use Rattle.command_line.proofs.operands.replay.Goals as goal
 
 pub returns-clause-settings : goal.returns-clause-settings
 returns-clause-settings c =
