@@ -1,25 +1,33 @@
 -- What a fault is about, as a line for people.
 use Rattle.std.specs.Prelude.{◌≡◌, ℕ, List, [], ◌∷◌, ◌++◌, codes, get_or, map, Option, option_map, unwrap_or}
 use Rattle.plan_commands.specs.Mistake.{kept_view}
+use Rattle.plan_commands.specs.ServicesMistake.{kept_view as services_view}
 use Rattle.plan_commands.specs.declared.fault.Fault.{Fault}
 use Rattle.plan_commands.specs.declared.fault.Fault.TheVariants as fault
 use Rattle.plan_commands.specs.declared.fault.NamedFile.TheVariants as file
 use Rattle.plan_commands.specs.declared.mistake.Mistake.{Mistake}
-use Rattle.settings_command.specs.Place.{line_of_place}
+use Rattle.plan_commands.specs.declared.services_mistake.ServicesMistake.{ServicesMistake}
+use Rattle.settings_command.specs.Place.{line_of_place, line_of_services_place}
 use Rattle.fault_detail.specs.declared.given.Given.{Given}
 
--- what a command was given, by name: its settings file, the file of its status text, if it has one, and its lost workers
+-- what a command was given, by name: its settings file, its services file and the file of its status text, if it has them, and its lost
+-- workers
 pub record Names : Type 0 where
   pub settings : List ℕ
+  pub services : Option (List ℕ)
   pub status : Option (List ℕ)
   pub lost : List (List ℕ)
 
 abbrev pub names_of : Given → Names
 names_of given = record {
   settings = given.settings.now;
+  services = option_map (λ name. name.now) given.services;
   status = option_map (λ name. name.now) given.status;
   lost = map (λ name. name.now) given.lost.now;
 }
+
+abbrev pub services_name : Names → List ℕ
+services_name names = unwrap_or names.services (codes "the services file")
 
 abbrev pub status_name : Names → List ℕ
 status_name names = unwrap_or names.status (codes "standard input")
@@ -28,6 +36,8 @@ status_name names = unwrap_or names.status (codes "standard input")
 abbrev pub subject : Names → Fault → List ℕ
 subject names (fault.Settings mistake) = names.settings
 subject names (fault.File file.Settings why) = names.settings
+subject names (fault.Services mistake) = services_name names
+subject names (fault.File file.Services why) = services_name names
 subject names (fault.Status why) = status_name names
 subject names (fault.File file.Status why) = status_name names
 subject names (fault.UnknownWorker place) = get_or names.lost place []
@@ -35,15 +45,19 @@ subject names fault.WriteFault = codes "standard output"
 subject names fault.Memory = codes "memory"
 subject names other = codes "standard input"
 
--- where in the settings a mistake is, and the end of the line
+-- where a mistake is in the settings or the services, and the end of the line
 abbrev pub place_end : Mistake → List ℕ
 place_end mistake = 32 ∷ line_of_place (kept_view mistake.place)
 
+abbrev pub services_place_end : ServicesMistake → List ℕ
+services_place_end mistake = 32 ∷ line_of_services_place (services_view mistake.place)
+
 abbrev pub line_end : Fault → List ℕ
 line_end (fault.Settings mistake) = place_end mistake
+line_end (fault.Services mistake) = services_place_end mistake
 line_end other = 10 ∷ []
 
--- The line says what a fault is about, then some sentence, and then, for a mistake in the settings, where it is.
+-- The line says what a fault is about, then some sentence, and then, for a mistake in the settings or the services, where it is.
 abbrev pub IsDetail : Names → Fault → List ℕ → Type 0
 IsDetail names fault line =
     (sentence : List ℕ) × (line ≡ codes "poolman: " ++ subject names fault ++ codes ": " ++ sentence ++ line_end fault)

@@ -5,8 +5,8 @@ ghost use Rattle.fault_detail.specs.Detail as spec;
 
 use crate::given::Given;
 use crate::sentence::sentence;
-use plan_commands::{Fault, Mistake};
-use settings_command::place_text;
+use plan_commands::{Fault, Mistake, ServicesMistake};
+use settings_command::{place_text, services_place_text};
 use std::alloc::{AllocError, Global};
 
 /// Adds where in the settings a mistake is, and the end of the line.
@@ -18,18 +18,32 @@ fn push_place(alloc: Global, out: &mut String, mistake: &Mistake) -> Result<(), 
     out.push_str(line.as_str())
 }
 
-/// Adds the end of the line: where in the settings the fault is, if it is there, and a line feed.
+/// Adds where a mistake in the services is, and the end of the line.
+fn push_services_place(
+    alloc: Global,
+    out: &mut String,
+    mistake: &ServicesMistake,
+) -> Result<(), AllocError>
+    ensures { OnOk result (string_bytes out.new ≡ string_bytes out.old ++ spec.services_place_end mistake.now) }
+{
+    let line = services_place_text(alloc, &mistake.lent_place())?;
+    out.push_str(" ")?;
+    out.push_str(line.as_str())
+}
+
+/// Adds the end of the line: where in the settings or the services the fault is, if it is there, and a line feed.
 fn push_end(alloc: Global, out: &mut String, fault: &Fault) -> Result<(), AllocError>
     ensures { OnOk result (string_bytes out.new ≡ string_bytes out.old ++ spec.line_end fault.now) }
 {
     match fault {
         Fault::Settings(mistake) => push_place(alloc, out, mistake),
+        Fault::Services(mistake) => push_services_place(alloc, out, mistake),
         _ => out.push_str("\n"),
     }
 }
 
 /// The line for people that says what a fault is about: `poolman: `, the name of the file, the worker or the stream that it is about, the
-/// sentence of the refusal and, for a mistake in the settings, where in the file that is, with each key and each name as TOML writes a
+/// sentence of the refusal and, for a mistake in the settings or the services, where that is, with each key and each name as TOML writes a
 /// key. The only error is out of memory.
 pub fn detail_line(alloc: Global, given: &Given<'_>, fault: &Fault) -> Result<String, AllocError>
     ensures { IfOk result (λ line. spec.IsDetail (spec.names_of given.now) fault.now (string_bytes line)) }

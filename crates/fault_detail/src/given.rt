@@ -10,6 +10,8 @@ use plan_commands::{Fault, NamedFile};
 pub struct Given<'a> {
     /// The name of the settings file.
     pub settings: &'a str,
+    /// The name of the services file, if the command has one.
+    pub services: Option<&'a str>,
     /// The name of the file with the status text, if the command has one: else that is on standard input.
     pub status: Option<&'a str>,
     /// The names of the lost workers.
@@ -23,6 +25,7 @@ impl<'a> Given<'a> {
     {
         match fault {
             Fault::Settings(_) | Fault::File(NamedFile::Settings, _) => self.settings,
+            Fault::Services(_) | Fault::File(NamedFile::Services, _) => self.services_name(),
             Fault::Status(_) | Fault::File(NamedFile::Status, _) => self.status_name(),
             Fault::UnknownWorker(place) => self.lost_name(*place),
             Fault::WriteFault => "standard output",
@@ -30,6 +33,15 @@ impl<'a> Given<'a> {
             Fault::Report(_) | Fault::BadCommand(_) | Fault::TooLong | Fault::ReadFault => {
                 "standard input"
             }
+        }
+    }
+
+    fn services_name(&self) -> &'a str
+        ensures { result.now ≡ spec.services_name (spec.names_of self.now) }
+    {
+        match self.services {
+            Some(name) => name,
+            None => "the services file",
         }
     }
 

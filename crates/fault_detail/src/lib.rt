@@ -6,6 +6,7 @@ mod detail;
 mod given;
 mod sentence;
 mod wanted;
+mod wanted_services;
 
 pub use complaint::{Reader, complain, say, tell};
 pub use detail::detail_line;

@@ -1,8 +1,9 @@
 //! A fault in a sentence.
 
 use crate::wanted::wanted;
+use crate::wanted_services::wanted_of_services;
 use devices::InputError;
-use plan_commands::{Fault, Mistake};
+use plan_commands::{Fault, Mistake, ServicesMistake};
 use std::alloc::{AllocError, Global};
 
 /// What is wrong with the settings, what is wanted in its place, and what the file has there.
@@ -15,10 +16,19 @@ fn of_mistake(alloc: Global, mistake: &Mistake) -> Result<String, AllocError> {
     }
 }
 
+/// What is wrong with the services, and what is wanted in its place.
+fn of_services(alloc: Global, mistake: &ServicesMistake) -> Result<String, AllocError> {
+    match wanted_of_services(mistake) {
+        Some(words) => format!(in alloc; "{} ({words})", mistake.error),
+        None => format!(in alloc; "{}", mistake.error),
+    }
+}
+
 /// What is wrong, in a sentence. Refusals that have one of their own are displayed by it.
 pub fn sentence(alloc: Global, fault: &Fault) -> Result<String, AllocError> {
     match fault {
         Fault::Settings(mistake) => of_mistake(alloc, mistake),
+        Fault::Services(mistake) => of_services(alloc, mistake),
         Fault::UnknownWorker(_) => String::from_str(alloc, "the settings have no such worker"),
         Fault::Status(error) => format!(in alloc; "{error}"),
         Fault::Report(error) => format!(in alloc; "{error}"),
