@@ -1,8 +1,9 @@
 -- Commands by their files.
 use Rattle.std.specs.Prelude.{Option}
 use Rattle.std.proofs.Common.{◌≡◌, ℕ, List, inl, inr, refl}
-use Rattle.command_line.specs.Words.{Named, plan, size, check_size}
+use Rattle.command_line.specs.Words.{Named, plan, show_settings, size, check_size}
 use Rattle.devices.specs.Folder.{IsReadFile, Known}
+use Rattle.devices.specs.Whole.{IsUntouched}
 use Rattle.byte_io.specs.Sides.{Input, Meets, Met, Output}
 use Rattle.plan_commands.proofs.Posing.{meets_nothing, nothing_from}
 use Rattle.plan_commands.specs.Fault.{refused}
@@ -12,7 +13,7 @@ use Rattle.plan_commands.specs.declared.fault.Fault.{Fault}
 use Rattle.plan_commands.specs.Problem.{load_of}
 use Rattle.size_command.specs.CheckSizes.{ChecksSizeText}
 use Rattle.size_command.specs.Sizes.{Sizes}
-use Rattle.poolman.specs.Carrying.{CarriesOut, IsUnreadIn}
+use Rattle.poolman.specs.Carrying.{CarriesOut, IsUnreadIn, ShowsSettings}
 
 -- nothing was taken and nothing written
 pub unread : (file : List ℕ → Known) (command : Named) (side : Input) (out : Output) (fault : Fault) (exit : Exit)
@@ -36,3 +37,9 @@ pub size_checked : (file : List ℕ → Known) (s t : List ℕ) (level : Option 
     (old new : Output) (exit : Exit) → IsReadFile (file s) text → IsReadFile (file t) status_text
     → ChecksSizeText text level lost (load_of status_text) met old new exit → CarriesOut file (check_size s t level lost) met old new exit
 size_checked file s t level lost text status_text met old new exit read read_status checks = inl (text, status_text, read, read_status, checks)
+
+-- the files of `settings` were read or not, and nothing was taken
+pub shown : (file : List ℕ → Known) (s : List ℕ) (services : Option (List ℕ)) (met : Met) (old new : Output) (exit : Exit) → IsUntouched met
+    → ShowsSettings file s services old new exit → CarriesOut file (show_settings s services) met old new exit
+shown file s services met old new exit untouched (inl told) = inl (untouched, told)
+shown file s services met old new exit untouched (inr (fault, not_read, stops)) = inr (fault, not_read, untouched, stops)

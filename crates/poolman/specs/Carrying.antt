@@ -1,5 +1,5 @@
 -- What a command does, by the files that it names.
-use Rattle.std.specs.Prelude.{◌≡◌, ◌⊎◌, ℕ, List}
+use Rattle.std.specs.Prelude.{◌≡◌, ◌⊎◌, ℕ, List, None, Option, Some}
 use Rattle.command_line.specs.Words.{Named, plan, check, size, check_size, replay, show_settings, run}
 use Rattle.devices.specs.Folder.{IsReadFile, IsUnreadFile, Known}
 use Rattle.devices.specs.Whole.{IsUntouched}
@@ -13,9 +13,10 @@ use Rattle.plan_commands.specs.Problem.{load_of}
 use Rattle.plan_commands.specs.declared.ending.Exit.{Exit}
 use Rattle.plan_commands.specs.declared.fault.Fault.{Fault}
 use Rattle.plan_commands.specs.declared.fault.NamedFile.{NamedFile}
-use Rattle.plan_commands.specs.declared.fault.NamedFile.TheVariants.{Settings, Status}
+use Rattle.plan_commands.specs.declared.fault.NamedFile.TheVariants.{Services, Settings, Status}
 use Rattle.replay_command.specs.Replay.{Replays}
 use Rattle.run_command.specs.Run.{Supervises}
+use Rattle.settings_command.specs.FarmTold.{TellsFarm}
 use Rattle.settings_command.specs.Told.{TellsSettings}
 use Rattle.size_command.specs.CheckSizes.{ChecksSizeText}
 use Rattle.size_command.specs.Sizes.{Sizes}
@@ -24,21 +25,40 @@ use Rattle.size_command.specs.Sizes.{Sizes}
 abbrev pub IsUnreadBy : NamedFile → Known → Fault → Type 0
 IsUnreadBy name known fault = (e : InputError) × IsUnreadFile known e × (fault ≡ file_fault name e)
 
--- The settings file is not read whole, or it is and the status file is not.
-abbrev pub IsUnreadBoth : (List ℕ → Known) → List ℕ → List ℕ → Fault → Type 0
-IsUnreadBoth file s t fault =
+-- The settings file is not read whole, or it is and the other file is not.
+abbrev pub IsUnreadBoth : (List ℕ → Known) → List ℕ → NamedFile → List ℕ → Fault → Type 0
+IsUnreadBoth file s other t fault =
     IsUnreadBy Settings (file s) fault
-    ⊎ ((settings_text : List ℕ) × IsReadFile (file s) settings_text × IsUnreadBy Status (file t) fault)
+    ⊎ ((settings_text : List ℕ) × IsReadFile (file s) settings_text × IsUnreadBy other (file t) fault)
+
+-- the same of a settings file alone, or with a services file
+abbrev pub IsUnreadFarm : (List ℕ → Known) → List ℕ → Option (List ℕ) → Fault → Type 0
+IsUnreadFarm file s None fault = IsUnreadBy Settings (file s) fault
+IsUnreadFarm file s (Some v) fault = IsUnreadBoth file s Services v fault
 
 -- This keeps a file of the command from being read whole, and is the first that does: files are read in the order of the words.
 abbrev pub IsUnreadIn : (List ℕ → Known) → Named → Fault → Type 0
 IsUnreadIn file (plan s lost) fault = IsUnreadBy Settings (file s) fault
-IsUnreadIn file (check s t lost) fault = IsUnreadBoth file s t fault
+IsUnreadIn file (check s t lost) fault = IsUnreadBoth file s Status t fault
 IsUnreadIn file (size s level lost) fault = IsUnreadBy Settings (file s) fault
-IsUnreadIn file (check_size s t level lost) fault = IsUnreadBoth file s t fault
+IsUnreadIn file (check_size s t level lost) fault = IsUnreadBoth file s Status t fault
 IsUnreadIn file (replay s) fault = IsUnreadBy Settings (file s) fault
-IsUnreadIn file (show_settings s) fault = IsUnreadBy Settings (file s) fault
+IsUnreadIn file (show_settings s services) fault = IsUnreadFarm file s services fault
 IsUnreadIn file (run s rounds) fault = IsUnreadBy Settings (file s) fault
+
+-- The settings file was read, or both files were, and what they mean is written.
+abbrev pub TellsFiles : (List ℕ → Known) → List ℕ → Option (List ℕ) → Output → Output → Exit → Type 0
+TellsFiles file s None old new exit =
+    (settings_text : List ℕ) × IsReadFile (file s) settings_text × TellsSettings settings_text old new exit
+TellsFiles file s (Some v) old new exit =
+    (settings_text : List ℕ) × (services_text : List ℕ) × IsReadFile (file s) settings_text × IsReadFile (file v) services_text
+    × TellsFarm settings_text services_text old new exit
+
+-- The files of `settings` were read, and what they mean is written. Or one was not, and nothing is written.
+abbrev pub ShowsSettings : (List ℕ → Known) → List ℕ → Option (List ℕ) → Output → Output → Exit → Type 0
+ShowsSettings file s services old new exit =
+    TellsFiles file s services old new exit
+    ⊎ ((fault : Fault) × IsUnreadFarm file s services fault × Stops fault old new exit)
 
 -- The files of the command were read, and it does with their bytes what its call says. `settings` and a run take nothing from the
 -- input.
@@ -55,8 +75,7 @@ ActsOnFiles file (check_size s t level lost) met old new exit =
     × ChecksSizeText settings_text level lost (load_of status_text) met old new exit
 ActsOnFiles file (replay s) met old new exit =
     (settings_text : List ℕ) × IsReadFile (file s) settings_text × Replays settings_text met old new exit
-ActsOnFiles file (show_settings s) met old new exit =
-    (settings_text : List ℕ) × IsReadFile (file s) settings_text × IsUntouched met × TellsSettings settings_text old new exit
+ActsOnFiles file (show_settings s services) met old new exit = IsUntouched met × TellsFiles file s services old new exit
 ActsOnFiles file (run s rounds) met old new exit =
     (settings_text : List ℕ) × IsReadFile (file s) settings_text × IsUntouched met × Supervises settings_text rounds old new exit
 

@@ -27,13 +27,13 @@ pub record Streams : Type 0 where
 
 -- what a command is given, by its words
 abbrev pub names_in : Named → Names
-names_in (plan s lost) = record { settings = s; status = None; lost = lost }
-names_in (check s t lost) = record { settings = s; status = Some t; lost = lost }
-names_in (size s level lost) = record { settings = s; status = None; lost = lost }
-names_in (check_size s t level lost) = record { settings = s; status = Some t; lost = lost }
-names_in (replay s) = record { settings = s; status = None; lost = [] }
-names_in (show_settings s) = record { settings = s; status = None; lost = [] }
-names_in (run s rounds) = record { settings = s; status = None; lost = [] }
+names_in (plan s lost) = record { settings = s; services = None; status = None; lost = lost }
+names_in (check s t lost) = record { settings = s; services = None; status = Some t; lost = lost }
+names_in (size s level lost) = record { settings = s; services = None; status = None; lost = lost }
+names_in (check_size s t level lost) = record { settings = s; services = None; status = Some t; lost = lost }
+names_in (replay s) = record { settings = s; services = None; status = None; lost = [] }
+names_in (show_settings s services) = record { settings = s; services = services; status = None; lost = [] }
+names_in (run s rounds) = record { settings = s; services = None; status = None; lost = [] }
 
 -- Error output has what is said of the fault of a command, if there is one.
 abbrev pub TellsEnd : Reader → Named → Option Fault → Output → Output → Type 0

@@ -1,10 +1,10 @@
 //! A command, carried out on files and devices.
 
-ghost use Rattle.std.specs.Prelude.{◌-◌, ◌^◌, ◌<◌, IfErr, IfOk};
+ghost use Rattle.std.specs.Prelude.{◌-◌, ◌^◌, ◌<◌, IfErr, IfOk, option_map};
 ghost use Rattle.command_line.specs.Named.{named};
 ghost use Rattle.devices.specs.Folder.{IsReadFile};
 ghost use Rattle.byte_io.specs.Sides.{Meets, Met};
-ghost use Rattle.poolman.specs.Carrying.{CarriesOut, IsUnreadBoth, IsUnreadBy};
+ghost use Rattle.poolman.specs.Carrying.{CarriesOut, IsUnreadBoth, IsUnreadBy, ShowsSettings};
 
 use crate::lent::Lent;
 use byte_io::{Sink, Source};
@@ -13,13 +13,13 @@ use devices::{Folder, read_file};
 use plan_commands::{Exit, Fault, NamedFile, check_text, plan_text};
 use replay_command::run_commands;
 use run_command::{Host, run_rounds};
-use settings_command::settings_text;
+use settings_command::{farm_text, settings_text};
 use size_command::{Asked, check_size_text, size_of_texts};
 use std::alloc::Global;
 
 /// Carries out a command: reads its files, and then does what `plan_text`, `check_text`, `size_of_texts`, `check_size_text`,
-/// `run_commands`, `settings_text` or `run_rounds` says of them. A file that cannot be read is reported before any fault of a text, and
-/// nothing is taken from the source or written then. `settings` and a run take nothing from the source.
+/// `run_commands`, `settings_text`, `farm_text` or `run_rounds` says of them. A file that cannot be read is reported before any fault of a
+/// text, and nothing is taken from the source or written then. `settings` and a run take nothing from the source.
 pub fn carry_out<F: Folder, H: Host, R: Source, S: Sink>(
     lent: Lent<'_, F, H>,
     command: &Command<'_>,
@@ -41,7 +41,7 @@ pub fn carry_out<F: Folder, H: Host, R: Source, S: Sink>(
             settings,
             status,
             lost,
-        } => match read_both(lent, settings, status) {
+        } => match read_both(lent, settings, NamedFile::Status, status) {
             Ok((text, status)) => check_text(alloc, &text, &status, lost, source, sink),
             Err(fault) => Exit::refused(fault),
         },
@@ -49,10 +49,9 @@ pub fn carry_out<F: Folder, H: Host, R: Source, S: Sink>(
             Ok(text) => run_commands(alloc, &text, source, sink),
             Err(fault) => Exit::refused(fault),
         },
-        Command::Settings { settings } => match read_settings(lent, settings) {
-            Ok(text) => settings_text(alloc, &text, sink),
-            Err(fault) => Exit::refused(fault),
-        },
+        Command::Settings { settings, services } => {
+            show_settings(lent, settings, *services, sink)
+        }
         Command::Run { settings, rounds } => match read_settings(lent, settings) {
             Ok(text) => run_rounds(lent.host, alloc, &text, *rounds, sink),
             Err(fault) => Exit::refused(fault),
@@ -70,7 +69,7 @@ pub fn carry_out<F: Folder, H: Host, R: Source, S: Sink>(
             status,
             level,
             lost,
-        } => match read_both(lent, settings, status) {
+        } => match read_both(lent, settings, NamedFile::Status, status) {
             Ok((settings_text, status_text)) => {
                 let asked = Asked {
                     settings: &settings_text,
@@ -80,6 +79,29 @@ pub fn carry_out<F: Folder, H: Host, R: Source, S: Sink>(
                 };
                 check_size_text(alloc, asked, source, sink)
             }
+            Err(fault) => Exit::refused(fault),
+        },
+    }
+}
+
+/// Writes what the settings file means, or both files if there is one of services.
+fn show_settings<F: Folder, H, S: Sink>(
+    lent: Lent<'_, F, H>,
+    settings: &str,
+    services: Option<&str>,
+    sink: &mut S,
+) -> Exit
+    requires { (S.output sink.old).failures < 2 ^ 64 - 1 }
+    ensures shows { ShowsSettings (F.file lent.entry.files.now) settings.now (option_map (λ t. t.now) services)
+        (S.output sink.old) (S.output sink.new) result }
+{
+    match services {
+        None => match read_settings(lent, settings) {
+            Ok(text) => settings_text(lent.alloc, &text, sink),
+            Err(fault) => Exit::refused(fault),
+        },
+        Some(services) => match read_both(lent, settings, NamedFile::Services, services) {
+            Ok((text, services)) => farm_text(lent.alloc, &text, &services, sink),
             Err(fault) => Exit::refused(fault),
         },
     }
@@ -96,19 +118,20 @@ fn read_settings<F: Folder, H>(lent: Lent<'_, F, H>, name: &str) -> Result<Vec<u
     }
 }
 
-/// The bytes of the settings file and of the status file of these names, which are read one after the other.
+/// The bytes of the settings file and of another file, of these names, which are read one after the other.
 fn read_both<F: Folder, H>(
     lent: Lent<'_, F, H>,
     settings: &str,
-    status: &str,
+    file: NamedFile,
+    name: &str,
 ) -> Result<(Vec<u8>, Vec<u8>), Fault>
     ensures settings { IfOk result (λ texts. IsReadFile (F.file lent.entry.files.now settings.now) texts.0.items) }
-    ensures status { IfOk result (λ texts. IsReadFile (F.file lent.entry.files.now status.now) texts.1.items) }
-    ensures err { IfErr result (IsUnreadBoth (F.file lent.entry.files.now) settings.now status.now) }
+    ensures other { IfOk result (λ texts. IsReadFile (F.file lent.entry.files.now name.now) texts.1.items) }
+    ensures err { IfErr result (IsUnreadBoth (F.file lent.entry.files.now) settings.now file name.now) }
 {
     let settings_text = read_settings(lent, settings)?;
-    match read_file(lent.files, lent.alloc, status) {
-        Ok(status_text) => Ok((settings_text, status_text)),
-        Err(error) => Err(Fault::of_file(NamedFile::Status, error)),
+    match read_file(lent.files, lent.alloc, name) {
+        Ok(text) => Ok((settings_text, text)),
+        Err(error) => Err(Fault::of_file(file, error)),
     }
 }

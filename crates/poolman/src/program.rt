@@ -113,6 +113,7 @@ fn given_of<'a>(command: &'a Command<'a>) -> Given<'a>
     match command {
         Command::Plan { settings, lost } | Command::Size { settings, lost, .. } => Given {
             settings,
+            services: None,
             status: None,
             lost: lost.as_slice(),
         },
@@ -128,13 +129,19 @@ fn given_of<'a>(command: &'a Command<'a>) -> Given<'a>
             ..
         } => Given {
             settings,
+            services: None,
             status: Some(*status),
             lost: lost.as_slice(),
         },
-        Command::Replay { settings }
-        | Command::Settings { settings }
-        | Command::Run { settings, .. } => Given {
+        Command::Settings { settings, services } => Given {
             settings,
+            services: *services,
+            status: None,
+            lost: &[],
+        },
+        Command::Replay { settings } | Command::Run { settings, .. } => Given {
+            settings,
+            services: None,
             status: None,
             lost: &[],
         },

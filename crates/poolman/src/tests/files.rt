@@ -107,6 +107,7 @@ fn commands_read_their_files(rt: HostRuntime) {
     assert!(rt; does(&host, alloc, &replay, b"", b""));
     let told = Command::Settings {
         settings: "settings.toml",
+        services: None,
     };
     assert!(rt; does(&host, alloc, &told, b"", MEANING));
     let run = Command::Run {
@@ -135,6 +136,12 @@ fn files_that_are_not_there_are_told_first(rt: HostRuntime) -> Result<(), AllocE
             b""
         )
     );
+    let farm = Command::Settings {
+        settings: "settings.toml",
+        services: Some("none"),
+    };
+    let no_services = Exit::refused(Fault::File(NamedFile::Services, InputError::NoFile));
+    assert!(rt; carries_out(&host, alloc, &farm, b"", no_services, b""));
     let swapped = check(alloc, "status.txt", "settings.toml");
     let place = Place::Text { line: 1, column: 3 };
     let mut text = Mistake::new(alloc, SettingsError::Text, &place)?;

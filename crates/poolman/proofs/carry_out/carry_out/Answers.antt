@@ -9,7 +9,7 @@ use Rattle.plan_commands.specs.Problem.{load_of}
 use Rattle.size_command.specs.CheckSizes.{ChecksSizeText}
 use Rattle.size_command.specs.Sizes.{Sizes}
 use Rattle.poolman.specs.Carrying.{CarriesOut}
-use Rattle.poolman.proofs.Carried.{planned, sized, size_checked, unread}
+use Rattle.poolman.proofs.Carried.{planned, shown, sized, size_checked, unread}
 use Rattle.poolman.proofs.carry_out.carry_out.Goals as goal
 
 pub returns-in-Err : goal.returns-in-Err
@@ -45,7 +45,7 @@ returns-in-Ok-read_both g c =
           c.deref-in-Ok-read_both.result.now,
           c.deref-in-Ok-read_both-2.result.now,
           subst (IsReadFile (file c.in-Check.settings.now)) (sym c.deref-in-Ok-read_both.ensures.value) read.ensures.settings,
-          subst (IsReadFile (file c.in-Check.status.now)) (sym c.deref-in-Ok-read_both-2.ensures.value) read.ensures.status,
+          subst (IsReadFile (file c.in-Check.status.now)) (sym c.deref-in-Ok-read_both-2.ensures.value) read.ensures.other,
           told.2,
         )),
       );
@@ -82,11 +82,26 @@ returns-in-Ok g c =
       );
     }
 
+-- nothing was taken
+pub returns-in-Settings : goal.returns-in-Settings
+returns-in-Settings g c =
+    let side = g.R.Device.input c.args.source.now in
+    let file = g.F.Folder.file c.args.lent.files.now in
+    let old = g.S.Device.output c.args.sink.now in
+    let new = g.S.Device.output c.show_settings.new.sink in record {
+      carries_out = (
+        nothing_from side,
+        meets_nothing side,
+        rw c.in-Settings.is (shown file c.in-Settings.settings.now (option_map (λ t. t.now) c.in-Settings.services.now) (nothing_from side) old new
+        c.show_settings.result (refl, refl, refl) c.show_settings.ensures.shows),
+      );
+    }
+
 pub returns-in-Err-read_settings-2 : goal.returns-in-Err-read_settings-2
 returns-in-Err-read_settings-2 g c = record {
   carries_out = unread (g.F.Folder.file c.args.lent.files.now) (named c.args.command.now) (g.R.Device.input c.args.source.now)
       (g.S.Device.output c.args.sink.now) c.in-Err-read_settings-2.fault c.refused-in-Err-read_settings-2.result
-      c.refused-in-Err-read_settings-2.ensures (rw c.in-Settings.is c.in-Err-read_settings-2.ensures.err);
+      c.refused-in-Err-read_settings-2.ensures (rw c.in-Run.is c.in-Err-read_settings-2.ensures.err);
 }
 
 -- nothing was taken
@@ -96,12 +111,12 @@ returns-in-Ok-read_settings-2 g c =
       carries_out = (
         nothing_from side,
         meets_nothing side,
-        rw c.in-Settings.is (inl (
+        rw c.in-Run.is (inl (
           c.deref-in-Ok-read_settings-2.result.now,
-          subst (IsReadFile (g.F.Folder.file c.args.lent.files.now c.in-Settings.settings.now)) (sym c.deref-in-Ok-read_settings-2.ensures.value)
+          subst (IsReadFile (g.F.Folder.file c.args.lent.files.now c.in-Run.settings.now)) (sym c.deref-in-Ok-read_settings-2.ensures.value)
               c.in-Ok-read_settings-2.ensures.whole,
           (refl, refl, refl),
-          c.settings_text.ensures.tells,
+          c.run_rounds.ensures.supervises,
         )),
       );
     }
@@ -110,31 +125,7 @@ pub returns-in-Err-read_settings-3 : goal.returns-in-Err-read_settings-3
 returns-in-Err-read_settings-3 g c = record {
   carries_out = unread (g.F.Folder.file c.args.lent.files.now) (named c.args.command.now) (g.R.Device.input c.args.source.now)
       (g.S.Device.output c.args.sink.now) c.in-Err-read_settings-3.fault c.refused-in-Err-read_settings-3.result
-      c.refused-in-Err-read_settings-3.ensures (rw c.in-Run.is c.in-Err-read_settings-3.ensures.err);
-}
-
--- nothing was taken
-pub returns-in-Ok-read_settings-3 : goal.returns-in-Ok-read_settings-3
-returns-in-Ok-read_settings-3 g c =
-    let side = g.R.Device.input c.args.source.now in record {
-      carries_out = (
-        nothing_from side,
-        meets_nothing side,
-        rw c.in-Run.is (inl (
-          c.deref-in-Ok-read_settings-3.result.now,
-          subst (IsReadFile (g.F.Folder.file c.args.lent.files.now c.in-Run.settings.now)) (sym c.deref-in-Ok-read_settings-3.ensures.value)
-              c.in-Ok-read_settings-3.ensures.whole,
-          (refl, refl, refl),
-          c.run_rounds.ensures.supervises,
-        )),
-      );
-    }
-
-pub returns-in-Err-read_settings-4 : goal.returns-in-Err-read_settings-4
-returns-in-Err-read_settings-4 g c = record {
-  carries_out = unread (g.F.Folder.file c.args.lent.files.now) (named c.args.command.now) (g.R.Device.input c.args.source.now)
-      (g.S.Device.output c.args.sink.now) c.in-Err-read_settings-4.fault c.refused-in-Err-read_settings-4.result
-      c.refused-in-Err-read_settings-4.ensures (rw c.in-Size.is c.in-Err-read_settings-4.ensures.err);
+      c.refused-in-Err-read_settings-3.ensures (rw c.in-Size.is c.in-Err-read_settings-3.ensures.err);
 }
 
 pub returns-in-Err-read_both-2 : goal.returns-in-Err-read_both-2
@@ -144,21 +135,21 @@ returns-in-Err-read_both-2 g c = record {
       c.refused-in-Err-read_both-2.ensures (rw c.in-CheckSize.is c.in-Err-read_both-2.ensures.err);
 }
 
-pub returns-in-Ok-read_settings-4 : goal.returns-in-Ok-read_settings-4
-returns-in-Ok-read_settings-4 g c =
+pub returns-in-Ok-read_settings-3 : goal.returns-in-Ok-read_settings-3
+returns-in-Ok-read_settings-3 g c =
     let told = c.size_of_texts.ensures.sizes in
     let file = g.F.Folder.file c.args.lent.files.now in
     let old = g.S.Device.output c.args.sink.now in
     let new = g.S.Device.output c.size_of_texts.new.sink in
     let level = option_map non_zero_u32_get c.in-Size.level in
-    let read = subst (IsReadFile (file c.in-Size.settings.now)) (sym c.deref-in-Ok-read_settings-4.ensures.value) c.in-Ok-read_settings-4.ensures.whole in
-    let sizes = subst (λ lost. Sizes c.deref-in-Ok-read_settings-4.result.now (map (λ w. w.now) lost) level told.0 old new c.size_of_texts.result)
-    c.deref-in-Ok-read_settings-4-2.ensures.value told.2 in record {
+    let read = subst (IsReadFile (file c.in-Size.settings.now)) (sym c.deref-in-Ok-read_settings-3.ensures.value) c.in-Ok-read_settings-3.ensures.whole in
+    let sizes = subst (λ lost. Sizes c.deref-in-Ok-read_settings-3.result.now (map (λ w. w.now) lost) level told.0 old new c.size_of_texts.result)
+    c.deref-in-Ok-read_settings-3-2.ensures.value told.2 in record {
       carries_out = (
         told.0,
         told.1,
         subst (λ command. CarriesOut file (named command) told.0 old new c.size_of_texts.result) (sym c.in-Size.is)
-            (sized file c.in-Size.settings.now level (map (λ w. w.now) c.in-Size.lost.items) c.deref-in-Ok-read_settings-4.result.now told.0 old new
+            (sized file c.in-Size.settings.now level (map (λ w. w.now) c.in-Size.lost.items) c.deref-in-Ok-read_settings-3.result.now told.0 old new
             c.size_of_texts.result read sizes),
       );
     }
@@ -174,7 +165,7 @@ returns-in-Ok-read_both-2 g c =
     let text = c.deref-in-Ok-read_both-2-2.result.now in
     let status_text = c.deref-in-Ok-read_both-2-3.result.now in
     let of_settings = subst (IsReadFile (file c.in-CheckSize.settings.now)) (sym c.deref-in-Ok-read_both-2-2.ensures.value) read.ensures.settings in
-    let of_status = subst (IsReadFile (file c.in-CheckSize.status.now)) (sym c.deref-in-Ok-read_both-2-3.ensures.value) read.ensures.status in
+    let of_status = subst (IsReadFile (file c.in-CheckSize.status.now)) (sym c.deref-in-Ok-read_both-2-3.ensures.value) read.ensures.other in
     let checks = subst (λ lost. ChecksSizeText text level (map (λ w. w.now) lost) (load_of status_text) told.0 old new c.check_size_text.result)
     c.deref-in-Ok-read_both-2-4.ensures.value told.2 in record {
       carries_out = (
