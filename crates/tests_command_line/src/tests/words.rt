@@ -109,7 +109,12 @@ fn words_of_serve(rt: HostRuntime) {
     let unknown = Some((ErrorKind::UnknownArgument, 2));
     assert!(rt; usage_of(alloc, &["poolman", "serve", "s.toml", "v.toml", "w.toml"]) == unknown);
     assert!(rt; usage_of(alloc, &["poolman", "serve", "s.toml", "v.toml", "--until"]) == unknown);
-    assert!(rt; usage_of(alloc, &["poolman", "settings", "s.toml", "v.toml", "w.toml"]) == unknown);
+    assert!(rt;
+        usage_of(
+            alloc,
+            &["poolman", "settings", "s.toml", "v.toml", "w.toml"]
+        ) == unknown
+    );
 }
 
 #[test]

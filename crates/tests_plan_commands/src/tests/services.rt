@@ -86,7 +86,15 @@ fn services_beside_other_settings(rt: HostRuntime) {
 fn mistakes_with_their_places(rt: HostRuntime) {
     let alloc = rt.alloc();
     let text = ServicesPlace::At(Place::Text { line: 2, column: 6 });
-    assert!(rt; refuses(alloc, SETTINGS, b"version = 1\n[page\n", ServicesError::Text, text));
+    assert!(rt;
+        refuses(
+            alloc,
+            SETTINGS,
+            b"version = 1\n[page\n",
+            ServicesError::Text,
+            text
+        )
+    );
     let key = ServicesPlace::At(Place::Key("urls"));
     let unknown = b"version = 1\nurls = 1\n";
     assert!(rt; refuses(alloc, SETTINGS, unknown, ServicesError::UnknownKey, key));

@@ -96,7 +96,8 @@ fn farms_that_are_taken(rt: HostRuntime) {
 #[test]
 fn remarks_on_a_farm(rt: HostRuntime) {
     let alloc = rt.alloc();
-    let settings = b"version = 1\nhistory = 12\n[functions.resize]\n[machines.a]\nworkers = 1\nfunctions = [\"resize\"]\n";
+    let settings =
+        b"version = 1\nhistory = 12\n[functions.resize]\n[machines.a]\nworkers = 1\nfunctions = [\"resize\"]\n";
     let end = b"may a resize
 remark history 12 may leave 6 events between two attempts, and one job of each worker takes 7
 services version 1

@@ -93,7 +93,7 @@ returns-in-Settings g c =
         nothing_from side,
         meets_nothing side,
         rw c.in-Settings.is (shown file c.in-Settings.settings.now (option_map (λ t. t.now) c.in-Settings.services.now) (nothing_from side) old new
-        c.show_settings.result (refl, refl, refl) c.show_settings.ensures.shows),
+            c.show_settings.result (refl, refl, refl) c.show_settings.ensures.shows),
       );
     }
 
