@@ -1,5 +1,5 @@
 -- What attempts do with links, one after the other.
-use Rattle.std.proofs.Common.{◌≡◌, ◌+◌, ℕ, List, [], ◌∷◌, ◌++◌, Bool, true, false, length, map, refl, ap, sym, subst, ◌∙◌, arith, append_assoc, length-append, Option, Ok, Err}
+use Rattle.std.proofs.Common.{◌≡◌, ◌+◌, ℕ, List, [], ◌∷◌, ◌++◌, Bool, true, false, length, map, refl, inl, inr, ap, sym, subst, ◌∙◌, arith, append_assoc, length-append, Option, Ok, Err}
 use Rattle.std.specs.Prelude.{Result, IfErr}
 use Rattle.std.specs.List.{flat_map, AllByRecursion}
 use Rattle.std.proofs.lemmas.List.{append-nil, map-append}
@@ -13,44 +13,53 @@ use Rattle.pool_supervisor.specs.Asking.{Asks, IsNotTaken, Tells}
 use Rattle.job_runner.specs.Run.{Link}
 use Rattle.pool_supervisor.specs.Dials.{DialCall, closed, then_called}
 use Rattle.pool_supervisor.specs.Joined.{Joins}
-use Rattle.pool_supervisor.specs.Tries.{Look, dials_of, DialsOnce, FillsSlot, FillFrom, IsSeenAs, FillsOne, Fills, Try, calls_of, line_of, IsTry, Attempts, Dials}
+use Rattle.pool_supervisor.specs.Tries.{Rule, Look, dials_of, IsOneDial, DialsOnce, FillsSlot, FillFrom, IsSeenAs, FillsOne, Fills, Try, calls_of, line_of, IsTry, Attempts, Dials}
 use Rattle.pool_supervisor.proofs.Called.{called_none, called_both, flat_map_both}
 
 -- ---- slots
 
 -- a slot in which a worker was live, for which nothing was dialled
-pub fills_none : (settings : Settings) (slot : ℕ) (before : Option (List DialCall)) → IsSeenAs settings slot true → FillsOne settings slot before before
-fills_none settings slot before seen = record {
+pub fills_none : (settings : Settings) (allows : Rule) (slot : ℕ) (before : Option (List DialCall)) → IsSeenAs settings slot true → FillsOne settings allows slot before before
+fills_none settings allows slot before seen = record {
   look = record { state = seen.0; dials = [] };
   calls = sym (called_none before);
-  fills = (seen.1, subst (λ (b : Bool). DialsOnce b []) seen.2 refl);
+  fills = (seen.1, subst (λ (b : Bool). DialsOnce (allows slot) b []) seen.2 refl);
 }
 
--- an empty slot, for which one dial was made
-pub fills_once : (settings : Settings) (slot : ℕ) (before now : Option (List DialCall)) (dials : List DialCall) → DialsOnce false dials → IsSeenAs settings slot false → now ≡ then_called before dials
-    → FillsOne settings slot before now
-fills_once settings slot before now dials one seen calls = record {
+-- an empty slot that may not have a worker, for which nothing was dialled
+pub fills_denied : (settings : Settings) (allows : Rule) (slot : ℕ) (before : Option (List DialCall)) → allows slot false ≡ true → IsSeenAs settings slot false
+    → FillsOne settings allows slot before before
+fills_denied settings allows slot before denied seen = record {
+  look = record { state = seen.0; dials = [] };
+  calls = sym (called_none before);
+  fills = (seen.1, subst (λ (b : Bool). DialsOnce (allows slot) b []) seen.2 (inr (denied, refl)));
+}
+
+-- an empty slot that may have a worker, for which one dial was made
+pub fills_once : (settings : Settings) (allows : Rule) (slot : ℕ) (before now : Option (List DialCall)) (dials : List DialCall) → IsOneDial dials → allows slot true ≡ true → IsSeenAs settings slot false
+    → now ≡ then_called before dials → FillsOne settings allows slot before now
+fills_once settings allows slot before now dials one allowed seen calls = record {
   look = record { state = seen.0; dials = dials };
   calls = calls;
-  fills = (seen.1, subst (λ (b : Bool). DialsOnce b dials) seen.2 one);
+  fills = (seen.1, subst (λ (b : Bool). DialsOnce (allows slot) b dials) seen.2 (inl (allowed, one)));
 }
 
-fill_one_more : (settings : Settings) (first slot : ℕ) (looks : List Look) (look : Look) → slot ≡ first + length looks → FillFrom settings first looks → FillsSlot settings slot look
-    → FillFrom settings first (looks ++ look ∷ [])
-fill_one_more settings first slot [] look at all fills = (subst (λ (k : ℕ). FillsSlot settings k look) (omega (arith, at)) fills, tt)
-fill_one_more settings first slot (l ∷ looks) look at all fills = (all.0, fill_one_more settings (first + 1) slot looks look (omega (arith, at)) all.1 fills)
+fill_one_more : (settings : Settings) (allows : Rule) (first slot : ℕ) (looks : List Look) (look : Look) → slot ≡ first + length looks → FillFrom settings allows first looks
+    → FillsSlot settings allows slot look → FillFrom settings allows first (looks ++ look ∷ [])
+fill_one_more settings allows first slot [] look at all fills = (subst (λ (k : ℕ). FillsSlot settings allows k look) (omega (arith, at)) fills, tt)
+fill_one_more settings allows first slot (l ∷ looks) look at all fills = (all.0, fill_one_more settings allows (first + 1) slot looks look (omega (arith, at)) all.1 fills)
 
-pub no_slots : (settings : Settings) (before : Option (List DialCall)) → Fills settings 0 before before
-no_slots settings before = record { looks = []; calls = sym (called_none before); all = refl; each = tt }
+pub no_slots : (settings : Settings) (allows : Rule) (before : Option (List DialCall)) → Fills settings allows 0 before before
+no_slots settings allows before = record { looks = []; calls = sym (called_none before); all = refl; each = tt }
 
-pub one_slot_more : (settings : Settings) (count : ℕ) (before between now : Option (List DialCall)) → Fills settings count before between → FillsOne settings count between now
-    → Fills settings (count + 1) before now
-one_slot_more settings count before between now f one = record {
+pub one_slot_more : (settings : Settings) (allows : Rule) (count : ℕ) (before between now : Option (List DialCall)) → Fills settings allows count before between
+    → FillsOne settings allows count between now → Fills settings allows (count + 1) before now
+one_slot_more settings allows count before between now f one = record {
   looks = f.looks ++ one.look ∷ [];
   calls = called_both before between now (flat_map dials_of f.looks) one.look.dials f.calls one.calls
       ∙ ap (λ l. then_called before l) (ap (λ l. flat_map dials_of f.looks ++ l) (sym (append-nil one.look.dials)) ∙ sym (flat_map_both dials_of f.looks (one.look ∷ [])));
   all = omega (arith, length-append f.looks (one.look ∷ []), f.all);
-  each = fill_one_more settings 0 count f.looks one.look (omega (arith, f.all)) f.each one.fills;
+  each = fill_one_more settings allows 0 count f.looks one.look (omega (arith, f.all)) f.each one.fills;
 }
 
 -- ---- sessions
@@ -88,12 +97,12 @@ all_of_both : {A : Type 0} (P : A → Type 0) (xs ys : List A) → AllByRecursio
 all_of_both P [] ys all more = more
 all_of_both P (x ∷ xs) ys all more = (all.0, all_of_both P xs ys all.1 more)
 
-pub no_attempts : (settings : Settings) (lines : List Attempt) (before : Option (List DialCall)) → Attempts settings lines lines before before
-no_attempts settings lines before = record { tries = []; lines = sym (append-nil lines); calls = sym (called_none before); each = tt }
+pub no_attempts : (settings : Settings) (allows : Rule) (lines : List Attempt) (before : Option (List DialCall)) → Attempts settings allows lines lines before before
+no_attempts settings allows lines before = record { tries = []; lines = sym (append-nil lines); calls = sym (called_none before); each = tt }
 
-pub one_attempt : (settings : Settings) (lines : List Attempt) (line : Attempt) (before joined filled now : Option (List DialCall)) → Joins before joined → Fills settings (slots settings) joined filled
-    → Tells settings line filled now → Attempts settings lines (lines ++ line ∷ []) before now
-one_attempt settings lines line before joined filled now joins fills tells =
+pub one_attempt : (settings : Settings) (allows : Rule) (lines : List Attempt) (line : Attempt) (before joined filled now : Option (List DialCall)) → Joins before joined
+    → Fills settings allows (slots settings) joined filled → Tells settings line filled now → Attempts settings allows lines (lines ++ line ∷ []) before now
+one_attempt settings allows lines line before joined filled now joins fills tells =
     let try : Try = record { joined = joins.links; looks = fills.looks; asked = tells.asked; line = line } in
     let behind = called_both joined filled now (flat_map dials_of fills.looks) tells.asked fills.calls tells.calls in
     let all = called_both before joined now (map closed joins.links) (flat_map dials_of fills.looks ++ tells.asked) joins.calls behind in
@@ -105,15 +114,16 @@ one_attempt settings lines line before joined filled now joins fills tells =
     }
 
 -- the same attempts, behind other lines
-pub attempts_behind : (settings : Settings) (lines more : List Attempt) (before now : Option (List DialCall)) → Attempts settings [] more before now → Attempts settings lines (lines ++ more) before now
-attempts_behind settings lines more before now made = record { tries = made.tries; lines = ap (λ (l : List Attempt). lines ++ l) made.lines; calls = made.calls; each = made.each }
+pub attempts_behind : (settings : Settings) (allows : Rule) (lines more : List Attempt) (before now : Option (List DialCall)) → Attempts settings allows [] more before now
+    → Attempts settings allows lines (lines ++ more) before now
+attempts_behind settings allows lines more before now made = record { tries = made.tries; lines = ap (λ (l : List Attempt). lines ++ l) made.lines; calls = made.calls; each = made.each }
 
-pub more_attempts : (settings : Settings) (old mid new : List Attempt) (before between now : Option (List DialCall)) → Attempts settings old mid before between → Attempts settings mid new between now
-    → Attempts settings old new before now
-more_attempts settings old mid new before between now first then = record {
+pub more_attempts : (settings : Settings) (allows : Rule) (old mid new : List Attempt) (before between now : Option (List DialCall)) → Attempts settings allows old mid before between
+    → Attempts settings allows mid new between now → Attempts settings allows old new before now
+more_attempts settings allows old mid new before between now first then = record {
   tries = first.tries ++ then.tries;
   lines = then.lines ∙ (ap (λ (l : List Attempt). l ++ map line_of then.tries) first.lines ∙ (append_assoc old (map line_of first.tries) (map line_of then.tries) ∙ ap (λ (l : List Attempt). old ++ l) (sym (map-append line_of first.tries then.tries))));
   calls = called_both before between now (flat_map calls_of first.tries) (flat_map calls_of then.tries) first.calls then.calls
       ∙ ap (λ l. then_called before l) (sym (flat_map_both calls_of first.tries then.tries));
-  each = all_of_both (IsTry settings) first.tries then.tries first.each then.each;
+  each = all_of_both (IsTry settings allows) first.tries then.tries first.each then.each;
 }

@@ -1,11 +1,15 @@
 -- What the name of a run means.
-use Rattle.std.specs.Prelude.{[]}
+use Rattle.std.specs.Prelude.{[], ℕ, Bool, true}
 use Rattle.atomic_table.specs.Seated.{TableId}
 use Rattle.pool_settings.specs.Settings.{Settings}
 
 -- the name of no board
 abbrev pub no_board : TableId
 no_board = record { words = 0; slots = 0; views_name = 0; atom = 0; block = 0; offset = 0; slot_names = [] }
+
+-- anything may be said of the slots of no pool
+abbrev pub no_rule : ℕ → Bool → Bool
+no_rule slot may = true
 
 -- the settings of no pool
 abbrev pub no_settings : Settings

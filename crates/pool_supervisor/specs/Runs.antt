@@ -7,7 +7,7 @@ use Rattle.pool_supervisor.specs.declared.attempts.Until.{Until}
 use Rattle.pool_supervisor.specs.declared.attempts.Until.TheVariants.{Rounds, Told}
 use Rattle.pool_supervisor.specs.Dials.{DialCall}
 use Rattle.pool_supervisor.specs.Rounds.{TellRun}
-use Rattle.pool_supervisor.specs.Tries.{Dials}
+use Rattle.pool_supervisor.specs.Tries.{Dials, Rule}
 
 -- how many lines are kept
 abbrev pub most_kept : Until → ℕ
@@ -21,9 +21,9 @@ Keeps Told lines kept = ⊤
 
 -- Attempts were made, one after the other, and added these lines, of which some are kept. Then Stop was posted, and the sessions that were
 -- left were joined.
-pub record IsRun (settings : Settings) (until : Until) (old kept : List Attempt) (posts : List Post) (before now : Option (List DialCall)) :
-    Type 0 where
+pub record IsRun (settings : Settings) (allows : Rule) (until : Until) (old kept : List Attempt) (posts : List Post)
+    (before now : Option (List DialCall)) : Type 0 where
   pub lines : List Attempt
   pub keeps : Keeps until lines kept
   pub tells : TellRun settings old lines posts
-  pub dials : Dials settings old lines before now
+  pub dials : Dials settings allows old lines before now

@@ -20,36 +20,45 @@ pub record Look : Type 0 where
 abbrev pub dials_of : Look → List DialCall
 dials_of look = look.dials
 
--- one dial, opened or failed, unless a worker is live in the slot
-abbrev pub DialsOnce : Bool → List DialCall → Type 0
-DialsOnce true dials = dials ≡ []
-DialsOnce false dials = (dials ≡ opened ∷ []) ⊎ (dials ≡ failed ∷ [])
+-- whether it may be said of a slot that it may have a worker, or that it may not
+abbrev pub Rule : Type 0
+Rule = ℕ → Bool → Bool
 
--- the pool was in a state that a history leads to, and the slot was dialled for once if it was empty
-abbrev pub FillsSlot : Settings → ℕ → Look → Type 0
-FillsSlot settings slot look = IsReached settings look.state × DialsOnce (is_live (slot_in look.state.slots slot)) look.dials
+-- one dial, opened or failed
+abbrev pub IsOneDial : List DialCall → Type 0
+IsOneDial dials = (dials ≡ opened ∷ []) ⊎ (dials ≡ failed ∷ [])
+
+-- No dial if a worker is live in the slot, or if it may not have one. Else one dial.
+abbrev pub DialsOnce : (Bool → Bool) → Bool → List DialCall → Type 0
+DialsOnce allows true dials = dials ≡ []
+DialsOnce allows false dials = ((allows true ≡ true) × IsOneDial dials) ⊎ ((allows false ≡ true) × (dials ≡ []))
+
+-- the pool was in a state that a history leads to, and the slot was dialled for once if it was empty and might have a worker
+abbrev pub FillsSlot : Settings → Rule → ℕ → Look → Type 0
+FillsSlot settings allows slot look =
+    IsReached settings look.state × DialsOnce (allows slot) (is_live (slot_in look.state.slots slot)) look.dials
 
 -- the same of slots in order, of which the first has this number
-abbrev pub FillFrom : Settings → ℕ → List Look → Type 0
-FillFrom settings slot [] = ⊤
-FillFrom settings slot (look ∷ looks) = FillsSlot settings slot look × FillFrom settings (slot + 1) looks
+abbrev pub FillFrom : Settings → Rule → ℕ → List Look → Type 0
+FillFrom settings allows slot [] = ⊤
+FillFrom settings allows slot (look ∷ looks) = FillsSlot settings allows slot look × FillFrom settings allows (slot + 1) looks
 
 -- when the slot was looked at, a history had led to a state in which a worker was live in it, or not
 abbrev pub IsSeenAs : Settings → ℕ → Bool → Type 0
 IsSeenAs settings slot live = (state : State) × IsReached settings state × (live ≡ is_live (slot_in state.slots slot))
 
 -- one slot was looked at
-pub record FillsOne (settings : Settings) (slot : ℕ) (before now : Option (List DialCall)) : Type 0 where
+pub record FillsOne (settings : Settings) (allows : Rule) (slot : ℕ) (before now : Option (List DialCall)) : Type 0 where
   pub look : Look
   pub calls : now ≡ then_called before look.dials
-  pub fills : FillsSlot settings slot look
+  pub fills : FillsSlot settings allows slot look
 
 -- the slots up to this one were looked at, each once and in order
-pub record Fills (settings : Settings) (count : ℕ) (before now : Option (List DialCall)) : Type 0 where
+pub record Fills (settings : Settings) (allows : Rule) (count : ℕ) (before now : Option (List DialCall)) : Type 0 where
   pub looks : List Look
   pub calls : now ≡ then_called before (flat_map dials_of looks)
   pub all : length looks ≡ count
-  pub each : FillFrom settings 0 looks
+  pub each : FillFrom settings allows 0 looks
 
 -- An attempt: the links of the sessions that it joined, its looks at the slots, its calls for the load, and its line.
 pub record Try : Type 0 where
@@ -65,19 +74,23 @@ abbrev pub line_of : Try → Attempt
 line_of try = try.line
 
 -- Every slot was looked at, each once and in order, and the line follows from the calls for the load.
-abbrev pub IsTry : Settings → Try → Type 0
-IsTry settings try =
-    (length try.looks ≡ slots settings) × FillFrom settings 0 try.looks × Follows settings try.asked try.line
+abbrev pub IsTry : Settings → Rule → Try → Type 0
+IsTry settings allows try =
+    (length try.looks ≡ slots settings) × FillFrom settings allows 0 try.looks × Follows settings try.asked try.line
 
 -- attempts were made one after the other: their lines were added, and these calls were made
-pub record Attempts (settings : Settings) (old new : List Attempt) (before now : Option (List DialCall)) : Type 0 where
+pub record Attempts (settings : Settings) (allows : Rule) (old new : List Attempt) (before now : Option (List DialCall)) : Type 0 where
   pub tries : List Try
   pub lines : new ≡ old ++ map line_of tries
   pub calls : now ≡ then_called before (flat_map calls_of tries)
-  pub each : AllByRecursion (IsTry settings) tries
+  pub each : AllByRecursion (IsTry settings allows) tries
 
 -- What a run does with links: attempts, one after the other, and then the sessions that are left are joined.
-pub record Dials (settings : Settings) (old new : List Attempt) (before now : Option (List DialCall)) : Type 0 where
+pub record Dials (settings : Settings) (allows : Rule) (old new : List Attempt) (before now : Option (List DialCall)) : Type 0 where
   pub between : Option (List DialCall)
-  pub attempts : Attempts settings old new before between
+  pub attempts : Attempts settings allows old new before between
   pub last : Joins between now
+
+-- of each slot it is said that it may have a worker
+abbrev pub all_slots : Rule
+all_slots slot may = may

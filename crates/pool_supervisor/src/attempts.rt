@@ -61,7 +61,7 @@ pub struct Lines {
 
 /// The supervisor of a run: where its sessions are, the sessions, and what it alone has.
 #[derive(Drop)]
-pub struct Supervisor<'e, N: RunId, L: Source + Sink, Y, P, J, C, R> {
+pub struct Supervisor<'e, N: RunId, L: Source + Sink, Y, P, J: JobSource, C, R> {
     /// Where the sessions are.
     pub site: Site<'e, N, J, C, R>,
     /// What makes links to the job server.
@@ -77,6 +77,8 @@ pub struct Supervisor<'e, N: RunId, L: Source + Sink, Y, P, J, C, R> {
     /// The seats are at the run's board.
     pub ghost can_post: { seats.publisher.board ≡ N.board },
     pub ghost can_seat: { seats.source.board ≡ N.board },
+    /// Which slots may have a worker is for the run's source to say.
+    pub ghost rule: { J.allows site.lent.jobs.now ≡ N.allows },
 }
 
 impl<'e, N: RunId, J, C: Watch, R: Wait> Site<'e, N, J, C, R> {
@@ -166,8 +168,8 @@ impl<
         site.start(scope, &mut self.crew, berth, link, worker)
     }
 
-    /// Dials for the slot if it is empty, and starts a session if there is a link, room and a worker. The error is that a thread could
-    /// not be started.
+    /// Dials for the slot if it is empty and may have a worker, and starts a session if there is a link, room and a worker. The error is
+    /// that a thread could not be started.
     fn start_one<'s>(&mut self, scope: &Scope<'s, &'e ()>, slot: SlotId) -> Result<(), AllocError>
     where
         'e: 's,
@@ -175,9 +177,12 @@ impl<
         L: 's,
         requires slot { slot < slot_count N.settings }
         ensures posts { self.new.seats.publisher ≡ self.old.seats.publisher }
-        ensures fills { FillsOne N.settings slot (Y.calls self.old.dial) (Y.calls self.new.dial) }
+        ensures fills { FillsOne N.settings N.allows slot (Y.calls self.old.dial) (Y.calls self.new.dial) }
     {
         if !self.site.is_empty(slot) {
+            return Ok(());
+        }
+        if !self.site.lent.jobs.may_start(slot) {
             return Ok(());
         }
         match self.dial.dial() {
@@ -186,8 +191,8 @@ impl<
         }
     }
 
-    /// Dials for each empty slot once, in order, and starts a session in it if there is a link, room and a worker, whatever became of the
-    /// others. The error is that a thread could not be started.
+    /// Dials for each empty slot that may have a worker, once and in order, and starts a session in it if there is a link, room and a
+    /// worker, whatever became of the others. The error is that a thread could not be started.
     fn start_all<'s>(&mut self, scope: &Scope<'s, &'e ()>) -> Result<(), AllocError>
     where
         'e: 's,
@@ -195,7 +200,7 @@ impl<
         L: 's,
         ensures posts { self.new.seats.publisher ≡ self.old.seats.publisher }
         ensures fills { OnOk result
-            (Fills N.settings (slot_count N.settings) (Y.calls self.old.dial) (Y.calls self.new.dial)) }
+            (Fills N.settings N.allows (slot_count N.settings) (Y.calls self.old.dial) (Y.calls self.new.dial)) }
     {
         for number in 0..self.site.run.settings.slots() {
             self.start_one(scope, SlotId::new(number))?;
@@ -239,7 +244,7 @@ impl<
         ensures posts { IfOk result
             (λ line. Posts N.settings line self.old.seats.publisher.posts self.new.seats.publisher.posts) }
         ensures calls { IfOk result
-            (λ line. Attempts N.settings [] (line ∷ []) (Y.calls self.old.dial) (Y.calls self.new.dial)) }
+            (λ line. Attempts N.settings N.allows [] (line ∷ []) (Y.calls self.old.dial) (Y.calls self.new.dial)) }
     {
         let site = self.site;
         self.crew
@@ -280,7 +285,7 @@ impl<
         ensures lines { OnOk result (vec_len lines.new.told ≡ rounds) }
         ensures posts { OnOk result (PostSince N.settings lines.old.told.items lines.new.told.items
             self.old.seats.publisher.posts self.new.seats.publisher.posts) }
-        ensures calls { OnOk result (Attempts N.settings lines.old.told.items lines.new.told.items
+        ensures calls { OnOk result (Attempts N.settings N.allows lines.old.told.items lines.new.told.items
             (Y.calls self.old.dial) (Y.calls self.new.dial)) }
     {
         let site = self.site;
@@ -305,7 +310,7 @@ impl<
         L: 's,
         ensures attempts { OnOk result ((lines : List Attempt)
             × PostSince N.settings [] lines self.old.seats.publisher.posts self.new.seats.publisher.posts
-            × Attempts N.settings [] lines (Y.calls self.old.dial) (Y.calls self.new.dial)) }
+            × Attempts N.settings N.allows [] lines (Y.calls self.old.dial) (Y.calls self.new.dial)) }
     {
         let site = self.site;
         let mut number = 0u32;
@@ -332,7 +337,7 @@ impl<
         L: 's,
         ensures attempts { OnOk result ((all : List Attempt) × Keeps lines.old.until all lines.new.told.items
             × PostAndStop N.settings lines.old.told.items all self.old.seats.publisher.posts self.new.seats.publisher.posts
-            × Attempts N.settings lines.old.told.items all (Y.calls self.old.dial) (Y.calls self.new.dial)) }
+            × Attempts N.settings N.allows lines.old.told.items all (Y.calls self.old.dial) (Y.calls self.new.dial)) }
     {
         let attempted = match lines.until {
             Until::Rounds(rounds) => self.attempt_all(scope, rounds, lines),
@@ -352,7 +357,7 @@ impl<
         'e: 's,
         N: 's,
         L: 's,
-        ensures runs { IfOk result (λ ended. IsRun N.settings lines.until lines.told.items ended.0.lines.items
+        ensures runs { IfOk result (λ ended. IsRun N.settings N.allows lines.until lines.told.items ended.0.lines.items
             self.entry.seats.publisher.posts (Y.calls self.entry.dial) (Y.calls ended.1)) }
         ensures counts { IfOk result (λ ended. CountAHistory N.settings ended.0.totals) }
     {
@@ -375,7 +380,7 @@ impl<
 
     /// The run, with its sessions as threads of one scope. All that they are lent has one lifetime. What dials is handed back.
     pub fn run(self, lines: Lines) -> Result<(RunEnd, Y), AllocError>
-        ensures runs { IfOk result (λ ended. IsRun N.settings lines.until lines.told.items ended.0.lines.items
+        ensures runs { IfOk result (λ ended. IsRun N.settings N.allows lines.until lines.told.items ended.0.lines.items
             self.entry.seats.publisher.posts (Y.calls self.entry.dial) (Y.calls ended.1)) }
         ensures counts { IfOk result (λ ended. CountAHistory N.settings ended.0.totals) }
     {
@@ -383,7 +388,7 @@ impl<
             thread::scope_env(),
             self.site.lent.rt,
             |scope| -> Result<(RunEnd, Y), AllocError>
-                ensures runs { IfOk result (λ ended. IsRun N.settings lines.until lines.told.items ended.0.lines.items
+                ensures runs { IfOk result (λ ended. IsRun N.settings N.allows lines.until lines.told.items ended.0.lines.items
                     self.entry.seats.publisher.posts (Y.calls self.entry.dial) (Y.calls ended.1)) }
                 ensures counts { IfOk result (λ ended. CountAHistory N.settings ended.0.totals) }
             { self.supervise(scope, lines) },

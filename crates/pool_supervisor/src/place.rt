@@ -11,10 +11,10 @@ use std::marker::{Brand, PhantomData};
 use std::sync::ledger::Ledger;
 use worker_state::WorkerName;
 
-/// The name of a run: its board, the settings of its pool, and the ledgers of its grabs and of its reports. Each call of a program picks
-/// it, so that what a thread hands back is known to be of its own run.
+/// The name of a run: its board, the settings of its pool, which slots its source allows, and the ledgers of its grabs and of its
+/// reports. Each call of a program picks it, so that what a thread hands back is known to be of its own run.
 pub trait RunId {
-    ghost use Rattle.std.specs.Prelude.{ℕ};
+    ghost use Rattle.std.specs.Prelude.{ℕ, Bool};
     ghost use Rattle.atomic_table.specs.Seated.{TableId};
     ghost use Rattle.pool_settings.specs.Settings.{Settings};
 
@@ -22,17 +22,21 @@ pub trait RunId {
 
     ghost settings: { Settings };
 
+    ghost allows: { ℕ → Bool → Bool };
+
     ghost grabs: { ℕ };
 
     ghost reports: { ℕ };
 }
 
 impl RunId for Brand {
-    ghost use Rattle.pool_supervisor.specs.Boards.{no_board, no_settings};
+    ghost use Rattle.pool_supervisor.specs.Boards.{no_board, no_settings, no_rule};
 
     ghost board = { no_board };
 
     ghost settings = { no_settings };
+
+    ghost allows = { no_rule };
 
     ghost grabs = { 0 };
 

@@ -8,6 +8,7 @@ use crate::asking::ask_for_load;
 use crate::attempt::{Attempt, PoolRefusal};
 use crate::attempts::Supervisor;
 use crate::dial::Dial;
+use crate::jobs::JobSource;
 use crate::place::RunId;
 use crate::planner::Planner;
 use crate::queue::longest_queue;
@@ -48,16 +49,16 @@ fn give_load<N: RunId, J, C, R: Wait>(
     }
 }
 
-impl<'e, N: RunId, L: Source + Sink + Drop, Y: Dial<L>, P: Planner, J, C, R: Wait> Supervisor<
+impl<
     'e,
-    N,
-    L,
-    Y,
-    P,
-    J,
+    N: RunId,
+    L: Source + Sink + Drop,
+    Y: Dial<L>,
+    P: Planner,
+    J: JobSource,
     C,
-    R,
-> {
+    R: Wait,
+> Supervisor<'e, N, L, Y, P, J, C, R> {
     /// Asks the server for its load, and gives it to the pool. The error is the line of an attempt that has no load to plan for.
     pub fn take_load(&mut self) -> Result<(), Attempt>
         ensures ok { OnOk result (Given N.settings (Y.calls self.old.dial) (Y.calls self.new.dial)) }

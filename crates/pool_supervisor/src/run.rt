@@ -6,7 +6,7 @@ ghost use Rattle.pool_supervisor.specs.Counted.{CountAHistory};
 ghost use Rattle.pool_supervisor.specs.JobCounts.{answered};
 ghost use Rattle.pool_supervisor.specs.Rounds.{TellRun};
 ghost use Rattle.pool_supervisor.specs.Runs.{IsRun};
-ghost use Rattle.pool_supervisor.specs.Tries.{Dials};
+ghost use Rattle.pool_supervisor.specs.Tries.{Dials, all_slots};
 
 use crate::attempt::Attempt;
 use crate::attempts::{Lines, Seats, Supervisor, Until};
@@ -104,7 +104,8 @@ impl<'e, L: Source + Sink + Send + Drop, Y: Dial<L> + Drop, P: Planner> Tools<'e
         requires settings { (self.settings.now ≡ N.settings) × (made.pool.settings ≡ N.settings) }
         requires grabbed { (grabbed.name ≡ N.grabs) × (grabbed.parts ≡ 2 ^ 40) }
         requires reported { (reported.name ≡ N.reports) × (reported.parts ≡ 2 ^ 40) }
-        ensures runs { IfOk result (λ ended. IsRun made.pool.settings made.lines.until [] ended.0.lines.items []
+        requires rule { J.allows lent.jobs.now ≡ N.allows }
+        ensures runs { IfOk result (λ ended. IsRun made.pool.settings N.allows made.lines.until [] ended.0.lines.items []
             (Y.calls self.entry.dial) (Y.calls ended.1)) }
         ensures counts { IfOk result (λ ended. CountAHistory made.pool.settings ended.0.totals) }
     {
@@ -148,7 +149,7 @@ impl<'e, L: Source + Sink + Send + Drop, Y: Dial<L> + Drop, P: Planner> Tools<'e
         lent: Lent<'e, J, C, R>,
         until: Until,
     ) -> Result<(RunEnd, Y), AllocError>
-        ensures runs { IfOk result (λ e. IsRun self.entry.settings.now until [] e.0.lines.items []
+        ensures runs { IfOk result (λ e. IsRun self.entry.settings.now (J.allows lent.entry.jobs.now) until [] e.0.lines.items []
             (Y.calls self.entry.dial) (Y.calls e.1)) }
         ensures counts { IfOk result (λ e. CountAHistory self.entry.settings.now e.0.totals) }
     {
@@ -214,7 +215,7 @@ pub fn run_sessions<
     ensures lines { IfOk result (λ e. vec_len e.0.lines ≡ rounds) }
     ensures told { IfOk result (λ e. TellRun settings [] e.0.lines.items []) }
     ensures counts { IfOk result (λ e. CountAHistory settings e.0.totals) }
-    ensures dials { IfOk result (λ e. Dials settings [] e.0.lines.items (Y.calls dial) (Y.calls e.1)) }
+    ensures dials { IfOk result (λ e. Dials settings (S.allows lent.entry.jobs.now) [] e.0.lines.items (Y.calls dial) (Y.calls e.1)) }
 {
     let tools: Tools<'_, L, Y, P> = Tools {
         settings: &settings,
@@ -240,7 +241,7 @@ pub fn run_until_told<
     settings: Settings,
 ) -> Result<(RunEnd, Y), AllocError>
     ensures attempts { IfOk result (λ e. (lines : List Attempt) × TellRun settings [] lines []
-        × Dials settings [] lines (Y.calls dial) (Y.calls e.1)) }
+        × Dials settings (S.allows lent.entry.jobs.now) [] lines (Y.calls dial) (Y.calls e.1)) }
     ensures counts { IfOk result (λ e. CountAHistory settings e.0.totals) }
 {
     let tools: Tools<'_, L, Y, P> = Tools {
@@ -273,7 +274,7 @@ pub fn run_pool<
     ensures lines { IfOk result (λ e. vec_len e.0.lines ≡ rounds) }
     ensures told { IfOk result (λ e. TellRun settings [] e.0.lines.items []) }
     ensures counts { IfOk result (λ e. CountAHistory settings e.0.totals) }
-    ensures dials { IfOk result (λ e. Dials settings [] e.0.lines.items (Y.calls dial) (Y.calls e.1)) }
+    ensures dials { IfOk result (λ e. Dials settings all_slots [] e.0.lines.items (Y.calls dial) (Y.calls e.1)) }
 {
     let tools: Tools<'_, L, Y, P> = Tools {
         settings: &settings,

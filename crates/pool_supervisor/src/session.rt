@@ -1,5 +1,5 @@
 //! One session over the shared pool, and what it hands back.
-ghost use Rattle.std.specs.Prelude.{◌≡◌, ◌-◌, ◌<◌, ◌^◌, ℕ, List};
+ghost use Rattle.std.specs.Prelude.{◌≡◌, ◌⊎◌, ◌-◌, ◌<◌, ◌^◌, ℕ, List};
 ghost use Rattle.byte_io.specs.Sides.{and_then};
 ghost use Rattle.job_runner.specs.Book.{Ledger};
 ghost use Rattle.job_runner.specs.Loop.{duty_of};
@@ -8,6 +8,7 @@ ghost use Rattle.job_runner.specs.Run.{EndTold, Served};
 ghost use Rattle.job_runner.specs.Told.{Telling};
 ghost use Rattle.pool_settings.specs.Slots.{slots};
 ghost use Rattle.pool_supervisor.specs.JobCounts.{answered};
+ghost use Rattle.pool_supervisor.specs.Sessions.{turned_away};
 
 use crate::job_counts::JobCounts;
 use crate::jobs::JobSource;
@@ -15,11 +16,12 @@ use crate::place::{Grabs, Place, Reports, RunBoard, RunId};
 use crate::port::{SharedPort, Watch};
 use crate::shared::Shared;
 use byte_io::{Sink, Source};
-use job_runner::{SessionEnd, Workplace, serve_worker};
+use job_runner::{EndCause, SessionEnd, Workplace, serve_worker};
 use pool_core::Pass;
 use std::alloc::{AllocError, Global};
 use std::sync::Wait;
 use std::sync::ledger::Share;
+use worker_state::Cause;
 
 /// What a run is lent by its caller for its sessions.
 pub struct Lent<'e, J, C, R> {
@@ -124,22 +126,20 @@ pub struct Returned<N: RunId> {
     pub ghost ends_counted: { answered jobs ≡ end.reported },
 }
 
-/// A worker's session over the shared pool, to its end, with the jobs that the source gives it. It promises of what it reads and writes
-/// what [`serve_worker`] does. The shares begin at 0 and come back at the counts of its end, so the pool has booked just what the session
-/// reports.
-pub fn run_worker<N: RunId, L: Source + Sink, J: JobSource, C: Watch, R: Wait>(
+/// A worker's session over the shared pool, to its end, with these jobs. The shares begin at 0 and come back at the counts of its end.
+fn run_jobs<N: RunId, L: Source + Sink, J: JobSource, C: Watch, R: Wait>(
     site: &Site<'_, N, J, C, R>,
     link: &mut L,
     papers: Papers<N>,
+    jobs: J::Jobs,
 ) -> Returned<N>
     requires slot { papers.worker.pass.slot < slots site.now.run.settings.now }
     requires output { (L.output link.old).failures < 2 ^ 64 - 1 }
     requires input { (L.input link.old).failures < 2 ^ 64 - 1 }
-    ensures served { (read bytes : List ℕ) × (told : List Telling) × (book : Ledger) × (first last : J.Jobs)
-        × J.gives site.now.lent.jobs.now papers.worker.pass first
+    ensures served { (read bytes : List ℕ) × (told : List Telling) × (book : Ledger) × (last : J.Jobs)
         × ((L.input link.new).given ≡ and_then (L.input link.old).given read)
         × ((L.output link.new).got ≡ and_then (L.output link.old).got bytes)
-        × EndTold J.Jobs.tells J.Jobs.fails first last result.end.cause told
+        × EndTold J.Jobs.tells J.Jobs.fails jobs last result.end.cause told
         × Served (session_of (duty_of site.now.run.settings.now papers.worker.pass) (L.output link.old).got read) told bytes
         (record { input = L.input link.old; output = L.output link.old })
         (record { input = L.input link.new; output = L.output link.new })
@@ -154,7 +154,7 @@ pub fn run_worker<N: RunId, L: Source + Sink, J: JobSource, C: Watch, R: Wait>(
         rt,
         alloc,
         watch,
-        jobs,
+        ..
     } = site.lent;
     let RunBoard {
         board,
@@ -163,7 +163,7 @@ pub fn run_worker<N: RunId, L: Source + Sink, J: JobSource, C: Watch, R: Wait>(
     } = site.run;
     let shares = (grabbed, reported);
     let mut port = SharedPort::new(rt, site.shared, watch, board, place, shares);
-    let mut jobs = jobs.jobs_of(pass.name());
+    let mut jobs = jobs;
     let place = Workplace {
         alloc,
         settings,
@@ -178,5 +178,57 @@ pub fn run_worker<N: RunId, L: Source + Sink, J: JobSource, C: Watch, R: Wait>(
         place,
         grabbed,
         reported,
+    }
+}
+
+/// Ends a session before it begins. Its worker is lost as unserved.
+fn turn_away<N: RunId, J, C, R: Wait>(site: &Site<'_, N, J, C, R>, papers: Papers<N>) -> Returned<N>
+    ensures end { result.end ≡ turned_away }
+{
+    let Papers {
+        worker: Enrolled { pass, place },
+        grabbed,
+        reported,
+    } = papers;
+    let _ = site.shared.hold(site.lent.rt).lose(pass, Cause::Unserved);
+    Returned {
+        end: SessionEnd {
+            cause: EndCause::Unserved,
+            grabbed: 0,
+            answered: 0,
+            reported: 0,
+        },
+        jobs: JobCounts::none(),
+        place,
+        grabbed,
+        reported,
+    }
+}
+
+/// A worker's session over the shared pool, to its end, with the jobs that the source gives it. It promises of what it reads and writes
+/// what [`serve_worker`] does. If the source gives it none, it ends as `Unserved` before it begins, and nothing is read or written. The
+/// shares begin at 0 and come back at the counts of its end, so the pool has booked just what the session reports.
+pub fn run_worker<N: RunId, L: Source + Sink, J: JobSource, C: Watch, R: Wait>(
+    site: &Site<'_, N, J, C, R>,
+    link: &mut L,
+    papers: Papers<N>,
+) -> Returned<N>
+    requires slot { papers.worker.pass.slot < slots site.now.run.settings.now }
+    requires output { (L.output link.old).failures < 2 ^ 64 - 1 }
+    requires input { (L.input link.old).failures < 2 ^ 64 - 1 }
+    ensures served { (J.denies site.now.lent.jobs.now papers.worker.pass × (link.new ≡ link.old) × (result.end ≡ turned_away))
+        ⊎ ((read bytes : List ℕ) × (told : List Telling) × (book : Ledger) × (first last : J.Jobs)
+        × J.gives site.now.lent.jobs.now papers.worker.pass first
+        × ((L.input link.new).given ≡ and_then (L.input link.old).given read)
+        × ((L.output link.new).got ≡ and_then (L.output link.old).got bytes)
+        × EndTold J.Jobs.tells J.Jobs.fails first last result.end.cause told
+        × Served (session_of (duty_of site.now.run.settings.now papers.worker.pass) (L.output link.old).got read) told bytes
+        (record { input = L.input link.old; output = L.output link.old })
+        (record { input = L.input link.new; output = L.output link.new })
+        book result.end) }
+{
+    match site.lent.jobs.jobs_of(papers.worker.pass.name()) {
+        Some(jobs) => run_jobs(site, link, papers, jobs),
+        None => turn_away(site, papers),
     }
 }

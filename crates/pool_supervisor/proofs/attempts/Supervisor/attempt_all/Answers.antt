@@ -10,7 +10,7 @@ pub loop-site-init : goal.loop-site-init
 loop-site-init g c = (
   since_none g.N.RunId.settings c.args.lines.now.told.items c.args.self.now.seats.publisher.posts,
   refl,
-  no_attempts g.N.RunId.settings c.args.lines.now.told.items (g.Y.Dial.calls c.args.self.now.dial),
+  no_attempts g.N.RunId.settings g.N.RunId.allows c.args.lines.now.told.items (g.Y.Dial.calls c.args.self.now.dial),
 )
 
 pub loop-site-preserved : goal.loop-site-preserved
@@ -28,9 +28,9 @@ loop-site-preserved g c =
     let calls = g.Y.Dial.calls c.attempt.new.self.dial in
     let posts = since_both settings first now more before between after c.loop-site.invariant.0
     (since_one settings now line between after c.in_ok-line.ensures.posts) in
-    let made = more_attempts settings first now more called calling calls c.loop-site.invariant.2
-    (attempts_behind settings now (line ∷ []) calling calls c.in_ok-line.ensures.calls) in (
+    let made = more_attempts settings g.N.RunId.allows first now more called calling calls c.loop-site.invariant.2
+    (attempts_behind settings g.N.RunId.allows now (line ∷ []) calling calls c.in_ok-line.ensures.calls) in (
       subst (λ (l : List Attempt). PostSince settings first l before after) (sym c.push_reserved.ensures.items) posts,
       c.loop-site.invariant.1,
-      subst (λ (l : List Attempt). Attempts settings first l called calls) (sym c.push_reserved.ensures.items) made,
+      subst (λ (l : List Attempt). Attempts settings g.N.RunId.allows first l called calls) (sym c.push_reserved.ensures.items) made,
     )

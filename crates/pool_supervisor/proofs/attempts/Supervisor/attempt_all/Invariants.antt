@@ -7,7 +7,7 @@ abbrev pub invariant-loop-site : goal.invariant-loop-site
 invariant-loop-site g l =
     PostSince g.N.RunId.settings l.initial.lines.told.items l.lines.told.items l.initial.self.seats.publisher.posts l.self.seats.publisher.posts
     × (l.lines.until ≡ l.initial.lines.until)
-    × Attempts g.N.RunId.settings l.initial.lines.told.items l.lines.told.items (g.Y.Dial.calls l.initial.self.dial) (g.Y.Dial.calls l.self.dial)
+    × Attempts g.N.RunId.settings g.N.RunId.allows l.initial.lines.told.items l.lines.told.items (g.Y.Dial.calls l.initial.self.dial) (g.Y.Dial.calls l.self.dial)
 
 abbrev pub decreases-loop-site : goal.decreases-loop-site
 decreases-loop-site g l = l.rounds - vec_len l.lines.told

@@ -7,7 +7,7 @@ pub loop-attempt-init : goal.loop-attempt-init
 loop-attempt-init g c = (
   [],
   since_none g.N.RunId.settings [] c.args.self.now.seats.publisher.posts,
-  no_attempts g.N.RunId.settings [] (g.Y.Dial.calls c.args.self.now.dial),
+  no_attempts g.N.RunId.settings g.N.RunId.allows [] (g.Y.Dial.calls c.args.self.now.dial),
 )
 
 pub loop-attempt-preserved : goal.loop-attempt-preserved
@@ -24,5 +24,5 @@ loop-attempt-preserved g c =
     let calls = g.Y.Dial.calls c.attempt.new.self.dial in (
       more,
       since_both settings [] so_far.0 more before between after so_far.1 (since_one settings so_far.0 line between after c.in_ok-attempt.ensures.posts),
-      more_attempts settings [] so_far.0 more called calling calls so_far.2 (attempts_behind settings so_far.0 (line ∷ []) calling calls c.in_ok-attempt.ensures.calls),
+      more_attempts settings g.N.RunId.allows [] so_far.0 more called calling calls so_far.2 (attempts_behind settings g.N.RunId.allows so_far.0 (line ∷ []) calling calls c.in_ok-attempt.ensures.calls),
     )

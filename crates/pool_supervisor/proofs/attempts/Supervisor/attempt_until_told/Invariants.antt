@@ -7,4 +7,4 @@ use Rattle.pool_supervisor.proofs.attempts.Supervisor.attempt_until_told.Given a
 abbrev pub invariant-loop-attempt : goal.invariant-loop-attempt
 invariant-loop-attempt g l =
     (lines : List Attempt) × PostSince g.N.RunId.settings [] lines l.initial.self.seats.publisher.posts l.self.seats.publisher.posts
-    × Attempts g.N.RunId.settings [] lines (g.Y.Dial.calls l.initial.self.dial) (g.Y.Dial.calls l.self.dial)
+    × Attempts g.N.RunId.settings g.N.RunId.allows [] lines (g.Y.Dial.calls l.initial.self.dial) (g.Y.Dial.calls l.self.dial)

@@ -25,12 +25,12 @@ returns-clause-runs g c =
     let called = g.Y.Dial.calls c.args.self.dial in
     let posts = c.args.made.seats.publisher.posts in
     let from_first =
-    subst (λ (l : List Attempt). IfOk c.run.result (λ e. IsRun settings until l e.0.lines.items posts called (g.Y.Dial.calls e.1))) c.args.made.none_told c.run.ensures.runs
+    subst (λ (l : List Attempt). IfOk c.run.result (λ e. IsRun settings g.N.RunId.allows until l e.0.lines.items posts called (g.Y.Dial.calls e.1))) c.args.made.none_told c.run.ensures.runs
     in
     let from_empty =
-    subst (λ (p : List Post). IfOk c.run.result (λ e. IsRun settings until [] e.0.lines.items p called (g.Y.Dial.calls e.1))) c.args.made.none_posted from_first
+    subst (λ (p : List Post). IfOk c.run.result (λ e. IsRun settings g.N.RunId.allows until [] e.0.lines.items p called (g.Y.Dial.calls e.1))) c.args.made.none_posted from_first
     in
-    subst (λ (s : Settings). IfOk c.run.result (λ e. IsRun s until [] e.0.lines.items [] called (g.Y.Dial.calls e.1))) (sym c.requires.settings.1) from_empty
+    subst (λ (s : Settings). IfOk c.run.result (λ e. IsRun s g.N.RunId.allows until [] e.0.lines.items [] called (g.Y.Dial.calls e.1))) (sym c.requires.settings.1) from_empty
 
 pub returns-clause-counts : goal.returns-clause-counts
 returns-clause-counts g c =

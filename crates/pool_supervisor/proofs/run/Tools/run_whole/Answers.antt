@@ -11,9 +11,9 @@ returns-clause-runs g c =
     let called = g.Y.Dial.calls c.args.self.dial in
     let made = c.in_ok-made.made in
     let of_settings =
-    subst (λ (s : Settings). IfOk c.run-ran.result (λ e. IsRun s made.lines.until [] e.0.lines.items [] called (g.Y.Dial.calls e.1))) c.in_ok-made.ensures.settings c.run-ran.ensures.runs
+    subst (λ (s : Settings). IfOk c.run-ran.result (λ e. IsRun s (g.J.JobSource.allows c.args.lent.jobs.now) made.lines.until [] e.0.lines.items [] called (g.Y.Dial.calls e.1))) c.in_ok-made.ensures.settings c.run-ran.ensures.runs
     in
-    subst (λ (u : Until). IfOk c.run-ran.result (λ e. IsRun c.args.self.settings.now u [] e.0.lines.items [] called (g.Y.Dial.calls e.1))) c.in_ok-made.ensures.until of_settings
+    subst (λ (u : Until). IfOk c.run-ran.result (λ e. IsRun c.args.self.settings.now (g.J.JobSource.allows c.args.lent.jobs.now) u [] e.0.lines.items [] called (g.Y.Dial.calls e.1))) c.in_ok-made.ensures.until of_settings
 
 pub returns-clause-counts : goal.returns-clause-counts
 returns-clause-counts g c =
