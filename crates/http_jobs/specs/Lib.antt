@@ -1,4 +1,5 @@
 pub mod Values
+pub mod Service
 pub mod Clock
 pub mod Request
 pub mod Response

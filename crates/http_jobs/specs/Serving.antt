@@ -67,6 +67,14 @@ stands input output quiet kept calls shown = record {
   shown = shown;
 }
 
+-- A connection was kept, and nothing was done. Or one was dialled for: a new one is kept, or none.
+abbrev pub IsOpened : Standing → Standing → Bool → Type 0
+IsOpened old new true =
+    ((new ≡ old) × (old.kept ≢ None)) ⊎ ((link : Link) × IsNew link × (old.kept ≡ None) × (new.kept ≡ Some link)
+    × (new.calls ≡ then_called old.calls (opened ∷ [])) × (new.shown ≡ old.shown))
+IsOpened old new false =
+    (old.kept ≡ None) × (new.kept ≡ None) × (new.calls ≡ then_called old.calls (failed ∷ [])) × (new.shown ≡ old.shown)
+
 -- closing the kept connection, if there is one
 abbrev pub closings : Option Link → List DialCall
 closings None = []

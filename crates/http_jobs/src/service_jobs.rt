@@ -5,8 +5,8 @@ ghost use Rattle.gear_packets.specs.Reading.{job_of};
 ghost use Rattle.job_runner.specs.Told.{told_of};
 ghost use Rattle.std.specs.Option.{option_map};
 ghost use Rattle.job_runner.specs.Run.{seen_link};
-ghost use Rattle.http_jobs.specs.Serving.{DialCall, IsNew, Leaves, NotServed, Opens, Reuses, Tells, closed, closings, deadline_from};
-ghost use Rattle.http_jobs.specs.Serving.{dialled, failed, kept_failures, stands, then_called};
+ghost use Rattle.http_jobs.specs.Serving.{DialCall, IsNew, IsOpened, Leaves, NotServed, Opens, Reuses, Tells, closed, closings};
+ghost use Rattle.http_jobs.specs.Serving.{deadline_from, dialled, failed, kept_failures, stands, then_called};
 ghost use Rattle.http_jobs.specs.Clock.{shown_then};
 
 use crate::clock::Clock;
@@ -82,6 +82,31 @@ impl<L: Source + Sink + Look + Drop, D: Dial<L>, C: Clock> ServiceJobs<L, D, C> 
             timeout_ms,
             kept: None,
         }
+    }
+
+    /// Gives the jobs that come so many milliseconds each.
+    pub fn set_timeout(&mut self, timeout_ms: u64)
+        ensures timeout { self.new.timeout_ms ≡ timeout_ms }
+        ensures service { self.new.service ≡ self.old.service }
+        ensures dial { self.new.dial ≡ self.old.dial }
+        ensures clock { self.new.clock ≡ self.old.clock }
+        ensures kept { self.new.kept ≡ self.old.kept }
+    {
+        self.timeout_ms = timeout_ms;
+    }
+
+    /// Opens a connection, if none is kept. Whether one is kept then.
+    pub fn open(&mut self) -> bool
+        ensures opens { IsOpened (stands L.input L.output L.quiet self.old.kept (D.calls self.old.dial) (C.shown self.old.clock))
+            (stands L.input L.output L.quiet self.new.kept (D.calls self.new.dial) (C.shown self.new.clock)) result }
+        ensures service { self.new.service ≡ self.old.service }
+        ensures timeout { self.new.timeout_ms ≡ self.old.timeout_ms }
+    {
+        if self.kept.is_some() {
+            return true;
+        }
+        self.kept = self.dial.dial(None);
+        self.kept.is_some()
     }
 
     /// Closes a connection.

@@ -11,18 +11,18 @@ use std::time::Duration;
 
 /// The system's monotonic clock.
 #[derive(Clone, Copy, Drop)]
-pub struct SystemClock<'r, R> {
-    rt: &'r R,
+pub struct SystemClock<R> {
+    rt: R,
 }
 
-impl<'r, R: time::Clock> SystemClock<'r, R> {
+impl<R: time::Clock> SystemClock<R> {
     /// The clock of this runtime.
-    pub fn new(rt: &'r R) -> SystemClock<'r, R> {
+    pub fn new(rt: R) -> SystemClock<R> {
         SystemClock { rt }
     }
 }
 
-impl<'r, R: time::Clock> Clock for SystemClock<'r, R> {
+impl<R: time::Clock> Clock for SystemClock<R> {
     ghost use Rattle.std.specs.Prelude.{None};
 
     ghost shown = { λ _. None };
@@ -54,30 +54,30 @@ pub struct CallTimes {
 
 /// Opens connections to a service over TCP.
 #[derive(Drop)]
-pub struct TcpDial<'r, R> {
-    rt: &'r R,
+pub struct TcpDial<R> {
+    rt: R,
     /// Where it is, as `10.0.0.5:8000`.
     host: String,
     times: CallTimes,
 }
 
-impl<'r, R: Net<Stream = TcpStream> + time::Clock> TcpDial<'r, R> {
+impl<R: Net<Stream = TcpStream> + time::Clock> TcpDial<R> {
     /// What opens connections to this host, `NAME:PORT` or `ADDRESS:PORT`. A name is looked up at each dial, for as long as the system
     /// takes.
-    pub fn new(rt: &'r R, host: String, times: CallTimes) -> TcpDial<'r, R> {
+    pub fn new(rt: R, host: String, times: CallTimes) -> TcpDial<R> {
         TcpDial { rt, host, times }
     }
 
     /// By when a connection has to be there that is dialled now, or none if the time is not known.
     fn end_of_dial(&self, deadline: Option<u64>) -> Option<u64> {
-        let now = SystemClock::new(self.rt).now_ms()?;
+        let now = SystemClock::new(&self.rt).now_ms()?;
         let end = now.saturating_add(self.times.connect_ms as u64);
         Some(deadline.map_or(end, |deadline| end.min(deadline)))
     }
 
     /// How long the next address may be tried, or none if the time is up.
     fn time_left(&self, end: Option<u64>) -> Option<Duration> {
-        match (end, SystemClock::new(self.rt).now_ms()) {
+        match (end, SystemClock::new(&self.rt).now_ms()) {
             (Some(end), Some(now)) if end <= now => None,
             (Some(end), Some(now)) => Some(Duration::from_millis(end - now)),
             _ => Some(Duration::from_millis(self.times.connect_ms as u64)),
@@ -86,17 +86,17 @@ impl<'r, R: Net<Stream = TcpStream> + time::Clock> TcpDial<'r, R> {
 }
 
 /// Each address of the host is tried in turn.
-impl<'r, R: Net<Stream = TcpStream> + time::Clock> Dial<TcpLink> for TcpDial<'r, R> {
+impl<R: Net<Stream = TcpStream> + time::Clock> Dial<TcpLink> for TcpDial<R> {
     ghost use Rattle.std.specs.Prelude.{◌≡◌, None};
 
     ghost calls = { λ _. None };
 
     fn dial(&mut self, deadline: Option<u64>) -> Option<TcpLink> {
-        let addresses = self.host.as_str().to_socket_addrs(self.rt).ok()?;
+        let addresses = self.host.as_str().to_socket_addrs(&self.rt).ok()?;
         let end = self.end_of_dial(deadline);
         for address in addresses {
             let left = self.time_left(end)?;
-            if let Ok(stream) = TcpStream::connect_timeout(self.rt, &address, left) {
+            if let Ok(stream) = TcpStream::connect_timeout(&self.rt, &address, left) {
                 return TcpLink::new(stream, self.times.read_ms).ok();
             }
         }
