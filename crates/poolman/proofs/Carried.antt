@@ -1,7 +1,7 @@
 -- Commands by their files.
 use Rattle.std.specs.Prelude.{Option}
-use Rattle.std.proofs.Common.{◌≡◌, ℕ, List, inl, inr, refl}
-use Rattle.command_line.specs.Words.{Named, plan, show_settings, size, check_size}
+use Rattle.std.proofs.Common.{◌≡◌, ℕ, Bool, List, inl, inr, refl}
+use Rattle.command_line.specs.Words.{Named, plan, serve, show_settings, size, check_size}
 use Rattle.devices.specs.Folder.{IsReadFile, Known}
 use Rattle.devices.specs.Whole.{IsUntouched}
 use Rattle.byte_io.specs.Sides.{Input, Meets, Met, Output}
@@ -13,7 +13,7 @@ use Rattle.plan_commands.specs.declared.fault.Fault.{Fault}
 use Rattle.plan_commands.specs.Problem.{load_of}
 use Rattle.size_command.specs.CheckSizes.{ChecksSizeText}
 use Rattle.size_command.specs.Sizes.{Sizes}
-use Rattle.poolman.specs.Carrying.{CarriesOut, IsUnreadIn, ShowsSettings}
+use Rattle.poolman.specs.Carrying.{CarriesOut, IsUnreadIn, ServesFiles, ShowsSettings}
 
 -- nothing was taken and nothing written
 pub unread : (file : List ℕ → Known) (command : Named) (side : Input) (out : Output) (fault : Fault) (exit : Exit)
@@ -43,3 +43,9 @@ pub shown : (file : List ℕ → Known) (s : List ℕ) (services : Option (List 
     → ShowsSettings file s services old new exit → CarriesOut file (show_settings s services) met old new exit
 shown file s services met old new exit untouched (inl told) = inl (untouched, told)
 shown file s services met old new exit untouched (inr (fault, not_read, stops)) = inr (fault, not_read, untouched, stops)
+
+-- the files of a farm were read or not, and nothing was taken or written
+pub served : (file : List ℕ → Known) (s v : List ℕ) (until_input : Bool) (met : Met) (out : Output) (exit : Exit) → IsUntouched met
+    → ServesFiles file s v exit → CarriesOut file (serve s v until_input) met out out exit
+served file s v until_input met out exit untouched (inl runs) = inl (untouched, refl, runs)
+served file s v until_input met out exit untouched (inr (fault, not_read, ends)) = inr (fault, not_read, untouched, (refl, ends))

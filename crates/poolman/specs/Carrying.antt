@@ -1,13 +1,13 @@
 -- What a command does, by the files that it names.
 use Rattle.std.specs.Prelude.{◌≡◌, ◌⊎◌, ℕ, List, None, Option, Some}
-use Rattle.command_line.specs.Words.{Named, plan, check, size, check_size, replay, show_settings, run}
+use Rattle.command_line.specs.Words.{Named, plan, check, size, check_size, replay, show_settings, run, serve}
 use Rattle.devices.specs.Folder.{IsReadFile, IsUnreadFile, Known}
 use Rattle.devices.specs.Whole.{IsUntouched}
 use Rattle.devices.specs.declared.error.InputError.{InputError}
 use Rattle.byte_io.specs.Sides.{Met, Output}
 use Rattle.plan_commands.specs.Check.{ChecksText}
 use Rattle.plan_commands.specs.Ending.{Stops}
-use Rattle.plan_commands.specs.Fault.{file_fault}
+use Rattle.plan_commands.specs.Fault.{file_fault, refused}
 use Rattle.plan_commands.specs.Plan.{Plans}
 use Rattle.plan_commands.specs.Problem.{load_of}
 use Rattle.plan_commands.specs.declared.ending.Exit.{Exit}
@@ -16,6 +16,7 @@ use Rattle.plan_commands.specs.declared.fault.NamedFile.{NamedFile}
 use Rattle.plan_commands.specs.declared.fault.NamedFile.TheVariants.{Services, Settings, Status}
 use Rattle.replay_command.specs.Replay.{Replays}
 use Rattle.run_command.specs.Run.{Supervises}
+use Rattle.serve_command.specs.Serving.{Serves}
 use Rattle.settings_command.specs.FarmTold.{TellsFarm}
 use Rattle.settings_command.specs.Told.{TellsSettings}
 use Rattle.size_command.specs.CheckSizes.{ChecksSizeText}
@@ -45,6 +46,7 @@ IsUnreadIn file (check_size s t level lost) fault = IsUnreadBoth file s Status t
 IsUnreadIn file (replay s) fault = IsUnreadBy Settings (file s) fault
 IsUnreadIn file (show_settings s services) fault = IsUnreadFarm file s services fault
 IsUnreadIn file (run s rounds) fault = IsUnreadBy Settings (file s) fault
+IsUnreadIn file (serve s v until_input) fault = IsUnreadBoth file s Services v fault
 
 -- The settings file was read, or both files were, and what they mean is written.
 abbrev pub TellsFiles : (List ℕ → Known) → List ℕ → Option (List ℕ) → Output → Output → Exit → Type 0
@@ -60,7 +62,17 @@ ShowsSettings file s services old new exit =
     TellsFiles file s services old new exit
     ⊎ ((fault : Fault) × IsUnreadFarm file s services fault × Stops fault old new exit)
 
--- The files of the command were read, and it does with their bytes what its call says. `settings` and a run take nothing from the
+-- The files of a farm were read, and it is run as their bytes say.
+abbrev pub RunsFarm : (List ℕ → Known) → List ℕ → List ℕ → Exit → Type 0
+RunsFarm file s v exit =
+    (settings_text : List ℕ) × (services_text : List ℕ) × IsReadFile (file s) settings_text × IsReadFile (file v) services_text
+    × Serves settings_text services_text exit
+
+-- The files of a farm were read, and it is run. Or one was not.
+abbrev pub ServesFiles : (List ℕ → Known) → List ℕ → List ℕ → Exit → Type 0
+ServesFiles file s v exit = RunsFarm file s v exit ⊎ ((fault : Fault) × IsUnreadBoth file s Services v fault × (exit ≡ refused fault))
+
+-- The files of the command were read, and it does with their bytes what its call says. `settings`, a run and a farm take nothing from the
 -- input.
 abbrev pub ActsOnFiles : (List ℕ → Known) → Named → Met → Output → Output → Exit → Type 0
 ActsOnFiles file (plan s lost) met old new exit =
@@ -78,6 +90,7 @@ ActsOnFiles file (replay s) met old new exit =
 ActsOnFiles file (show_settings s services) met old new exit = IsUntouched met × TellsFiles file s services old new exit
 ActsOnFiles file (run s rounds) met old new exit =
     (settings_text : List ℕ) × IsReadFile (file s) settings_text × IsUntouched met × Supervises settings_text rounds old new exit
+ActsOnFiles file (serve s v until_input) met old new exit = IsUntouched met × (new ≡ old) × RunsFarm file s v exit
 
 -- The command ran. Or one of its files was not read, and nothing is taken from the input and nothing written.
 abbrev pub CarriesOut : (List ℕ → Known) → Named → Met → Output → Output → Exit → Type 0

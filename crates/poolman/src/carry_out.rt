@@ -4,7 +4,7 @@ ghost use Rattle.std.specs.Prelude.{◌-◌, ◌^◌, ◌<◌, IfErr, IfOk, opti
 ghost use Rattle.command_line.specs.Named.{named};
 ghost use Rattle.devices.specs.Folder.{IsReadFile};
 ghost use Rattle.byte_io.specs.Sides.{Meets, Met};
-ghost use Rattle.poolman.specs.Carrying.{CarriesOut, IsUnreadBoth, IsUnreadBy, ShowsSettings};
+ghost use Rattle.poolman.specs.Carrying.{CarriesOut, IsUnreadBoth, IsUnreadBy, ServesFiles, ShowsSettings};
 
 use crate::lent::Lent;
 use byte_io::{Sink, Source};
@@ -12,15 +12,17 @@ use command_line::Command;
 use devices::{Folder, read_file};
 use plan_commands::{Exit, Fault, NamedFile, check_text, plan_text};
 use replay_command::run_commands;
-use run_command::{Host, run_rounds};
+use run_command::run_rounds;
+use serve_command::{FarmHost, FarmTexts, serve_farm};
 use settings_command::{farm_text, settings_text};
 use size_command::{Asked, check_size_text, size_of_texts};
 use std::alloc::Global;
 
 /// Carries out a command: reads its files, and then does what `plan_text`, `check_text`, `size_of_texts`, `check_size_text`,
-/// `run_commands`, `settings_text`, `farm_text` or `run_rounds` says of them. A file that cannot be read is reported before any fault of a
-/// text, and nothing is taken from the source or written then. `settings` and a run take nothing from the source.
-pub fn carry_out<F: Folder, H: Host, R: Source, S: Sink>(
+/// `run_commands`, `settings_text`, `farm_text`, `run_rounds` or `serve_farm` says of them. A file that cannot be read is reported before
+/// any fault of a text, and nothing is taken from the source or written then. `settings`, a run and a farm take nothing from the source.
+/// A farm writes nothing to the sink: its host is told its lines.
+pub fn carry_out<F: Folder, H: FarmHost, R: Source, S: Sink>(
     lent: Lent<'_, F, H>,
     command: &Command<'_>,
     source: &mut R,
@@ -56,6 +58,11 @@ pub fn carry_out<F: Folder, H: Host, R: Source, S: Sink>(
             Ok(text) => run_rounds(lent.host, alloc, &text, *rounds, sink),
             Err(fault) => Exit::refused(fault),
         },
+        Command::Serve {
+            settings,
+            services,
+            until_input: _until_input,
+        } => serve(lent, settings, services),
         Command::Size {
             settings,
             level,
@@ -92,7 +99,7 @@ fn show_settings<F: Folder, H, S: Sink>(
     sink: &mut S,
 ) -> Exit
     requires { (S.output sink.old).failures < 2 ^ 64 - 1 }
-    ensures shows { ShowsSettings (F.file lent.entry.files.now) settings.now (option_map (λ t. t.now) services)
+    ensures shows { ShowsSettings (F.file lent.entry.files.now) settings.now (option_map (λ t. t.now) services.entry)
         (S.output sink.old) (S.output sink.new) result }
 {
     match services {
@@ -104,6 +111,22 @@ fn show_settings<F: Folder, H, S: Sink>(
             Ok((text, services)) => farm_text(lent.alloc, &text, &services, sink),
             Err(fault) => Exit::refused(fault),
         },
+    }
+}
+
+/// Runs the farm of these files.
+fn serve<F: Folder, H: FarmHost>(lent: Lent<'_, F, H>, settings: &str, services: &str) -> Exit
+    ensures serves { ServesFiles (F.file lent.entry.files.now) settings.now services.now result }
+{
+    match read_both(lent, settings, NamedFile::Services, services) {
+        Ok((settings, services)) => {
+            let texts = FarmTexts {
+                settings: &settings,
+                services: &services,
+            };
+            serve_farm(lent.host, lent.alloc, texts)
+        }
+        Err(fault) => Exit::refused(fault),
     }
 }
 

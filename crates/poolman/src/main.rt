@@ -1,18 +1,25 @@
-//! `poolman`: plans of a pool of Gearman workers, each shown to be best, and runs of such a pool.
+//! `poolman`: plans of a pool of Gearman workers, each shown to be best, runs of such a pool, and farms of services that do its jobs.
 #![tactic(auto)]
 
 mod carry_out;
 mod lent;
 mod program;
 
+use command_line::{Command, command_of};
 use devices::{InputSource, OutputSink};
-use fault_detail::Reader;
+use fault_detail::{Reader, complain};
 use lent::Lent;
+use plan_commands::Fault;
 use program::program;
-use run_command::System;
+use serve_command::{Edges, FarmSystem, end_with_input, write_lines};
+use std::alloc::{AllocError, Global};
 use std::fs::{File, OpenOptions};
 use std::process::ExitCode;
-use std::{env, fs, io};
+use std::sync::Arc;
+use std::{env, fs, io, thread};
+
+/// For how many milliseconds at most the end of a farm waits for whoever reads its lines.
+const LAST_LINES_MS: u32 = 5_000;
 
 /// The words of the command line, the program's name first.
 fn words(rt: &HostRuntime) -> io::Result<Vec<String>> {
@@ -45,6 +52,47 @@ fn hold_if_closed(rt: &HostRuntime, stream: &str, options: &OpenOptions) -> Opti
     }
 }
 
+/// Which threads a farm has at its edges.
+#[derive(Clone, Copy, Debug, PartialEq, Eq)]
+enum EdgeThreads {
+    /// None: the words ask for no farm.
+    None,
+    /// One that writes its lines.
+    Lines,
+    /// That, and one that reads standard input for its end.
+    LinesAndInput,
+}
+
+/// The threads that the words ask for.
+fn edge_threads(alloc: Global, words: &io::Result<Vec<String>>) -> EdgeThreads {
+    let Ok(words) = words else {
+        return EdgeThreads::None;
+    };
+    match command_of(alloc, words) {
+        Ok(Command::Serve { until_input, .. }) if until_input => EdgeThreads::LinesAndInput,
+        Ok(Command::Serve { .. }) => EdgeThreads::Lines,
+        _ => EdgeThreads::None,
+    }
+}
+
+/// What a farm shares with the threads at its edges, once for itself and once for each of them.
+fn edges_of(alloc: Global) -> Result<(Arc<Edges>, Arc<Edges>, Arc<Edges>), AllocError> {
+    let edges = Arc::new(alloc, Edges::new(alloc))?;
+    let of_lines = Arc::try_clone(&edges)?;
+    let of_input = Arc::try_clone(&edges)?;
+    Ok((edges, of_lines, of_input))
+}
+
+/// Prints that memory, or a thread, was refused.
+fn end_lacking(rt: &HostRuntime) -> ExitCode {
+    complain(
+        rt.alloc(),
+        &Fault::Memory,
+        &mut OutputSink::new(rt.stderr()),
+    );
+    ExitCode::from(Fault::Memory.status())
+}
+
 fn main(rt: HostRuntime) -> ExitCode {
     let mut for_writing = OpenOptions::new();
     for_writing.write(true);
@@ -53,19 +101,47 @@ fn main(rt: HostRuntime) -> ExitCode {
     let _input = hold_if_closed(&rt, "/proc/self/fd/0", &for_writing);
     let _output = hold_if_closed(&rt, "/proc/self/fd/1", &for_reading);
     let _errors = hold_if_closed(&rt, "/proc/self/fd/2", &for_reading);
+    let words = words(&rt);
+    let threads = edge_threads(rt.alloc(), &words);
+    let Ok((edges, of_lines, of_input)) = edges_of(rt.alloc()) else {
+        return end_lacking(&rt);
+    };
+    // Nobody joins these two: a read of standard input may never return, and neither may a write.
+    if threads != EdgeThreads::None
+        && thread::spawn(
+            &rt,
+            move || write_lines(&rt, &of_lines.lines, &mut io::writer(&rt)),
+        )
+        .is_err()
+    {
+        return end_lacking(&rt);
+    }
+    if threads == EdgeThreads::LinesAndInput
+        && thread::spawn(
+            &rt,
+            move || end_with_input(&rt, &mut rt.reader(), &of_input.end),
+        )
+        .is_err()
+    {
+        return end_lacking(&rt);
+    }
     let lent = Lent {
         files: &rt,
-        host: &System::new(&rt),
+        host: &FarmSystem::new(&rt, &edges),
         alloc: rt.alloc(),
         reader: reader_of(&rt),
     };
-    ExitCode::from(program(
+    let status = program(
         lent,
-        words(&rt),
+        words,
         &mut InputSource::new(rt.reader()),
         &mut OutputSink::new(io::writer(&rt)),
         &mut OutputSink::new(rt.stderr()),
-    ))
+    );
+    if threads != EdgeThreads::None {
+        edges.lines.close(&rt, LAST_LINES_MS);
+    }
+    ExitCode::from(status)
 }
 
 #[cfg(test)]

@@ -14,7 +14,7 @@ use command_line::{Command, CommandError, command_of};
 use devices::Folder;
 use fault_detail::{Given, complain, say, tell};
 use plan_commands::{Exit, Fault};
-use run_command::Host;
+use serve_command::FarmHost;
 use std::alloc::Global;
 use std::io;
 use std::io::ErrorKind;
@@ -25,13 +25,13 @@ const USAGE: u8 = 2;
 /// The program: carries out the command that the words ask for, on the files that they name, from the input to the
 /// output, and prints on error output its fault, in a line that begins with `poolman: `, and below it what the fault is about if a
 /// person reads error output. Gives the exit status: 0 if
-/// the command is done; 1 if there is no plan, in a round of a run too, or the report is not shown; 2 if the words
-/// are no command's or ask for help, and then what `clap` says of them is on error output; 3 if input is refused, and
-/// 4 if memory or a device failed.
+/// the command is done; 1 if there is no plan, in a round of a run or of a farm too, or the report is not shown; 2 if the words
+/// are no command's or ask for help, and then what `clap` says of them is on error output; 3 if input is refused;
+/// 4 if memory or a device failed; and 5 if no attempt of a farm led to a plan.
 ///
-/// The first word is the program's name. Words that are no text in UTF-8 are no command's. A run is on the host; this
-/// contract says nothing of what the host does with progress reports.
-pub fn program<F: Folder, H: Host, R: Source, W: Sink, E: Sink>(
+/// The first word is the program's name. Words that are no text in UTF-8 are no command's. A run and a farm are on the host; this
+/// contract says nothing of what the host does with progress reports and with the lines of a farm.
+pub fn program<F: Folder, H: FarmHost, R: Source, W: Sink, E: Sink>(
     lent: Lent<'_, F, H>,
     words: io::Result<Vec<String>>,
     input: &mut R,
@@ -53,7 +53,7 @@ pub fn program<F: Folder, H: Host, R: Source, W: Sink, E: Sink>(
 }
 
 /// Carries out the command of the words, or prints why they are none. Gives the exit status.
-fn obey<F: Folder, H: Host, R: Source, W: Sink, E: Sink>(
+fn obey<F: Folder, H: FarmHost, R: Source, W: Sink, E: Sink>(
     lent: Lent<'_, F, H>,
     words: &[String],
     input: &mut R,
@@ -136,6 +136,16 @@ fn given_of<'a>(command: &'a Command<'a>) -> Given<'a>
         Command::Settings { settings, services } => Given {
             settings,
             services: *services,
+            status: None,
+            lost: &[],
+        },
+        Command::Serve {
+            settings,
+            services,
+            ..
+        } => Given {
+            settings,
+            services: Some(*services),
             status: None,
             lost: &[],
         },

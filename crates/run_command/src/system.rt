@@ -18,6 +18,12 @@ use std::{env, thread};
 /// The variable of the environment by which a run is watched.
 const WATCH: &str = "POOLMAN_WATCH";
 
+/// The time, in whole seconds. None if the system does not show it.
+pub fn time_in_seconds<R: Clock>(rt: &R) -> Option<Timestamp> {
+    let now = Timestamp::now(rt).ok()?;
+    Timestamp::from_second(now.as_second()).ok()
+}
+
 /// The system as the host of a run: its threads, TCP, its monotonic clock, and its standard error.
 ///
 /// If the run is watched, each function without a job, each attempt, each end of a worker, and what the run came to are written to standard
@@ -59,15 +65,9 @@ impl<R: Wait> System<R> {
 }
 
 impl<R: Clock + Eprint + Alloc<A = Global>> System<R> {
-    /// The time, in whole seconds.
-    fn time(&self) -> Option<Timestamp> {
-        let now = Timestamp::now(&self.rt).ok()?;
-        Timestamp::from_second(now.as_second()).ok()
-    }
-
     /// Writes a line to standard error, behind the time.
     fn write(&self, line: &str) {
-        let written = match self.time() {
+        let written = match time_in_seconds(&self.rt) {
             Some(time) => self.rt.eprintln(format_args!("{time} {line}")),
             None => self.rt.eprintln(line),
         };

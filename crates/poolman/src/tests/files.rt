@@ -10,7 +10,7 @@ use devices::{Folder, InputError};
 use fault_detail::Reader;
 use plan_commands::{Exit, Fault, Mistake, NamedFile};
 use pool_settings::{Place, SettingsError};
-use run_command::Host;
+use serve_command::FarmHost;
 use std::alloc::{AllocError, Global};
 use std::io;
 use std::io::ErrorKind;
@@ -44,7 +44,7 @@ impl<'a> Folder for TwoFiles<'a> {
 }
 
 /// Whether a command on standard input ends so and writes so much.
-fn carries_out<H: Host>(
+fn carries_out<H: FarmHost>(
     host: &H,
     alloc: Global,
     command: &Command<'_>,
@@ -68,7 +68,7 @@ fn carries_out<H: Host>(
 }
 
 /// Whether a command on standard input is done and writes so much.
-fn does<H: Host>(
+fn does<H: FarmHost>(
     host: &H,
     alloc: Global,
     command: &Command<'_>,
@@ -142,6 +142,13 @@ fn files_that_are_not_there_are_told_first(rt: HostRuntime) -> Result<(), AllocE
     };
     let no_services = Exit::refused(Fault::File(NamedFile::Services, InputError::NoFile));
     assert!(rt; carries_out(&host, alloc, &farm, b"", no_services, b""));
+    let served = Command::Serve {
+        settings: "settings.toml",
+        services: "none",
+        until_input: false,
+    };
+    let no_services = Exit::refused(Fault::File(NamedFile::Services, InputError::NoFile));
+    assert!(rt; carries_out(&host, alloc, &served, b"", no_services, b""));
     let swapped = check(alloc, "status.txt", "settings.toml");
     let place = Place::Text { line: 1, column: 3 };
     let mut text = Mistake::new(alloc, SettingsError::Text, &place)?;
@@ -152,7 +159,7 @@ fn files_that_are_not_there_are_told_first(rt: HostRuntime) -> Result<(), AllocE
 }
 
 /// How `check` of these two files in their folder ends, by the names that it is given.
-fn check_ends<H: Host>(
+fn check_ends<H: FarmHost>(
     host: &H,
     alloc: Global,
     texts: (&[u8], &[u8]),

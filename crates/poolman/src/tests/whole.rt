@@ -10,7 +10,7 @@ use crate::program::program;
 use byte_io::doubles::Script;
 use byte_io::{SliceSource, VecSink};
 use fault_detail::Reader;
-use run_command::Host;
+use serve_command::FarmHost;
 use std::alloc::{AllocError, Global};
 use std::io;
 use std::io::ErrorKind;
@@ -32,7 +32,7 @@ impl Left {
 }
 
 /// Runs the program on these words and this input, into an output, with this reader of its error output.
-fn run_into<H: Host>(
+fn run_into<H: FarmHost>(
     host: &H,
     alloc: Global,
     reader: Reader,
@@ -72,7 +72,12 @@ fn run_into<H: Host>(
     })
 }
 
-fn run<H: Host>(host: &H, alloc: Global, words: &[&str], input: &[u8]) -> Result<Left, AllocError> {
+fn run<H: FarmHost>(
+    host: &H,
+    alloc: Global,
+    words: &[&str],
+    input: &[u8],
+) -> Result<Left, AllocError> {
     let output = Script::new(alloc);
     run_into(host, alloc, Reader::Program, words, input, output)
 }
@@ -151,7 +156,7 @@ fn faults_are_on_error_output(rt: HostRuntime) -> Result<(), AllocError> {
 }
 
 /// Whether the program, with a person at its error output, ends so.
-fn tells_a_person<H: Host>(
+fn tells_a_person<H: FarmHost>(
     host: &H,
     alloc: Global,
     words: &[&str],
@@ -218,7 +223,11 @@ fn words_of_no_command_are_told_on_error_output(rt: HostRuntime) -> Result<(), A
 }
 
 /// The exit status if the system gives no words, and what is on error output.
-fn without_words<H: Host>(host: &H, alloc: Global, kind: ErrorKind) -> Result<Left, AllocError> {
+fn without_words<H: FarmHost>(
+    host: &H,
+    alloc: Global,
+    kind: ErrorKind,
+) -> Result<Left, AllocError> {
     let files = TwoFiles {
         settings: SETTINGS,
         status: STATUS,

@@ -9,7 +9,7 @@ use Rattle.plan_commands.specs.Problem.{load_of}
 use Rattle.size_command.specs.CheckSizes.{ChecksSizeText}
 use Rattle.size_command.specs.Sizes.{Sizes}
 use Rattle.poolman.specs.Carrying.{CarriesOut}
-use Rattle.poolman.proofs.Carried.{planned, shown, sized, size_checked, unread}
+use Rattle.poolman.proofs.Carried.{planned, served, shown, sized, size_checked, unread}
 use Rattle.poolman.proofs.carry_out.carry_out.Goals as goal
 
 pub returns-in-Err : goal.returns-in-Err
@@ -92,7 +92,7 @@ returns-in-Settings g c =
       carries_out = (
         nothing_from side,
         meets_nothing side,
-        rw c.in-Settings.is (shown file c.in-Settings.settings.now (option_map (λ t. t.now) c.in-Settings.services.now) (nothing_from side) old new
+        rw c.in-Settings.is (shown file c.in-Settings.settings.now (option_map (λ t. t.now) c.in-Settings.services) (nothing_from side) old new
             c.show_settings.result (refl, refl, refl) c.show_settings.ensures.shows),
       );
     }
@@ -174,5 +174,19 @@ returns-in-Ok-read_both-2 g c =
         subst (λ command. CarriesOut file (named command) told.0 old new c.check_size_text.result) (sym c.in-CheckSize.is)
             (size_checked file c.in-CheckSize.settings.now c.in-CheckSize.status.now level (map (λ w. w.now) c.in-CheckSize.lost.items) text status_text
             told.0 old new c.check_size_text.result of_settings of_status checks),
+      );
+    }
+
+-- nothing was taken or written
+pub returns-in-Serve : goal.returns-in-Serve
+returns-in-Serve g c =
+    let side = g.R.Device.input c.args.source.now in
+    let file = g.F.Folder.file c.args.lent.files.now in
+    let out = g.S.Device.output c.args.sink.now in record {
+      carries_out = (
+        nothing_from side,
+        meets_nothing side,
+        rw c.in-Serve.is (served file c.in-Serve.settings.now c.in-Serve.services.now c.in-Serve._until_input (nothing_from side) out c.serve.result (refl, refl, refl)
+            c.serve.ensures.serves),
       );
     }

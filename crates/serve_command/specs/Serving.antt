@@ -1,0 +1,36 @@
+-- A run of a farm, and how it ends.
+use Rattle.std.specs.Prelude.{◌≡◌, ◌⊎◌, ℕ, List, []}
+use Rattle.plan_commands.specs.Fault.{answered, refused}
+use Rattle.plan_commands.specs.declared.ending.Exit.{Exit}
+use Rattle.plan_commands.specs.declared.fault.Fault.{Fault}
+use Rattle.pool_settings.specs.Settings.{Settings}
+use Rattle.pool_supervisor.specs.Counted.{CountAHistory}
+use Rattle.pool_supervisor.specs.Rounds.{TellRun}
+use Rattle.pool_supervisor.specs.declared.attempt.Attempt.{Attempt}
+use Rattle.pool_supervisor.specs.declared.run.RunEnd.{RunEnd}
+use Rattle.serve_command.specs.Farm.{IsOf, IsRefused}
+use Rattle.serve_command.specs.declared.reporting.Outlook.{Outlook}
+use Rattle.serve_command.specs.declared.reporting.Outlook.TheVariants as outlook
+use Rattle.service_settings.specs.Services.{Services}
+
+-- A run by these settings came to this: its attempts report rounds of histories of these settings, and its totals count the grabs and the
+-- reports of one.
+abbrev pub IsFarmRun : Settings → RunEnd → Type 0
+IsFarmRun settings ended = ((lines : List Attempt) × TellRun settings [] lines []) × CountAHistory settings ended.totals
+
+-- The texts mean a farm, and a run of it came to this.
+abbrev pub IsFarmRunBy : List ℕ → List ℕ → RunEnd → Type 0
+IsFarmRunBy settings_text services_text ended =
+    (settings : Settings) × (services : Services) × IsOf settings_text services_text settings services × IsFarmRun settings ended
+
+-- 0 after plans alone, 1 if some round had no plan, 5 if no attempt led to a plan
+abbrev pub status_of : Outlook → ℕ
+status_of outlook.Plans = 0
+status_of outlook.LacksAPlan = 1
+status_of outlook.Nothing = 5
+
+-- The texts mean a farm, and a run of it ended. Or they are refused, or memory is.
+abbrev pub Serves : List ℕ → List ℕ → Exit → Type 0
+Serves settings_text services_text exit =
+    ((ended : RunEnd) × (seen : Outlook) × IsFarmRunBy settings_text services_text ended × (exit ≡ answered (status_of seen)))
+    ⊎ ((f : Fault) × IsRefused settings_text services_text f × (exit ≡ refused f))

@@ -1,0 +1,107 @@
+//! A farm: the settings of its pool, and the services of its machines.
+
+ghost use Rattle.std.specs.Prelude.{◌≡◌, ◌<◌, IfErr, IfOk, IfSome, Some, slice_get};
+ghost use Rattle.pool_settings.specs.Slots.{machine_of, slots};
+ghost use Rattle.serve_command.specs.Farm as spec;
+
+use http_jobs::{CallTimes, Service};
+use plan_commands::{Fault, read_services, read_settings};
+use plan_model::SlotId;
+use pool_settings::Settings;
+use service_settings::{ServiceUrl, Services};
+use std::alloc::Global;
+use std::marker::Model;
+use worker_state::WorkerName;
+
+/// How long one read of a service's connection may take, in milliseconds. After each the deadline is looked at.
+const READ_MS: u32 = 100;
+
+/// The texts that say what a farm is.
+#[derive(Clone, Copy)]
+pub struct FarmTexts<'t> {
+    /// The settings of its pool.
+    pub settings: &'t [u8],
+    /// The services of its machines.
+    pub services: &'t [u8],
+}
+
+/// A farm: the settings of its pool, and the services of its machines. Each machine has a URL, and each function a time.
+#[derive(Drop)]
+pub struct Farm {
+    /// The settings.
+    pub(crate) settings: Settings,
+    /// The services.
+    pub(crate) services: Services,
+}
+
+impl Model for Farm {
+    ghost use Rattle.serve_command.specs.Farm as meant;
+
+    ghost Value = { meant.Farm };
+
+    ghost view = { λ f. record { settings = f.settings; services = f.services } };
+
+    ghost invariant = { λ f. meant.IsWhole f.settings f.services };
+}
+
+impl Farm {
+    /// The farm of these texts. The settings are read first. The fault is the first mistake of the text that has one, or out of memory.
+    pub fn read(alloc: Global, texts: FarmTexts<'_>) -> Result<Farm, Fault>
+        ensures farm { IfOk result (λ farm. spec.IsOf texts.entry.settings.now texts.entry.services.now farm.settings farm.services) }
+        ensures refused { IfErr result (spec.IsRefused texts.entry.settings.now texts.entry.services.now) }
+    {
+        let settings = read_settings(alloc, texts.settings)?;
+        let services = read_services(alloc, texts.services, &settings)?;
+        Ok(Farm { settings, services })
+    }
+
+    /// How long a job of this function may take, in milliseconds: what the services say, and `job_timeout_ms` for a function that the
+    /// settings do not have.
+    pub fn timeout_ms(&self, function: &[u8]) -> u32
+        ensures { result ≡ spec.timeout_in self.now function.now }
+    {
+        match self.settings.function_named(function) {
+            Some(function) => self.services.timeout_ms(function),
+            None => self.settings.job_timeout_ms(),
+        }
+    }
+
+    /// Where the jobs of a worker go.
+    pub fn url_of(&self, slot: SlotId) -> &ServiceUrl
+        requires { slot < slots self.now.settings }
+        ensures { slice_get self.now.services.urls (machine_of self.now.settings slot) ≡ Some result.now }
+    {
+        self.services.url(self.settings.machine_of(slot))
+    }
+
+    /// The host and port that a worker's jobs go to. None if memory is refused.
+    pub fn host_of(&self, alloc: Global, slot: SlotId) -> Option<String>
+        requires { slot < slots self.now.settings }
+    {
+        let url = self.url_of(slot);
+        String::from_str(alloc, url.host()).ok()
+    }
+
+    /// How long calls of a connection to a service may take.
+    pub fn call_times(&self) -> CallTimes {
+        CallTimes {
+            connect_ms: self.services.connect_ms(),
+            read_ms: READ_MS,
+        }
+    }
+
+    /// The service of a worker's machine, asked in the worker's name. None if memory is refused.
+    pub fn service_of(&self, alloc: Global, worker: WorkerName) -> Option<Service>
+        requires { worker.slot < slots self.now.settings }
+        ensures { IfSome result (spec.IsServiceOf self.now worker) }
+    {
+        let url = self.url_of(worker.slot);
+        let host = String::from_str(alloc, url.host()).ok()?;
+        let path = String::from_str(alloc, url.path()).ok()?;
+        let name = self
+            .settings
+            .worker_text(alloc, worker.slot, worker.generation)
+            .ok()?;
+        Service::new(host, path, name).ok()
+    }
+}

@@ -1,0 +1,150 @@
+//! The jobs of a farm's workers, done by the services of their machines.
+
+use crate::farm::Farm;
+use crate::host::FarmHost;
+use crate::hosts::{HostNews, Hosts};
+use gear_packets::Assignment;
+use http_jobs::ServiceJobs;
+use job_runner::{Jobs, NotDone, Outcome};
+use plan_model::{MachineId, SlotId};
+use pool_supervisor::JobSource;
+use std::alloc::{AllocError, Global};
+use worker_state::WorkerName;
+
+/// Gives each worker of a farm the jobs of its machine's service.
+#[derive(Drop)]
+pub struct FarmSource<'e, H> {
+    /// What opens connections, and is told which hosts are reached.
+    pub host: &'e H,
+    /// Where memory comes from.
+    pub alloc: Global,
+    /// The farm.
+    pub farm: &'e Farm,
+    /// Which hosts are reached.
+    pub hosts: &'e Hosts,
+}
+
+impl<'e, H: FarmHost> JobSource for FarmSource<'e, H> {
+    ghost use Rattle.std.specs.Prelude.{◌≡◌, true, IfSome, ⊤};
+    ghost use Rattle.job_runner.specs.Run.{seen_link};
+    ghost use Rattle.http_jobs.specs.Serving.{IsNew};
+    ghost use Rattle.serve_command.specs.Farm.{IsServiceOf};
+
+    type Jobs = FarmJobs<'e, H>;
+
+    ghost allows = { λ _ _ _. true };
+
+    ghost gives = { λ source worker given. (given.farm ≡ source.farm) × IsServiceOf source.farm.now worker given.jobs.service
+        × IfSome given.jobs.kept (λ link. IsNew (seen_link H.Call.input H.Call.output link)) };
+
+    ghost denies = { λ _ _. ⊤ };
+
+    fn may_start(&self, slot: SlotId) -> bool {
+        let farm = self.farm;
+        if slot.number() >= farm.settings.slots() {
+            return false;
+        }
+        let machine = farm.settings.machine_of(slot);
+        self.hosts.may_start(self.host, machine)
+    }
+
+    fn jobs_of(&self, worker: WorkerName) -> Option<FarmJobs<'e, H>> {
+        let farm = self.farm;
+        let slot = worker.slot;
+        if slot.number() >= farm.settings.slots() {
+            return None;
+        }
+        let machine = farm.settings.machine_of(slot);
+        let name = farm.host_of(self.alloc, slot)?;
+        let service = farm.service_of(self.alloc, worker)?;
+        let dials = self.host.dials(name, farm.call_times());
+        let mut jobs = ServiceJobs::new(service, dials, self.host.times(), 0);
+        let is_open = jobs.open();
+        if let Some(news) = self.hosts.was_dialled(self.host, machine, is_open) {
+            self.host.tell(news_line(self.alloc, farm, machine, news));
+        }
+        if !is_open {
+            return None;
+        }
+        Some(FarmJobs {
+            host: self.host,
+            farm,
+            hosts: self.hosts,
+            machine,
+            jobs,
+        })
+    }
+
+    /// A service has a job of each function, or says itself that it has none.
+    fn serves(&self, _function: &[u8]) -> bool {
+        true
+    }
+}
+
+/// The jobs of one worker. Each is done by the service of the worker's machine, in the time that its function has.
+#[derive(Drop)]
+pub struct FarmJobs<'e, H: FarmHost> {
+    host: &'e H,
+    farm: &'e Farm,
+    hosts: &'e Hosts,
+    machine: MachineId,
+    jobs: ServiceJobs<H::Call, H::Dials, H::Times>,
+}
+
+/// Whether a job was served. None if that is not known, for want of memory.
+fn is_served(done: &Result<Option<Outcome>, NotDone>) -> Option<bool> {
+    match done {
+        Ok(_) => Some(true),
+        Err(NotDone::Unserved) => Some(false),
+        Err(NotDone::Memory) => None,
+    }
+}
+
+/// The line of what is new of a machine's host. The only error is out of memory.
+fn news_line(
+    alloc: Global,
+    farm: &Farm,
+    machine: MachineId,
+    news: HostNews,
+) -> Result<String, AllocError> {
+    let name = farm.settings.machine_name(machine);
+    match news {
+        HostNews::Reached => format!(in alloc; "reached {name}"),
+        HostNews::Unreached(why) => {
+            let why = why.name();
+            format!(in alloc; "unreached {name} {why}")
+        }
+    }
+}
+
+impl<'e, H: FarmHost> Jobs for FarmJobs<'e, H> {
+    ghost use Rattle.std.specs.Prelude.{◌≡◌};
+    ghost use Rattle.http_jobs.specs.Serving.{IsDoneBy, IsNotDoneBy, stands};
+    ghost use Rattle.serve_command.specs.Farm.{timeout_in};
+
+    ghost tells = { λ before after job told. (after.farm ≡ before.farm)
+        × IsDoneBy before.jobs.service (timeout_in before.farm.now job.function)
+        (stands H.Call.input H.Call.output H.Call.quiet before.jobs.kept (H.Dials.calls before.jobs.dial) (H.Times.shown before.jobs.clock))
+        (stands H.Call.input H.Call.output H.Call.quiet after.jobs.kept (H.Dials.calls after.jobs.dial) (H.Times.shown after.jobs.clock))
+        after.jobs.service after.jobs.timeout_ms job told };
+
+    ghost fails = { λ before after job error. (after.farm ≡ before.farm)
+        × IsNotDoneBy before.jobs.service (timeout_in before.farm.now job.function)
+        (stands H.Call.input H.Call.output H.Call.quiet before.jobs.kept (H.Dials.calls before.jobs.dial) (H.Times.shown before.jobs.clock))
+        (stands H.Call.input H.Call.output H.Call.quiet after.jobs.kept (H.Dials.calls after.jobs.dial) (H.Times.shown after.jobs.clock))
+        after.jobs.service after.jobs.timeout_ms job error };
+
+    fn run(&mut self, alloc: Global, job: Assignment) -> Result<Option<Outcome>, NotDone> {
+        let timeout_ms = self.farm.timeout_ms(&job.function);
+        self.jobs.set_timeout(timeout_ms as u64);
+        let done = self.jobs.run(alloc, job);
+        let news = is_served(&done).and_then(|is_served| self
+            .hosts
+            .was_asked(self.host, self.machine, is_served));
+        if let Some(news) = news {
+            self.host
+                .tell(news_line(alloc, self.farm, self.machine, news));
+        }
+        done
+    }
+}

@@ -1,0 +1,195 @@
+//! Which hosts of a farm are reached, and when one that is not is tried again.
+
+use plan_model::MachineId;
+use std::alloc::{AllocError, Global};
+use std::sync::{Mutex, Wait};
+
+/// For how many attempts at most a host is left alone before it is tried again.
+const LONGEST_WAIT: u64 = 64;
+
+/// How many jobs, one after the other, a host may leave unserved before it is left alone.
+const MOST_UNSERVED: u32 = 3;
+
+/// Why a host is left alone.
+#[derive(Clone, Copy, Debug, PartialEq, Eq)]
+pub enum Reason {
+    /// No connection could be opened.
+    Unreachable,
+    /// Three jobs, one after the other, were not served.
+    Unserved,
+}
+
+impl Reason {
+    /// Its name.
+    pub fn name(self) -> &'static str {
+        match self {
+            Reason::Unreachable => "Unreachable",
+            Reason::Unserved => "Unserved",
+        }
+    }
+}
+
+/// What is new of a host.
+#[derive(Clone, Copy, Debug, PartialEq, Eq)]
+pub enum HostNews {
+    /// It was left alone, and is not any more.
+    Reached,
+    /// It is left alone from now on.
+    Unreached(Reason),
+}
+
+/// How a host is.
+#[derive(Clone, Copy, Debug, PartialEq, Eq)]
+enum HostState {
+    /// All its workers may start. It left so many jobs unserved since the last one that it served.
+    Present(u32),
+    /// It is left alone. From the attempt `due` on one worker may try it. The next may `wait` attempts after that.
+    Away { why: Reason, wait: u64, due: u64 },
+}
+
+impl HostState {
+    /// Left alone from this attempt on, if it is not already.
+    fn away(self, why: Reason, attempt: u64) -> HostState {
+        match self {
+            HostState::Present(_) => HostState::Away {
+                why,
+                wait: 1,
+                due: attempt.saturating_add(1),
+            },
+            HostState::Away { wait, due, .. } => HostState::Away { why, wait, due },
+        }
+    }
+
+    /// After a connection was opened, or could not be.
+    fn after_dial(self, is_open: bool, attempt: u64) -> HostState {
+        match self {
+            state if !is_open => state.away(Reason::Unreachable, attempt),
+            HostState::Away {
+                why: Reason::Unreachable,
+                ..
+            } => HostState::Present(0),
+            state => state,
+        }
+    }
+
+    /// After a job that was served, or was not.
+    fn after_job(self, is_served: bool, attempt: u64) -> HostState {
+        match self {
+            _ if is_served => HostState::Present(0),
+            HostState::Present(unserved) if unserved < MOST_UNSERVED - 1 => {
+                HostState::Present(unserved + 1)
+            }
+            HostState::Present(_) => self.away(Reason::Unserved, attempt),
+            state => state,
+        }
+    }
+
+    /// Whether a worker may start.
+    fn may_start(self, attempt: u64) -> bool {
+        match self {
+            HostState::Present(_) => true,
+            HostState::Away { due, .. } => due <= attempt,
+        }
+    }
+
+    /// After a worker was told that it may start. The waits are 1, 2, 4 .. attempts, and 64 at most.
+    fn after_start(self, attempt: u64) -> HostState {
+        match self {
+            HostState::Away { why, wait, .. } => {
+                let wait = wait.saturating_mul(2).min(LONGEST_WAIT);
+                HostState::Away {
+                    why,
+                    wait,
+                    due: attempt.saturating_add(wait),
+                }
+            }
+            state => state,
+        }
+    }
+
+    /// What is new, if this was the state before.
+    fn news_since(self, before: HostState) -> Option<HostNews> {
+        match (before, self) {
+            (HostState::Away { .. }, HostState::Present(_)) => Some(HostNews::Reached),
+            (HostState::Present(_), HostState::Away { why, .. }) => Some(HostNews::Unreached(why)),
+            _ => None,
+        }
+    }
+}
+
+/// What is known of all hosts.
+#[derive(Drop)]
+struct Table {
+    /// The number of the attempt that is made now, from 1.
+    attempt: u64,
+    /// The host of each machine.
+    states: Vec<HostState>,
+}
+
+/// Which hosts of a farm are reached. A host is left alone if a connection could not be opened to it, until one can; or if three jobs,
+/// one after the other, were not served, until one is.
+#[derive(Drop)]
+pub struct Hosts {
+    table: Mutex<Table>,
+}
+
+impl Hosts {
+    /// The hosts of so many machines, of which nothing is known. The only error is out of memory.
+    pub fn new(alloc: Global, machines: u32) -> Result<Hosts, AllocError> {
+        let mut states = Vec::new(alloc);
+        states.resize(machines as usize, HostState::Present(0))?;
+        Ok(Hosts {
+            table: Mutex::new(Table { attempt: 1, states }),
+        })
+    }
+
+    /// The next attempt begins.
+    pub fn begin_attempt<R: Wait>(&self, rt: &R) {
+        let mut held = self.table.lock(rt);
+        held.attempt = held.attempt.saturating_add(1);
+    }
+
+    /// Whether a worker of the machine may start now: if its host is not left alone, or is to be tried again.
+    pub fn may_start<R: Wait>(&self, rt: &R, machine: MachineId) -> bool {
+        let mut held = self.table.lock(rt);
+        let attempt = held.attempt;
+        let Some(state) = held.states.get_mut(machine.number() as usize) else {
+            return false;
+        };
+        let may = state.may_start(attempt);
+        if may {
+            *state = state.after_start(attempt);
+        }
+        may
+    }
+
+    /// A connection was opened to the host of this machine, or could not be. What is new of the host.
+    pub fn was_dialled<R: Wait>(
+        &self,
+        rt: &R,
+        machine: MachineId,
+        is_open: bool,
+    ) -> Option<HostNews> {
+        let mut held = self.table.lock(rt);
+        let attempt = held.attempt;
+        let state = held.states.get_mut(machine.number() as usize)?;
+        let before = *state;
+        *state = before.after_dial(is_open, attempt);
+        state.news_since(before)
+    }
+
+    /// A job was served by the host of this machine, or was not. What is new of the host.
+    pub fn was_asked<R: Wait>(
+        &self,
+        rt: &R,
+        machine: MachineId,
+        is_served: bool,
+    ) -> Option<HostNews> {
+        let mut held = self.table.lock(rt);
+        let attempt = held.attempt;
+        let state = held.states.get_mut(machine.number() as usize)?;
+        let before = *state;
+        *state = before.after_job(is_served, attempt);
+        state.news_since(before)
+    }
+}

@@ -1,0 +1,130 @@
+//! Lines on their way to whoever reads them.
+
+use std::alloc::{AllocError, Global};
+use std::collections::VecDeque;
+use std::io::Write;
+use std::sync::{Condvar, Mutex, Wait};
+use std::time::{Clock, Duration};
+
+/// How many lines wait at most. Whoever reads them may fall behind so far, and no line is left out.
+const MOST_WAITING: usize = 4_096;
+
+/// The lines that wait.
+#[derive(Drop)]
+struct Waiting {
+    lines: VecDeque<String>,
+    /// How many lines were left out since the last one that was taken.
+    left_out: u64,
+    /// No more lines come.
+    is_closed: bool,
+    /// The last one was taken.
+    is_done: bool,
+}
+
+/// What is taken from a queue.
+#[derive(Debug, PartialEq, Eq, Drop)]
+pub enum Taken {
+    /// The next line.
+    Line(String),
+    /// So many lines were left out here: there was no room for them, or no memory.
+    LeftOut(u64),
+}
+
+/// Lines on their way to a thread that writes them. Whoever puts one in never waits for that thread: a line that finds 4,096 before it is
+/// left out, and counted.
+#[derive(Drop)]
+pub struct LineQueue {
+    waiting: Mutex<Waiting>,
+    changed: Condvar,
+}
+
+impl LineQueue {
+    /// A queue without lines.
+    pub fn new(alloc: Global) -> LineQueue {
+        LineQueue {
+            waiting: Mutex::new(Waiting {
+                lines: VecDeque::new(alloc),
+                left_out: 0,
+                is_closed: false,
+                is_done: false,
+            }),
+            changed: Condvar::new(),
+        }
+    }
+
+    /// Puts in a line, or counts one for which there is no memory.
+    pub fn put<R: Wait>(&self, rt: &R, line: Result<String, AllocError>) {
+        let mut held = self.waiting.lock(rt);
+        if !held.put(line) {
+            held.left_out = held.left_out.saturating_add(1);
+        }
+        self.changed.notify_all();
+    }
+
+    /// The next line, or how many were left out before it. It waits for one. None if the queue is closed and all were taken.
+    pub fn take<R: Wait>(&self, rt: &R) -> Option<Taken> {
+        let held = self.waiting.lock(rt);
+        let mut held = self.changed.wait_while(
+            rt,
+            held,
+            |waiting| waiting.is_empty() && !waiting.is_closed,
+        );
+        let taken = held.take();
+        held.is_done = taken.is_none();
+        self.changed.notify_all();
+        taken
+    }
+
+    /// Says that no more lines come, and waits until all were taken, but no longer than so many milliseconds.
+    pub fn close<R: Wait + Clock>(&self, rt: &R, milliseconds: u32) {
+        let mut held = self.waiting.lock(rt);
+        held.is_closed = true;
+        self.changed.notify_all();
+        let most = Duration::from_millis(milliseconds as u64);
+        let _ = self
+            .changed
+            .wait_timeout_while(rt, held, most, |waiting| !waiting.is_done);
+    }
+}
+
+impl Waiting {
+    fn is_empty(&self) -> bool {
+        self.lines.is_empty() && self.left_out == 0
+    }
+
+    /// Puts in a line. Whether it was put in. After lines that were left out none comes before their number was taken, so that this
+    /// stands where they would.
+    fn put(&mut self, line: Result<String, AllocError>) -> bool {
+        match line {
+            Ok(line) if self.left_out == 0 && self.lines.len() < MOST_WAITING => {
+                self.lines.push_back(line).is_ok()
+            }
+            _ => false,
+        }
+    }
+
+    /// What comes next.
+    fn take(&mut self) -> Option<Taken> {
+        if let Some(line) = self.lines.pop_front() {
+            return Some(Taken::Line(line));
+        }
+        if self.left_out == 0 {
+            return None;
+        }
+        let left_out = self.left_out;
+        self.left_out = 0;
+        Some(Taken::LeftOut(left_out))
+    }
+}
+
+/// Writes each line of the queue, each in one write, and how many were left out, until the queue is closed and all lines were taken. What
+/// cannot be written is lost, and the lines after it are tried all the same.
+pub fn write_lines<R: Wait, W: Write>(rt: &R, queue: &LineQueue, output: &mut W) {
+    for _ in rt.forever() {
+        let _ = match queue.take(rt) {
+            Some(Taken::Line(line)) => output.write_all(line.as_bytes()),
+            Some(Taken::LeftOut(count)) => writeln!(output, "left out {count} lines"),
+            None => return,
+        };
+    }
+}

@@ -1,0 +1,89 @@
+//! The command `serve`: from the texts of a farm to the end of its run.
+
+ghost use Rattle.std.specs.Prelude.{IfErr, IfOk};
+ghost use Rattle.serve_command.specs.Farm as farms;
+ghost use Rattle.serve_command.specs.Serving as spec;
+
+use crate::farm::{Farm, FarmTexts};
+use crate::farm_jobs::FarmSource;
+use crate::host::FarmHost;
+use crate::hosts::Hosts;
+use crate::reporting::{Outlook, Reporting};
+use plan_commands::{Exit, Fault};
+use pool_supervisor::{ArenaPlanner, Lent, RunEnd, run_until_told};
+use run_command::Route;
+use std::alloc::{AllocError, Global};
+
+/// A farm that ended.
+#[derive(Drop)]
+pub struct FarmEnd {
+    /// What its run came to.
+    pub run: RunEnd,
+    /// What its attempts came to.
+    pub outlook: Outlook,
+}
+
+/// Runs a farm until its host says that it has to end.
+fn run_until_end<'x, H: FarmHost>(
+    host: &'x H,
+    alloc: Global,
+    farm: &'x Farm,
+) -> Result<FarmEnd, AllocError>
+    ensures { IfOk result (λ ended. spec.IsFarmRun farm.now.settings ended.run) }
+{
+    let settings = farm.settings.copy(alloc)?;
+    let route = Route {
+        host,
+        server: String::from_str(alloc, settings.server())?,
+        lull_ms: settings.lull_ms(),
+    };
+    let planner = ArenaPlanner::new(alloc);
+    let hosts = Hosts::new(alloc, settings.machines())?;
+    let source = FarmSource {
+        host,
+        alloc,
+        farm,
+        hosts: &hosts,
+    };
+    let watch = Reporting::new(host, alloc, &hosts);
+    let lent = Lent {
+        rt: &watch,
+        alloc,
+        watch: &watch,
+        jobs: &source,
+    };
+    let (run, _route) = run_until_told(lent, route, &planner, settings)?;
+    Ok(FarmEnd {
+        run,
+        outlook: watch.outlook(),
+    })
+}
+
+/// Runs the farm of these texts: a session in a thread for each worker of the settings, whose jobs are done by the service of its
+/// machine, and attempts to plan, one after the other, until the host says that the farm has to end. Then each session is told to stop,
+/// all are joined, and what the run came to is told. Each attempt and each end of a worker is told to the host in a line when it comes.
+///
+/// The fault is the first mistake of the settings, or else that of the services; nothing is dialled then. It is `Memory` if memory or a
+/// thread is refused, so that the run cannot go on; then its sessions are ended too.
+pub fn run_farm<H: FarmHost>(
+    host: &H,
+    alloc: Global,
+    texts: FarmTexts<'_>,
+) -> Result<FarmEnd, Fault>
+    ensures run { IfOk result (λ ended. spec.IsFarmRunBy texts.entry.settings.now texts.entry.services.now ended.run) }
+    ensures kept { IfErr result (farms.IsRefused texts.entry.settings.now texts.entry.services.now) }
+{
+    let farm = Farm::read(alloc, texts)?;
+    Ok(run_until_end(host, alloc, &farm)?)
+}
+
+/// [`run_farm`] as a command. Its status is 0 if it ended with a plan; 1 if some round had no plan; 5 if no attempt ever led to a plan;
+/// and 3 or 4 with its fault.
+pub fn serve_farm<H: FarmHost>(host: &H, alloc: Global, texts: FarmTexts<'_>) -> Exit
+    ensures serves { spec.Serves texts.entry.settings.now texts.entry.services.now result }
+{
+    match run_farm(host, alloc, texts) {
+        Ok(ended) => Exit::answered(ended.outlook.status()),
+        Err(fault) => Exit::refused(fault),
+    }
+}

@@ -1,0 +1,149 @@
+//! The system as the host of a farm.
+
+use crate::end_flag::EndFlag;
+use crate::host::FarmHost;
+use crate::line_queue::LineQueue;
+use devices::TcpLink;
+use http_jobs::{CallTimes, SystemClock, TcpDial};
+use plan_model::FuncId;
+use pool_settings::Settings;
+use run_command::{Attempted, EndedWorker, Host, Progress, RunEnd, System, Watch, time_in_seconds};
+use std::alloc::{AllocError, Global};
+use std::net::{Net, TcpStream};
+use std::rt::{Clock, Env};
+use std::sync::Wait;
+use std::thread::Threads;
+
+/// What a farm shares with the threads at its edges, which nobody joins: one that raises the flag when it has to end, and one that writes
+/// its lines.
+#[derive(Drop)]
+pub struct Edges {
+    /// Whether it has to end.
+    pub end: EndFlag,
+    /// Its lines.
+    pub lines: LineQueue,
+}
+
+impl Edges {
+    /// Those of a farm that goes on, before its first line.
+    pub fn new(alloc: Global) -> Edges {
+        Edges {
+            end: EndFlag::new(),
+            lines: LineQueue::new(alloc),
+        }
+    }
+}
+
+/// The system as the host of a farm, and of a run as [`System`] is. Connections are opened over TCP. Each line of a farm is put behind
+/// the time, as RFC 3339 writes it, and into the queue.
+#[derive(Drop)]
+pub struct FarmSystem<'m, R> {
+    rt: R,
+    run: System<R>,
+    edges: &'m Edges,
+}
+
+impl<'m, R: Env + Alloc + Copy> FarmSystem<'m, R> {
+    /// The system, with these edges.
+    pub fn new(rt: R, edges: &'m Edges) -> FarmSystem<'m, R> {
+        FarmSystem {
+            rt,
+            run: System::new(rt),
+            edges,
+        }
+    }
+}
+
+impl<'m, R: Clock + Alloc<A = Global>> FarmSystem<'m, R> {
+    /// A line behind the time, with its line feed. The only error is out of memory.
+    fn stamped(&self, line: Result<String, AllocError>) -> Result<String, AllocError> {
+        let line = line?;
+        match time_in_seconds(&self.rt) {
+            Some(time) => format!(in self.rt.alloc(); "{time} {line}\n"),
+            None => format!(in self.rt.alloc(); "- {line}\n"),
+        }
+    }
+}
+
+impl<'m, R: Threads> Threads for FarmSystem<'m, R> {}
+
+impl<'m, R: Wait> Wait for FarmSystem<'m, R> {}
+
+impl<'m, R: Clock> Watch for FarmSystem<'m, R> {
+    fn now_ms(&self) -> Option<u64> {
+        self.run.now_ms()
+    }
+
+    fn pause(&self, milliseconds: u32) {
+        self.run.pause(milliseconds);
+    }
+}
+
+/// A run's progress, as [`System`] writes it.
+impl<'m, R: Wait + Clock + Eprint + Alloc<A = Global>> Progress for FarmSystem<'m, R> {
+    fn lacks_job(&self, settings: &Settings, function: FuncId) {
+        self.run.lacks_job(settings, function);
+    }
+
+    fn attempted(&self, made: &Attempted<'_>) {
+        self.run.attempted(made);
+    }
+
+    fn ended(&self, ended: &EndedWorker<'_>) {
+        self.run.ended(ended);
+    }
+
+    fn finished(&self, ended: &RunEnd) {
+        self.run.finished(ended);
+    }
+}
+
+impl<
+    'm,
+    R: Threads + Wait + Clock + Eprint + Alloc<A = Global> + Net<Stream = TcpStream> + Sync,
+> Host for FarmSystem<'m, R> {
+    type Link = TcpLink;
+
+    fn reach(&self, server: &str, lull_ms: u32) -> Option<TcpLink> {
+        self.run.reach(server, lull_ms)
+    }
+}
+
+impl<
+    'm,
+    R: Threads
+        + Wait
+        + Clock
+        + Eprint
+        + Alloc<A = Global>
+        + Net<Stream = TcpStream>
+        + Sync
+        + Send
+        + Copy,
+> FarmHost for FarmSystem<'m, R> {
+    type Call = TcpLink;
+
+    type Dials = TcpDial<R>;
+
+    type Times = SystemClock<R>;
+
+    fn dials(&self, host: String, times: CallTimes) -> TcpDial<R> {
+        TcpDial::new(self.rt, host, times)
+    }
+
+    fn times(&self) -> SystemClock<R> {
+        SystemClock::new(self.rt)
+    }
+
+    fn is_to_end(&self) -> bool {
+        self.edges.end.is_raised(&self.rt)
+    }
+
+    fn rest(&self, milliseconds: u32) {
+        self.edges.end.rest(&self.rt, milliseconds);
+    }
+
+    fn tell(&self, line: Result<String, AllocError>) {
+        self.edges.lines.put(&self.rt, self.stamped(line));
+    }
+}
