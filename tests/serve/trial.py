@@ -1,0 +1,242 @@
+"""A farm of six hosts, three of which misbehave: trial.py PROGRAM FOLDER
+
+tests/serve/run calls this. What its processes write is in the folder.
+"""
+
+import contextlib
+import os
+import random
+import re
+import socket
+import subprocess
+import sys
+import threading
+import time
+
+sys.dont_write_bytecode = True
+TOP = os.path.join(os.path.dirname(os.path.abspath(__file__)), "../..")
+sys.path.insert(0, f"{TOP}/tests/gearmand")
+
+from farm import FAILED, HOST, TOTALS, at_once, held, wait_until
+
+import hosts
+from asking import ask_rightly, mixed_jobs, wanted
+
+# After so many seconds a wait is given up.
+PATIENCE = 60
+CLIENTS, JOBS = 8, 500
+HEALTHY = {"east": 6, "north": 6, "south": 6}
+BAD = {"drips": (hosts.never_end, "upper"), "mute": (hosts.say_nothing, "reverse"), "noise": (hosts.make_noise, "digest")}
+BAD_WORKERS = 2
+# One more than the workers of a bad host, so that a healthy one has the function too. Two healthy hosts have enough workers for all.
+LEAST = {"count_words": 1, "digest": 3, "hold": 1, "reverse": 3, "sort_lines": 1, "upper": 3}
+
+# A line of standard output.
+LINE = re.compile(r"\d{4}-\d\d-\d\dT\d\d:\d\d:\d\dZ (.+)")
+
+
+def ports(count):
+    """So many free ports of the loopback, none of which the system gives to a connection that begins here."""
+    with open("/proc/sys/net/ipv4/ip_local_port_range") as it:
+        first = int(it.read().split()[0])
+    found = set()
+    while len(found) < count:
+        port = random.randrange(first // 2, first)
+        with socket.socket() as it:
+            if it.connect_ex((HOST, port)) != 0:
+                found.add(port)
+    return list(found)
+
+
+def settings(server):
+    """The settings of the farm, with its job server at this port."""
+    lines = ["version = 1", f'server = "{HOST}:{server}"', "round_ms = 100", "lull_ms = 20", "job_timeout_ms = 30000"]
+    lines += [f"[functions.{name}]\nleast = {least}" for name, least in LEAST.items()]
+    machines = [(name, workers, LEAST) for name, workers in HEALTHY.items()]
+    machines += [(name, BAD_WORKERS, [function]) for name, (_, function) in BAD.items()]
+    for name, workers, may in machines:
+        listed = ", ".join(f'"{function}"' for function in may)
+        lines.append(f"[machines.{name}]\nworkers = {workers}\nfunctions = [{listed}]")
+    return "\n".join([*lines, ""])
+
+
+def services(places):
+    """The services of the farm, by the ports of its machines. Jobs that a bad host may get have little time."""
+    lines = ["version = 1", *[f'[machines.{name}]\nurl = "http://{HOST}:{port}/jobs"' for name, port in places.items()]]
+    lines += [f"[functions.{name}]\ntimeout_ms = 1000" for _, name in BAD.values()]
+    return "\n".join([*lines, ""])
+
+
+class Processes:
+    """What is started here. Whatever still runs at the end is killed."""
+
+    def __init__(self, folder):
+        self.folder = folder
+        self.all = []
+
+    def start(self, name, *words, stdin=subprocess.DEVNULL):
+        """A process whose standard output and error go behind what is in NAME.out and NAME.err."""
+        with open(f"{self.folder}/{name}.out", "ab") as out, open(f"{self.folder}/{name}.err", "ab") as err:
+            child = subprocess.Popen(words, stdin=stdin, stdout=out, stderr=err)
+        self.all.append(child)
+        return child
+
+    def text(self, name):
+        with open(f"{self.folder}/{name}") as it:
+            return it.read()
+
+    def __enter__(self):
+        return self
+
+    def __exit__(self, *_):
+        for child in self.all:
+            child.kill()
+            child.wait()
+
+
+def listens(port, child):
+    """Whether a process listens at its port."""
+    held(child.poll() is None, f"{child.args} ended at once")
+    with socket.socket() as it:
+        return it.connect_ex((HOST, port)) == 0
+
+
+class Farm:
+    """The job server, the hosts, and poolman."""
+
+    def __init__(self, program, processes):
+        self.program, self.processes = program, processes
+        self.marker = f"{processes.folder}/held"
+        self.server, *places = ports(1 + len(HEALTHY) + len(BAD))
+        self.places = dict(zip([*HEALTHY, *BAD], places))
+        self.answered, self.lock = [], threading.Lock()
+
+    def start(self):
+        words = [f"--listen={HOST}", f"--port={self.server}", "--config-file=/dev/null", "--log-file=stderr", "--backlog=1024"]
+        gearmand = self.processes.start("gearmand", "/usr/sbin/gearmand", *words, f"--pid-file={self.processes.folder}/pid")
+        wait_until(lambda: listens(self.server, gearmand), PATIENCE, "gearmand listens")
+        self.services = {name: self.start_service(name) for name in HEALTHY}
+        self.bad = {name: hosts.Host(self.places[name], misbehave) for name, (misbehave, _) in BAD.items()}
+        self.poolman = self.start_poolman(services(self.places), stdin=subprocess.PIPE)
+        workers = sum(HEALTHY.values()) + BAD_WORKERS * len(BAD)
+        wait_until(lambda: self.workers() == workers, PATIENCE, "each worker has a function at the server")
+
+    def start_service(self, name):
+        port = self.places[name]
+        child = self.processes.start(name, sys.executable, f"{TOP}/tests/serve/service.py", str(port), self.marker)
+        wait_until(lambda: listens(port, child), PATIENCE, f"the service {name} listens")
+        return child
+
+    def start_poolman(self, services, **more):
+        files = [f"{self.processes.folder}/{name}.toml" for name in ("settings", "services")]
+        for file, text in zip(files, (settings(self.server), services)):
+            with open(file, "w") as it:
+                it.write(text)
+        return self.processes.start("poolman", self.program, "serve", *files, "--until-input", **more)
+
+    def workers(self):
+        """How many workers the server has for all functions."""
+        held(self.poolman.poll() is None, f"poolman ended with status {self.poolman.returncode}")
+        text = b""
+        with socket.create_connection((HOST, self.server), PATIENCE) as it:
+            it.sendall(b"status\n")
+            while not text.endswith(b".\n"):
+                text += it.recv(65536)
+        return sum(int(line.rsplit(b"\t", 1)[1]) for line in text.splitlines()[:-1])
+
+    def lines(self):
+        """The whole lines of poolman so far, without their times."""
+        text = self.processes.text("poolman.out")
+        found = [LINE.fullmatch(line) for line in text.splitlines()[: text.count("\n")]]
+        held(all(found), "a line of poolman is not one with a time")
+        return [line[1] for line in found]
+
+    def done(self, name):
+        """What a service has done: (worker, handle, unique, function, status) of each job."""
+        return [line.split() for line in self.processes.text(f"{name}.out").splitlines()]
+
+    def ask(self, jobs):
+        ask_rightly(self.server, jobs, PATIENCE)
+        with self.lock:
+            self.answered += jobs
+
+    def ask_until(self, is_so, what):
+        """Asks for more jobs, until something is so."""
+        end = time.monotonic() + PATIENCE
+        while not is_so():
+            held(time.monotonic() < end, f"not within {PATIENCE} seconds: {what}")
+            self.ask(mixed_jobs(f"more-{len(self.answered)}", 100))
+
+    def is_away(self, name):
+        """Whether poolman has said of a host that it is not reached, and not yet that it is."""
+        said = [line.split()[0] for line in self.lines() if re.match(rf"(un)?reached {name}\b", line)]
+        return said[-1:] == ["unreached"]
+
+    def kill_in_mid_job(self):
+        """Kills the service that holds a job, waits until poolman does not reach it, and starts it again."""
+        wait_until(lambda: os.path.exists(self.marker) and self.processes.text("held"), PATIENCE, "a service holds a job")
+        name = next(name for name in HEALTHY if self.places[name] == int(self.processes.text("held")))
+        self.services[name].kill()
+        self.services[name].wait()
+        wait_until(lambda: self.is_away(name), PATIENCE, f"{name} is not reached")
+        before = len(self.done(name))
+        self.services[name] = self.start_service(name)
+        self.ask_until(lambda: not self.is_away(name) and len(self.done(name)) > before, f"{name} does jobs again")
+
+    def end(self):
+        """Ends poolman by the end of its input, and holds its totals to what was answered."""
+        self.poolman.stdin.close()
+        status = self.poolman.wait(PATIENCE)
+        held(status in (0, 1), f"poolman ended with status {status}")
+        lines = self.lines()
+        totals = [found for line in lines if (found := TOTALS.fullmatch(line))]
+        held(len(totals) == 1, "not one line of totals")
+        grabbed, running, reported, lost = map(int, totals[0].groups()[:4])
+        held(running == 0 and grabbed == reported + lost, f"the totals do not account for each job: {totals[0][0]}")
+        held(reported == len(self.answered), f"{reported} jobs were reported, and {len(self.answered)} answered")
+        held(lost > 0 and any(re.match(r"ended mute/\d+#\d+ Unserved", line) for line in lines), "no bad host has lost a job")
+
+    def account(self):
+        """Holds that each job was done by a service, as its log says, and that each service was asked by its own workers."""
+        done = set()
+        for name in HEALTHY:
+            for worker, _, unique, function, status in self.done(name):
+                held(worker.startswith(f"{name}/"), f"{name} was asked by {worker}")
+                done.add((function, unique, status))
+        for function, unique, data in self.answered:
+            status = "500" if wanted(function, data) is FAILED else "200"
+            held((function, unique, status) in done, f"no service has done {unique}, {function}")
+
+
+def a_farm(program, processes):
+    farm = Farm(program, processes)
+    farm.start()
+    clients = [lambda n=n: farm.ask(mixed_jobs(f"job-{n}", JOBS)) for n in range(CLIENTS)]
+    at_once([*clients, farm.kill_in_mid_job])
+    farm.ask_until(lambda: all(host.asked for host in farm.bad.values()), "each bad host was asked")
+    farm.end()
+    farm.account()
+
+
+def a_refused_file(program, processes):
+    """Machines without a URL: the fault line, status 3, and nobody is dialled."""
+    farm = Farm(program, processes)
+    with socket.create_server((HOST, farm.server)) as listener:
+        listener.setblocking(False)
+        status = farm.start_poolman("version = 1\n").wait(PATIENCE)
+        said = (status, processes.text("poolman.out"), processes.text("poolman.err"))
+        held(said == (3, "", "poolman: services 11 NoUrl\n"), f"machines without a URL: {said}")
+        with contextlib.suppress(BlockingIOError):
+            listener.accept()
+            held(False, "the job server was dialled before the files were read")
+
+
+def main(program, folder):
+    for part in (a_refused_file, a_farm):
+        os.mkdir(f"{folder}/{part.__name__}")
+        with Processes(f"{folder}/{part.__name__}") as processes:
+            part(program, processes)
+
+
+if __name__ == "__main__":
+    main(*sys.argv[1:])
