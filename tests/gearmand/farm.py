@@ -37,6 +37,25 @@ def free_port():
         return it.getsockname()[1]
 
 
+def at_once(calls):
+    """Makes calls in threads, and hands on the first failure."""
+    failures = []
+
+    def make(call):
+        try:
+            call()
+        except BaseException as error:
+            failures.append(error)
+
+    threads = [threading.Thread(target=make, args=(call,), daemon=True) for call in calls]
+    for it in threads:
+        it.start()
+    for it in threads:
+        it.join()
+    if failures:
+        raise failures[0]
+
+
 def request(kind, *parts):
     """The packet of a request."""
     body = b"\0".join(parts)

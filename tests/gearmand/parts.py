@@ -20,6 +20,7 @@ from farm import (
     Pool,
     all_done,
     ask_rightly,
+    at_once,
     free_port,
     gearman,
     held,
@@ -36,25 +37,6 @@ def mixed_jobs(count, seed):
     """Jobs of the three functions, up to 300 bytes of any kind."""
     dice = random.Random(seed)
     return [(dice.choice(NAMES), dice.randbytes(dice.randrange(300))) for _ in range(count)]
-
-
-def at_once(calls):
-    """Makes calls in threads, and hands on the first failure."""
-    failures = []
-
-    def make(call):
-        try:
-            call()
-        except BaseException as error:
-            failures.append(error)
-
-    threads = [threading.Thread(target=make, args=(call,)) for call in calls]
-    for it in threads:
-        it.start()
-    for it in threads:
-        it.join()
-    if failures:
-        raise failures[0]
 
 
 def mixed(program):
