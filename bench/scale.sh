@@ -1,0 +1,6 @@
+#!/usr/bin/env bash
+# How far a hundred thousand workers, planned in parts, are from the best plan of the whole: bench/scale.sh [PROGRAM]
+# bench/scale/measure.py says what it prints. Without a PROGRAM it takes the one that `rt run` left in crates/poolman/out.
+set -eu
+cd "$(dirname "$0")/.."
+exec python3 bench/scale/measure.py "${1:-crates/poolman/out/poolman}"
