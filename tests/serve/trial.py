@@ -74,10 +74,10 @@ class Processes:
         self.folder = folder
         self.all = []
 
-    def start(self, name, *words, stdin=subprocess.DEVNULL):
+    def start(self, name, *words, stdin=subprocess.DEVNULL, **more):
         """A process whose standard output and error go behind what is in NAME.out and NAME.err."""
         with open(f"{self.folder}/{name}.out", "ab") as out, open(f"{self.folder}/{name}.err", "ab") as err:
-            child = subprocess.Popen(words, stdin=stdin, stdout=out, stderr=err)
+            child = subprocess.Popen(words, stdin=stdin, stdout=out, stderr=err, **more)
         self.all.append(child)
         return child
 
@@ -127,12 +127,23 @@ class Farm:
         wait_until(lambda: listens(port, child), PATIENCE, f"the service {name} listens")
         return child
 
-    def start_poolman(self, services, **more):
+    def write_files(self, services):
         files = [f"{self.processes.folder}/{name}.toml" for name in ("settings", "services")]
         for file, text in zip(files, (settings(self.server), services)):
             with open(file, "w") as it:
                 it.write(text)
-        return self.processes.start("poolman", self.program, "serve", *files, "--until-input", **more)
+        return files
+
+    def start_poolman(self, services, **more):
+        return self.processes.start("poolman", self.program, "serve", *self.write_files(services), "--until-input", **more)
+
+    def start_as_service(self, services):
+        """The script that systemd starts, with poolman on its path."""
+        folder = self.processes.folder
+        os.symlink(os.path.abspath(self.program), f"{folder}/poolman")
+        more = {"PATH": f"{folder}:{os.environ['PATH']}", "RUNTIME_DIRECTORY": folder}
+        script = f"{TOP}/examples/systemd/poolman-serve"
+        return self.processes.start("poolman", script, *self.write_files(services), env={**os.environ, **more})
 
     def workers(self):
         """How many workers the server has for all functions."""
@@ -231,8 +242,18 @@ def a_refused_file(program, processes):
             held(False, "the job server was dialled before the files were read")
 
 
+def a_service_of_systemd(program, processes):
+    """SIGTERM ends it as the end of its input does: with the totals, and the status of a farm that never had a plan."""
+    farm = Farm(program, processes)
+    script = farm.start_as_service(services(farm.places))
+    wait_until(lambda: farm.lines(), PATIENCE, "an attempt is made")
+    script.terminate()
+    status = script.wait(PATIENCE)
+    held(status == 5 and TOTALS.fullmatch(farm.lines()[-1]), f"the script ended with status {status}, and {farm.lines()[-1]}")
+
+
 def main(program, folder):
-    for part in (a_refused_file, a_farm):
+    for part in (a_refused_file, a_service_of_systemd, a_farm):
         os.mkdir(f"{folder}/{part.__name__}")
         with Processes(f"{folder}/{part.__name__}") as processes:
             part(program, processes)
