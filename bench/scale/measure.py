@@ -12,7 +12,6 @@ Behind them are processor seconds: of the search for the best, of the split, of 
 """
 
 import os
-import resource
 import sys
 import tempfile
 import time
@@ -49,6 +48,8 @@ class Planned:
         planned = [self.plan_part(number, of_part) for number, of_part in enumerate(waiting)]
         served = [{function: counts.get(function, 0) for function in part.able} for (_, counts), part in zip(planned, self.parts)]
         together = backlog(self.farm, served)
+        if together == float("inf"):
+            sys.exit("bench/scale: a function with waiting jobs has no worker")
         if together > max(reported for reported, _ in planned):
             sys.exit("bench/scale: the parts together are worse than the worst of them")
         return together, served
@@ -88,7 +89,6 @@ def main(program):
     for kind in KINDS:
         with tempfile.TemporaryDirectory(prefix="scale-") as folder:
             print(*(f"{cell:>12}" for cell in row(program, kind, folder)), flush=True)
-    print(f"peak KiB of a plan: {resource.getrusage(resource.RUSAGE_CHILDREN).ru_maxrss}")
 
 
 if __name__ == "__main__":
