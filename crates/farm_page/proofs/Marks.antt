@@ -23,8 +23,8 @@ any_more : (s t : List ℕ) (nexts : List (List ℕ))
 any_more s t [] begins = begins
 any_more s t (p ∷ nexts) begins =
     elim (or_cases (starts_with nat_eq s p) (list_any (starts_with nat_eq s) nexts) begins) [
-      inl first ↦ or_left _ _ (starts_more s p t first)
-    | inr later ↦ or_right _ _ (any_more s t nexts later)
+      | inl first ↦ or_left _ _ (starts_more s p t first)
+      | inr later ↦ or_right _ _ (any_more s t nexts later)
     ]
 
 head_more : (is_lead : Bool) (s t : List ℕ) (nexts : List (List ℕ))

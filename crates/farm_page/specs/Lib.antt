@@ -1,2 +1,6 @@
 pub mod Escaping
+pub mod Evidence
+pub mod Kept
 pub mod Markup
+pub mod Request
+pub mod View

@@ -1,8 +1,19 @@
 //! The page of a running farm.
 #![tactic(auto)]
 
+mod backlogs;
+mod evidence;
 mod markup;
+mod request;
+mod view;
 mod writing;
 
-pub use markup::Markup;
+pub use backlogs::{Backlogs, DRAWN};
+pub use evidence::{evidence_text, lost_text};
+pub use markup::{Markup, escaped};
+pub use request::{Asked, Method, Place, Refusal, Site, place_asked};
+pub use view::{
+    EndView, Evidence, FarmView, FunctionView, HostView, JobEnds, Outcome, QueueView, Shortage,
+    Workers,
+};
 pub use writing::{put_label, put_number, put_text};

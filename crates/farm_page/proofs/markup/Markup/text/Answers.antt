@@ -10,5 +10,5 @@ invariant_of-self c =
     let old = c.self.inside.bytes.items in
     let text = c.args.text.now in
     let added = c.extend_from_slice.ensures.items
-        ∙ ap (λ t. if is_ok c.extend_from_slice.result then old ++ t else old) (c.as_slice.ensures.value ∙ c.in_ok-words.ensures.text) in
+    ∙ ap (λ t. if is_ok c.extend_from_slice.result then old ++ t else old) (c.as_slice.ensures.value ∙ c.in_ok-words.ensures.text) in
     still_markup_if (is_ok c.extend_from_slice.result) old (page_text text) _ c.self.invariant (is_markup-page_text text) added

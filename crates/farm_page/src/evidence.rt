@@ -1,0 +1,55 @@
+//! The evidence of a plan, as texts.
+
+ghost use Rattle.std.specs.Prelude.{◌≡◌, ◌++◌, IfOk, OnOk};
+ghost use Rattle.farm_page.specs.Evidence as spec;
+
+use crate::view::Evidence;
+use crate::writing::{put_number, put_text};
+use std::alloc::{AllocError, Global};
+
+/// Adds the workers that were not alive, each behind a space.
+fn put_lost(out: &mut Vec<u8>, lost: &[String]) -> Result<(), AllocError>
+    ensures { OnOk result (out.new.items ≡ out.old.items ++ spec.lost_words lost.now) }
+{
+    for worker in lost {
+        put_text(out, " ")?;
+        put_text(out, worker.as_str())?;
+    }
+    Ok(())
+}
+
+/// The workers that were not alive, in one line: `lost north/0 north/1`. The only error is out of memory.
+pub fn lost_text(alloc: Global, evidence: &Evidence) -> Result<Vec<u8>, AllocError>
+    ensures { IfOk result (λ text. text.items ≡ spec.lost_text evidence.now) }
+{
+    let mut out = Vec::new(alloc);
+    put_text(&mut out, "lost")?;
+    put_lost(&mut out, &evidence.lost)?;
+    put_text(&mut out, "\n")?;
+    Ok(out)
+}
+
+/// All that a plan can be checked with, beside the settings, in one text. The only error is out of memory.
+///
+/// ```text
+/// attempt 17
+/// lost north/0 north/1
+/// status
+/// ..                        the status text, to its line `.`
+/// report
+/// ..                        the report, to its line `end`
+/// ```
+pub fn evidence_text(alloc: Global, evidence: &Evidence) -> Result<Vec<u8>, AllocError>
+    ensures { IfOk result (λ text. text.items ≡ spec.evidence_text evidence.now) }
+{
+    let mut out = Vec::new(alloc);
+    put_text(&mut out, "attempt ")?;
+    put_number(&mut out, u64::from(evidence.attempt))?;
+    put_text(&mut out, "\nlost")?;
+    put_lost(&mut out, &evidence.lost)?;
+    put_text(&mut out, "\nstatus\n")?;
+    out.extend_from_slice(&evidence.status)?;
+    put_text(&mut out, "report\n")?;
+    out.extend_from_slice(&evidence.report)?;
+    Ok(out)
+}

@@ -1,0 +1,145 @@
+//! What a page shows of a farm.
+
+ghost use Rattle.std.specs.Prelude.{◌≡◌};
+ghost use Rattle.farm_page.specs.View.{has_plan};
+
+use crate::backlogs::Backlogs;
+
+/// What an attempt to plan came to.
+#[derive(Drop)]
+pub enum Outcome {
+    /// A plan under which so many jobs wait for each worker of a function at most.
+    Backlog(u64),
+    /// A plan, but jobs wait for a function that no worker alive may do: so many for the one that has the most.
+    Unserved(u64),
+    /// No plan meets the least and greatest numbers of workers.
+    NoPlan,
+    /// No round was made. The words say why, as the line of the attempt does.
+    NoRound(String),
+}
+
+impl Outcome {
+    /// Whether it is a plan.
+    pub fn has_plan(&self) -> bool
+        ensures { result ≡ has_plan self.now }
+    {
+        matches!(self, Outcome::Backlog(_) | Outcome::Unserved(_))
+    }
+}
+
+/// How many workers there are.
+#[derive(Clone, Copy)]
+pub struct Workers {
+    /// Those alive.
+    pub alive: u32,
+    /// Those of the settings.
+    pub all: u32,
+}
+
+/// The queue of a function, as the job server counts it.
+#[derive(Clone, Copy)]
+pub struct QueueView {
+    /// Jobs that wait for a worker.
+    pub waiting: u32,
+    /// Jobs that a worker has.
+    pub running: u32,
+}
+
+/// What became of the jobs of a function since the farm began.
+#[derive(Clone, Copy)]
+pub struct JobEnds {
+    /// Jobs that were answered with a result.
+    pub completed: u64,
+    /// Jobs that were answered with a failure.
+    pub failed: u64,
+    /// Jobs whose worker ended without an answer.
+    pub lost: u64,
+}
+
+/// A function of the settings.
+#[derive(Drop)]
+pub struct FunctionView {
+    /// Its name.
+    pub name: String,
+    /// Its queue. None if the attempt had no status of the job server.
+    pub queue: Option<QueueView>,
+    /// How many workers do it.
+    pub workers: u32,
+    /// How many workers are to do it at least.
+    pub least: u32,
+    /// How many may do it at most. None if any number may.
+    pub most: Option<u32>,
+    /// What became of its jobs. None if that is not counted.
+    pub jobs: Option<JobEnds>,
+}
+
+/// A machine of the settings: the host of a service.
+#[derive(Drop)]
+pub struct HostView {
+    /// Its name.
+    pub name: String,
+    /// Its workers.
+    pub workers: Workers,
+    /// Why it is not reached. None if it is.
+    pub unreached: Option<String>,
+}
+
+/// A cause for which workers ended.
+#[derive(Drop)]
+pub struct EndView {
+    /// The cause's name.
+    pub cause: String,
+    /// How many workers ended for it since the farm began.
+    pub count: u64,
+}
+
+/// Functions that are short of workers: what shows that there is no plan, or none with a smaller backlog.
+#[derive(Drop)]
+pub struct Shortage {
+    /// The functions' names.
+    pub functions: Vec<String>,
+    /// How many workers they would need.
+    pub need: u64,
+    /// How many workers alive may do any of them.
+    pub have: u64,
+}
+
+/// All that a plan can be checked with, beside the settings. Its parts are of one attempt.
+#[derive(Drop)]
+pub struct Evidence {
+    /// The attempt's number.
+    pub attempt: u32,
+    /// The report of what the planner answered.
+    pub report: Vec<u8>,
+    /// The status text of the job server that it was made for.
+    pub status: Vec<u8>,
+    /// The workers that were not alive, as `north/0`.
+    pub lost: Vec<String>,
+}
+
+/// A farm after one of its attempts to plan.
+#[derive(Drop)]
+pub struct FarmView {
+    /// The job server's address.
+    pub server: String,
+    /// When the attempt ended, as RFC 3339 writes it. None if the clock could not be read.
+    pub time: Option<String>,
+    /// The attempt's number, from 1; 0 before the first.
+    pub attempt: u32,
+    /// What it came to.
+    pub outcome: Outcome,
+    /// What shows that no plan is better. None if nothing was to be shown.
+    pub shortage: Option<Shortage>,
+    /// The workers of the farm.
+    pub workers: Workers,
+    /// The functions, in the order of the settings.
+    pub functions: Vec<FunctionView>,
+    /// The hosts, in the order of the settings.
+    pub hosts: Vec<HostView>,
+    /// Why workers ended.
+    pub ends: Vec<EndView>,
+    /// The evidence of the last attempt that had any.
+    pub evidence: Option<Evidence>,
+    /// The backlogs of the last attempts, this one's last.
+    pub backlogs: Backlogs,
+}
