@@ -4,6 +4,8 @@
 mod backlogs;
 mod evidence;
 mod markup;
+mod metric;
+mod metrics;
 mod request;
 mod view;
 mod writing;
@@ -11,6 +13,8 @@ mod writing;
 pub use backlogs::{Backlogs, DRAWN};
 pub use evidence::{evidence_text, lost_text};
 pub use markup::{Markup, escaped};
+pub use metric::{Metric, MetricKind};
+pub use metrics::metrics_text;
 pub use request::{Asked, Method, Place, Refusal, Site, place_asked};
 pub use view::{
     EndView, Evidence, FarmView, FunctionView, HostView, JobEnds, Outcome, QueueView, Shortage,
