@@ -1,8 +1,10 @@
 pub mod Escaping
 pub mod Evidence
+pub mod Health
 pub mod Kept
 pub mod Markup
 pub mod Metric
 pub mod Metrics
 pub mod Request
+pub mod Condition
 pub mod View

@@ -2,19 +2,26 @@
 #![tactic(auto)]
 
 mod backlogs;
+mod condition;
 mod evidence;
+mod health;
 mod markup;
 mod metric;
 mod metrics;
+mod page;
 mod request;
+mod style;
 mod view;
 mod writing;
 
 pub use backlogs::{Backlogs, DRAWN};
+pub use condition::{Condition, condition_of, sentence, shortage_words};
 pub use evidence::{evidence_text, lost_text};
+pub use health::{Moment, health_text, is_healthy};
 pub use markup::{Markup, escaped};
 pub use metric::{Metric, MetricKind};
 pub use metrics::metrics_text;
+pub use page::Refresh;
 pub use request::{Asked, Method, Place, Refusal, Site, place_asked};
 pub use view::{
     EndView, Evidence, FarmView, FunctionView, HostView, JobEnds, Outcome, QueueView, Shortage,

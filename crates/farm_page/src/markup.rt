@@ -68,7 +68,7 @@ impl Markup {
     }
 
     /// Adds tags and words of the program's own.
-    pub fn tags(&mut self, text: &str) -> Result<(), AllocError>
+    pub fn put_tags(&mut self, text: &str) -> Result<(), AllocError>
         requires { IsTrue (is_markup text.now) }
         ensures { OnOk result (self.new ≡ self.old ++ text.now) }
     {
@@ -76,7 +76,7 @@ impl Markup {
     }
 
     /// Adds a text of any bytes as words of the page, [escaped].
-    pub fn text(&mut self, text: &[u8]) -> Result<(), AllocError>
+    pub fn put_text(&mut self, text: &[u8]) -> Result<(), AllocError>
         ensures { OnOk result (self.new ≡ self.old ++ spec.page_text text.now) }
     {
         let words = escaped(*self.bytes.allocator(), text)?;
@@ -84,7 +84,7 @@ impl Markup {
     }
 
     /// Adds a number.
-    pub fn number(&mut self, number: u64) -> Result<(), AllocError>
+    pub fn put_number(&mut self, number: u64) -> Result<(), AllocError>
         ensures { OnOk result (self.new ≡ self.old ++ decimal number) }
     {
         put_number(&mut self.bytes, number)

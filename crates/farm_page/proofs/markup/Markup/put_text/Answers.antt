@@ -3,7 +3,7 @@ use Rattle.std.specs.Prelude.{if◌then◌else◌}
 use Rattle.std.specs.Result.{is_ok}
 use Rattle.farm_page.specs.Escaping.{page_text}
 use Rattle.farm_page.proofs.Marks.{is_markup-page_text, still_markup_if}
-use Rattle.farm_page.proofs.markup.Markup.text.Goals as goal
+use Rattle.farm_page.proofs.markup.Markup.put_text.Goals as goal
 
 pub invariant_of-self : goal.invariant_of-self
 invariant_of-self c =

@@ -1,5 +1,5 @@
 use Rattle.farm_page.proofs.Marks.{is_markup-decimal, still_markup}
-use Rattle.farm_page.proofs.markup.Markup.number.Goals as goal
+use Rattle.farm_page.proofs.markup.Markup.put_number.Goals as goal
 
 pub invariant_of-self : goal.invariant_of-self
 invariant_of-self c =

@@ -1,0 +1,77 @@
+-- How a farm is, in one sentence.
+use Rattle.std.specs.Prelude.{ℕ, ◌-◌, List, [], ◌++◌, Bool, true, false, ◌&&◌, nat_le, nat_lt, Option, Some, None, String}
+use Rattle.std.specs.Prelude.{codes, find, if◌then◌else◌, is_none, is_some, length, string_bytes, take}
+use Rattle.std.specs.Global.{Global}
+use Rattle.std.specs.Fmt.{decimal}
+use Rattle.std.specs.List.{flat_map}
+use Rattle.std.specs.Option.{option_map_or}
+use Rattle.farm_page.specs.View.{has_plan}
+use Rattle.farm_page.specs.declared.condition.Condition.{Condition}
+use Rattle.farm_page.specs.declared.condition.Condition.TheVariants.{Bad, Watch, Well}
+use Rattle.farm_page.specs.declared.view.FarmView.{FarmView}
+use Rattle.farm_page.specs.declared.view.HostView.{HostView}
+use Rattle.farm_page.specs.declared.view.Outcome.{Outcome}
+use Rattle.farm_page.specs.declared.view.Outcome.TheVariants.{Backlog, NoPlan, NoRound, Unserved}
+use Rattle.farm_page.specs.declared.view.Shortage.{Shortage}
+use Rattle.farm_page.specs.declared.view.Workers.{Workers}
+
+-- the first host that is not reached
+abbrev pub unreached : List HostView → Option HostView
+unreached hosts = find (λ host. is_some host.unreached) hosts
+
+abbrev pub is_unserved : Outcome → Bool
+is_unserved (Backlog jobs) = false
+is_unserved (Unserved jobs) = true
+is_unserved NoPlan = false
+is_unserved (NoRound why) = false
+
+-- each function with jobs has a worker, each host is reached, and each worker is alive
+abbrev pub is_whole : FarmView → Bool
+is_whole view =
+    if is_unserved view.outcome then false
+    else is_none (unreached view.hosts.items) && nat_le view.workers.all view.workers.alive
+
+abbrev pub condition_of : FarmView → Condition
+condition_of view = if has_plan view.outcome then (if is_whole view then Well else Watch) else Bad
+
+-- ---- the words
+
+-- each name behind a space
+abbrev pub names : List (String Global) → List ℕ
+names functions = flat_map (λ function. codes " " ++ string_bytes function) functions
+
+-- the first three, and how many more there are
+abbrev pub first_names : List (String Global) → List ℕ
+first_names functions =
+    if nat_le (length functions) 3 then names functions
+    else names (take 3 functions) ++ codes " and " ++ decimal (length functions - 3) ++ codes " more"
+
+abbrev pub shortage_words : Shortage → List ℕ
+shortage_words shortage =
+    codes "for" ++ first_names shortage.functions.items ++ codes " " ++ decimal shortage.need
+    ++ codes " workers are needed, and " ++ decimal shortage.have ++ codes " that may do them are alive"
+
+abbrev pub no_plan_words : Option Shortage → List ℕ
+no_plan_words None = codes "No plan meets the least and greatest numbers of workers"
+no_plan_words (Some shortage) = codes "No plan: " ++ shortage_words shortage
+
+abbrev pub alive_words : Workers → List ℕ
+alive_words workers = decimal workers.alive ++ codes " of " ++ decimal workers.all ++ codes " workers are alive"
+
+abbrev pub unreached_words : FarmView → HostView → List ℕ
+unreached_words view host = codes "Host " ++ string_bytes host.name ++ codes " is not reached: " ++ alive_words view.workers
+
+abbrev pub planned_words : FarmView → ℕ → List ℕ
+planned_words view jobs =
+    option_map_or (unreached_words view) (unreached view.hosts.items)
+    (if nat_lt view.workers.alive view.workers.all then alive_words view.workers
+    else codes "Well: backlog " ++ decimal jobs ++ codes ", as small as it can be")
+
+abbrev pub sentence_of : FarmView → Outcome → List ℕ
+sentence_of view (Backlog jobs) = planned_words view jobs
+sentence_of view (Unserved jobs) = decimal jobs ++ codes " jobs wait for a function that no worker alive may do"
+sentence_of view NoPlan = no_plan_words view.shortage
+sentence_of view (NoRound why) = codes "No round was made: " ++ string_bytes why
+
+abbrev pub sentence : FarmView → List ℕ
+sentence view = sentence_of view view.outcome

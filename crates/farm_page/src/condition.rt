@@ -1,0 +1,164 @@
+//! How a farm is, in one sentence.
+
+ghost use Rattle.std.specs.Prelude.{◌≡◌, ◌++◌, IfOk, IsTrue, OnOk, codes, option_map, string_bytes};
+ghost use Rattle.std.specs.Fmt.{decimal};
+ghost use Rattle.std.specs.Option.{option_copied};
+ghost use Rattle.farm_page.specs.Condition as spec;
+
+use crate::view::{FarmView, HostView, Outcome, Shortage, Workers};
+use std::alloc::{AllocError, Global};
+use std::fmt::Write;
+
+/// How many functions a sentence names.
+const NAMED: usize = 3;
+
+/// How a farm is.
+#[derive(Clone, Copy, Debug, PartialEq, Eq)]
+pub enum Condition {
+    /// It has a plan, all its hosts are reached, all its workers are alive, and each function with jobs has a worker.
+    Well,
+    /// It has a plan, but not all that the settings have.
+    Watch,
+    /// It has no plan.
+    Bad,
+}
+
+/// The first host that is not reached.
+fn unreached(hosts: &[HostView]) -> Option<&HostView>
+    ensures { option_copied result ≡ spec.unreached hosts.now }
+{
+    hosts.iter().find(|host| host.unreached.is_some())
+}
+
+/// Whether a farm has workers, hosts and jobs as a farm that is well has them.
+fn is_whole(view: &FarmView) -> bool
+    ensures { result ≡ spec.is_whole view.now }
+{
+    if let Outcome::Unserved(_) = view.outcome {
+        return false;
+    }
+    unreached(&view.hosts).is_none() && view.workers.alive >= view.workers.all
+}
+
+/// How a farm is.
+pub fn condition_of(view: &FarmView) -> Condition
+    ensures { result ≡ spec.condition_of view.now }
+{
+    if !view.outcome.has_plan() {
+        return Condition::Bad;
+    }
+    if is_whole(view) {
+        Condition::Well
+    } else {
+        Condition::Watch
+    }
+}
+
+/// Adds names, each behind a space.
+fn push_names(out: &mut String, functions: &[String]) -> Result<(), AllocError>
+    ensures { OnOk result (string_bytes out.new ≡ string_bytes out.old ++ spec.names functions.now) }
+{
+    for function in functions {
+        write!(out, " {function}")?;
+    }
+    Ok(())
+}
+
+/// Adds the names of the first functions, and how many more there are.
+fn push_first_names(out: &mut String, functions: &[String]) -> Result<(), AllocError>
+    ensures { OnOk result (string_bytes out.new ≡ string_bytes out.old ++ spec.first_names functions.now) }
+{
+    if functions.len() <= NAMED {
+        return push_names(out, functions);
+    }
+    let more = functions.len() - NAMED;
+    push_names(out, &functions[..NAMED])?;
+    write!(out, " and {more} more")
+}
+
+/// What a shortage is, as `for x y 3 workers are needed, and 2 that may do them are alive`. The only error is out of memory.
+pub fn shortage_words(alloc: Global, shortage: &Shortage) -> Result<String, AllocError>
+    ensures { IfOk result (λ words. string_bytes words ≡ spec.shortage_words shortage.now) }
+{
+    let need = shortage.need;
+    let have = shortage.have;
+    let mut out = String::from_str(alloc, "for")?;
+    push_first_names(&mut out, &shortage.functions)?;
+    write!(
+        out,
+        " {need} workers are needed, and {have} that may do them are alive"
+    )?;
+    Ok(out)
+}
+
+/// Why there is no plan.
+fn no_plan_words(alloc: Global, shortage: &Option<Shortage>) -> Result<String, AllocError>
+    ensures { IfOk result (λ words. string_bytes words ≡ spec.no_plan_words shortage.now) }
+{
+    match shortage {
+        Some(shortage) => {
+            let words = shortage_words(alloc, shortage)?;
+            format!(in alloc; "No plan: {words}")
+        }
+        None => String::from_str(
+            alloc,
+            "No plan meets the least and greatest numbers of workers",
+        ),
+    }
+}
+
+/// Adds how many workers of all are alive.
+fn push_alive(out: &mut String, workers: Workers) -> Result<(), AllocError>
+    ensures { OnOk result (string_bytes out.new ≡ string_bytes out.old ++ spec.alive_words workers) }
+{
+    let alive = workers.alive;
+    let all = workers.all;
+    write!(out, "{alive} of {all} workers are alive")
+}
+
+/// That a host is not reached.
+fn unreached_words(alloc: Global, view: &FarmView, host: &HostView) -> Result<String, AllocError>
+    ensures { IfOk result (λ words. string_bytes words ≡ spec.unreached_words view.now host.now) }
+{
+    let name = host.name.as_str();
+    let mut out = String::new(alloc);
+    write!(out, "Host {name} is not reached: ")?;
+    push_alive(&mut out, view.workers)?;
+    Ok(out)
+}
+
+/// That not all workers are alive.
+fn few_words(alloc: Global, workers: Workers) -> Result<String, AllocError>
+    ensures { IfOk result (λ words. string_bytes words ≡ spec.alive_words workers) }
+{
+    let mut out = String::new(alloc);
+    push_alive(&mut out, workers)?;
+    Ok(out)
+}
+
+/// How a farm with a backlog is.
+fn planned_words(alloc: Global, view: &FarmView, jobs: u64) -> Result<String, AllocError>
+    ensures { IfOk result (λ words. string_bytes words ≡ spec.planned_words view.now jobs) }
+{
+    if let Some(host) = unreached(&view.hosts) {
+        return unreached_words(alloc, view, host);
+    }
+    if view.workers.alive < view.workers.all {
+        return few_words(alloc, view.workers);
+    }
+    format!(in alloc; "Well: backlog {jobs}, as small as it can be")
+}
+
+/// How a farm is, in one sentence without a full stop. The only error is out of memory.
+pub fn sentence(alloc: Global, view: &FarmView) -> Result<String, AllocError>
+    ensures { IfOk result (λ words. string_bytes words ≡ spec.sentence view.now) }
+{
+    match &view.outcome {
+        Outcome::Backlog(jobs) => planned_words(alloc, view, *jobs),
+        Outcome::Unserved(jobs) => {
+            format!(in alloc; "{jobs} jobs wait for a function that no worker alive may do")
+        }
+        Outcome::NoPlan => no_plan_words(alloc, &view.shortage),
+        Outcome::NoRound(why) => format!(in alloc; "No round was made: {why}"),
+    }
+}

@@ -1,0 +1,54 @@
+//! Whether a farm is well, for whoever watches it.
+
+ghost use Rattle.std.specs.Prelude.{◌≡◌, IfOk, string_bytes};
+ghost use Rattle.farm_page.specs.Health as spec;
+
+use crate::condition::sentence;
+use crate::view::FarmView;
+use std::alloc::{AllocError, Global};
+use std::fmt::Write;
+
+/// When a farm is looked at.
+#[derive(Clone, Copy)]
+pub struct Moment {
+    /// How many milliseconds ago its last attempt ended.
+    pub age_ms: u64,
+    /// How many milliseconds are between two attempts.
+    pub round_ms: u32,
+}
+
+impl Moment {
+    /// Whether the last attempt is older than three rounds.
+    pub fn is_late(self) -> bool
+        ensures { result ≡ spec.is_late self }
+    {
+        self.age_ms > 3 * u64::from(self.round_ms)
+    }
+}
+
+/// Whether the last attempt led to a plan, and is no older than three rounds.
+pub fn is_healthy(view: &FarmView, moment: Moment) -> bool
+    ensures { result ≡ spec.is_healthy view.now moment }
+{
+    view.outcome.has_plan() && !moment.is_late()
+}
+
+/// That no attempt ended for so long.
+fn late_text(alloc: Global, age_ms: u64) -> Result<String, AllocError>
+    ensures { IfOk result (λ line. string_bytes line ≡ spec.late_text age_ms) }
+{
+    let mut line = String::new(alloc);
+    write!(line, "No attempt ended in the last {age_ms} ms\n")?;
+    Ok(line)
+}
+
+/// The line that says whether a farm is well: its sentence, or that its last attempt is too old. The only error is out of memory.
+pub fn health_text(alloc: Global, view: &FarmView, moment: Moment) -> Result<String, AllocError>
+    ensures { IfOk result (λ line. string_bytes line ≡ spec.health_text view.now moment) }
+{
+    if moment.is_late() {
+        return late_text(alloc, moment.age_ms);
+    }
+    let words = sentence(alloc, view)?;
+    format!(in alloc; "{words}\n")
+}
