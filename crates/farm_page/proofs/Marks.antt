@@ -115,3 +115,7 @@ pub still_markup_if : (b : Bool) (old text new : List ℕ) → is_markup old ≡
     → new ≡ (if b then old ++ text else old) → is_markup new ≡ true
 still_markup_if true old text new before added is = rw is (is_markup-append old text before added)
 still_markup_if false old text new before added is = rw is before
+
+-- a text begins with what it was before more was added
+pub extends_added : (old new more : List ℕ) → new ≡ old ++ more → starts_with nat_eq new old ≡ true
+extends_added old new more is = (starts_is Decides-eqb new old _ refl).1 more is

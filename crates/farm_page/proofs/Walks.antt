@@ -12,3 +12,7 @@ flat_map_step f items i x old new whole inside is added before =
     ap (λ t. t ++ rest) added ∙ append_assoc old (f x) rest
     ∙ ap (λ t. old ++ t) (sym (ap (λ xs. flat_map f xs) (drop_more items i x inside) ∙ ap (λ y. f y ++ rest) (sym is)))
     ∙ before
+
+-- two texts after each other
+pub behind : (old between new a b : List ℕ) → between ≡ old ++ a → new ≡ between ++ b → new ≡ old ++ (a ++ b)
+behind old between new a b first second = second ∙ ap (λ t. t ++ b) first ∙ append_assoc old a b

@@ -6,5 +6,7 @@ pub mod Markup
 pub mod Metric
 pub mod Metrics
 pub mod Request
+pub mod Rows
 pub mod Condition
+pub mod Sections
 pub mod View

@@ -2,7 +2,9 @@
 #![tactic(auto)]
 
 mod backlogs;
+mod cells;
 mod condition;
+mod drawing;
 mod evidence;
 mod health;
 mod markup;
@@ -10,6 +12,8 @@ mod metric;
 mod metrics;
 mod page;
 mod request;
+mod rows;
+mod sections;
 mod style;
 mod view;
 mod writing;
@@ -21,7 +25,7 @@ pub use health::{Moment, health_text, is_healthy};
 pub use markup::{Markup, escaped};
 pub use metric::{Metric, MetricKind};
 pub use metrics::metrics_text;
-pub use page::Refresh;
+pub use page::{Refresh, page_text};
 pub use request::{Asked, Method, Place, Refusal, Site, place_asked};
 pub use view::{
     EndView, Evidence, FarmView, FunctionView, HostView, JobEnds, Outcome, QueueView, Shortage,

@@ -90,6 +90,13 @@ impl Markup {
         put_number(&mut self.bytes, number)
     }
 
+    /// Adds another part of the page.
+    pub fn put(&mut self, part: &Markup) -> Result<(), AllocError>
+        ensures { OnOk result (self.new ≡ self.old ++ part.now) }
+    {
+        self.bytes.extend_from_slice(part.bytes.as_slice())
+    }
+
     /// The bytes of the page.
     pub fn into_bytes(self) -> Vec<u8>
         ensures all { result.items ≡ self }

@@ -1,12 +1,16 @@
 //! The page.
 
 ghost use Rattle.std.specs.Prelude.{◌≡◌, IfOk, IsTrue};
+ghost use Rattle.farm_page.specs.Condition.{sentence};
 ghost use Rattle.farm_page.specs.Markup.{is_markup};
+ghost use Rattle.farm_page.specs.Sections.{Holds, end_rows, function_rows, headline, host_rows};
 
 use crate::condition::{Condition, condition_of, sentence, shortage_words};
+use crate::drawing::drawing;
 use crate::markup::Markup;
+use crate::sections::{Share, ends_section, functions_section, headline, hosts_section};
 use crate::style::{DAY, DRAWINGS, FRAME, NIGHT, TABLES};
-use crate::view::FarmView;
+use crate::view::{FarmView, Shortage};
 use std::alloc::{AllocError, Global};
 
 /// Whether a page asks for itself again.
@@ -18,16 +22,9 @@ pub enum Refresh {
     Never,
 }
 
-/// The head of a page.
-fn put_head(out: &mut Markup, title: &str, refresh: Refresh) -> Result<(), AllocError> {
-    out.put_tags("<!doctype html>\n<html lang=\"en\"><head><meta charset=\"utf-8\">")?;
-    out.put_tags("<meta name=\"viewport\" content=\"width=device-width, initial-scale=1\">")?;
-    if let Refresh::Soon = refresh {
-        out.put_tags("<meta http-equiv=\"refresh\" content=\"5\">")?;
-    }
-    out.put_tags("<title>")?;
-    out.put_text(title.as_bytes())?;
-    out.put_tags(" - poolman</title><link rel=\"icon\" href=\"data:,\"><style>")?;
+/// Adds the style.
+fn put_style(out: &mut Markup) -> Result<(), AllocError> {
+    out.put_tags("<style>")?;
     out.put_tags(DAY)?;
     out.put_tags(NIGHT)?;
     out.put_tags(FRAME)?;
@@ -36,11 +33,108 @@ fn put_head(out: &mut Markup, title: &str, refresh: Refresh) -> Result<(), Alloc
     out.put_tags("</style></head>\n")
 }
 
-/// The tag of a body, which says how the farm is.
+/// Adds the tag of the body, which says how the farm is.
 fn put_body(out: &mut Markup, condition: Condition) -> Result<(), AllocError> {
     match condition {
-        Condition::Well => out.put_tags("<body class=\"well\">"),
-        Condition::Watch => out.put_tags("<body class=\"watch\">"),
-        Condition::Bad => out.put_tags("<body class=\"bad\">"),
+        Condition::Well => out.put_tags("<body class=\"well\">\n"),
+        Condition::Watch => out.put_tags("<body class=\"watch\">\n"),
+        Condition::Bad => out.put_tags("<body class=\"bad\">\n"),
     }
+}
+
+/// What is before the sentence. The only error is out of memory.
+fn head(
+    alloc: Global,
+    view: &FarmView,
+    title: &str,
+    refresh: Refresh,
+) -> Result<Markup, AllocError> {
+    let mut out = Markup::new(alloc);
+    out.put_tags("<!doctype html>\n<html lang=\"en\"><head><meta charset=\"utf-8\">")?;
+    out.put_tags("<meta name=\"viewport\" content=\"width=device-width, initial-scale=1\">")?;
+    if let Refresh::Soon = refresh {
+        out.put_tags("<meta http-equiv=\"refresh\" content=\"5\">")?;
+    }
+    out.put_tags("<title>")?;
+    out.put_text(title.as_bytes())?;
+    out.put_tags(" - poolman</title><link rel=\"icon\" href=\"data:,\">")?;
+    put_style(&mut out)?;
+    put_body(&mut out, condition_of(view))?;
+    out.put_tags("<header><p>poolman at job server ")?;
+    out.put_text(view.server.as_bytes())?;
+    out.put_tags("</p>\n")?;
+    Ok(out)
+}
+
+/// Adds what shows that no plan is better.
+fn put_shortage(
+    alloc: Global,
+    out: &mut Markup,
+    shortage: &Option<Shortage>,
+) -> Result<(), AllocError> {
+    let Some(shortage) = shortage else {
+        return Ok(());
+    };
+    let words = shortage_words(alloc, shortage)?;
+    out.put_tags("<p>What shows it: ")?;
+    out.put_text(words.as_bytes())?;
+    out.put_tags(".</p>\n")
+}
+
+/// Adds the number of the attempt and its time.
+fn put_attempt(out: &mut Markup, view: &FarmView) -> Result<(), AllocError> {
+    out.put_tags("<p>Attempt ")?;
+    out.put_number(u64::from(view.attempt))?;
+    if let Some(time) = &view.time {
+        out.put_tags(" at ")?;
+        out.put_text(time.as_bytes())?;
+    }
+    out.put_tags(". ")
+}
+
+/// What is between the sentence and the drawing. The only error is out of memory.
+fn state(alloc: Global, view: &FarmView, refresh: Refresh) -> Result<Markup, AllocError> {
+    let mut out = Markup::new(alloc);
+    put_shortage(alloc, &mut out, &view.shortage)?;
+    put_attempt(&mut out, view)?;
+    match refresh {
+        Refresh::Soon => out.put_tags("<a href=\"/?still\">hold still</a></p></header>\n<main>\n")?,
+        Refresh::Never => out.put_tags("<a href=\"/\">go on</a></p></header>\n<main>\n")?,
+    }
+    Ok(out)
+}
+
+/// The end of a page.
+const FOOT: &str =
+    "</main><footer><p>Do not trust this page: check the plan yourself with <a href=\"/evidence\">its evidence</a> \
+and <b>poolman check</b>.</p><nav><a href=\"/report\">report</a><a href=\"/status.txt\">status text</a>\
+<a href=\"/lost\">lost workers</a><a href=\"/metrics\">metrics</a><a href=\"/health\">health</a></nav></footer>\n</body></html>\n";
+
+/// The page of a farm, in HTML: how the farm is in one sentence, what shows it, the last backlogs as a drawing, and the tables of the
+/// functions, the hosts and the causes for which workers ended. It has no script, and no file from elsewhere. Whatever names it shows,
+/// each `<` in it begins a tag of the program's own. The only error is out of memory.
+pub fn page_text(alloc: Global, view: &FarmView, refresh: Refresh) -> Result<Vec<u8>, AllocError>
+    ensures own { IfOk result (λ page. IsTrue (is_markup page.items)) }
+    ensures sentence { IfOk result (λ page. Holds page.items (headline (sentence view.now))) }
+    ensures busy { IfOk result (λ page. Holds page.items (function_rows Share.Busy view.now.workers.all view.now.functions.items)) }
+    ensures quiet { IfOk result (λ page. Holds page.items (function_rows Share.Quiet view.now.workers.all view.now.functions.items)) }
+    ensures hosts { IfOk result (λ page. Holds page.items (host_rows view.now.hosts.items)) }
+    ensures ends { IfOk result (λ page. Holds page.items (end_rows view.now.ends.items)) }
+{
+    let words = sentence(alloc, view)?;
+    let mut out = head(alloc, view, words.as_str(), refresh)?;
+    let headline = headline(alloc, words.as_str())?;
+    let state = state(alloc, view, refresh)?;
+    let drawing = drawing(alloc, &view.backlogs)?;
+    let functions = functions_section(alloc, view)?;
+    let hosts = hosts_section(alloc, view)?;
+    let ends = ends_section(alloc, view)?;
+    out.put(&headline)?;
+    out.put(&state)?;
+    out.put(&drawing)?;
+    out.put(&functions)?;
+    out.put(&hosts)?;
+    out.put(&ends)?;
+    out.put_tags(FOOT)?;
+    Ok(out.into_bytes())
 }

@@ -1,0 +1,91 @@
+-- The rows of a page's tables.
+use Rattle.std.specs.Prelude.{ℕ, ◌*◌, ◌/◌, ◌==◌, List, ◌++◌, Option, Some, None, min, nat_lt}
+use Rattle.std.specs.Prelude.{codes, if◌then◌else◌, string_bytes}
+use Rattle.std.specs.Fmt.{decimal}
+use Rattle.std.specs.Option.{option_map_or}
+use Rattle.farm_page.specs.Escaping.{page_text}
+use Rattle.farm_page.specs.Metric.{function_value}
+use Rattle.farm_page.specs.declared.cells.Gap.{Gap}
+use Rattle.farm_page.specs.declared.cells.Gap.TheVariants.{Any, Unknown}
+use Rattle.farm_page.specs.declared.cells.Mark.{Mark}
+use Rattle.farm_page.specs.declared.cells.Mark.TheVariants.{Bad, Plain, Warn}
+use Rattle.farm_page.specs.declared.metric.Metric.TheVariants.{FunctionCompleted, FunctionFailed, FunctionLost}
+use Rattle.farm_page.specs.declared.metric.Metric.TheVariants.{FunctionMost, FunctionRunning, FunctionWaiting}
+use Rattle.farm_page.specs.declared.view.EndView.{EndView}
+use Rattle.farm_page.specs.declared.view.FunctionView.{FunctionView}
+use Rattle.farm_page.specs.declared.view.HostView.{HostView}
+use Rattle.farm_page.specs.declared.view.Workers.{Workers}
+
+-- ---- cells
+
+abbrev pub cell_tag : Mark → List ℕ
+cell_tag Plain = codes "<td>"
+cell_tag Warn = codes "<td class=\"warn\">"
+cell_tag Bad = codes "<td class=\"bad\">"
+
+abbrev pub cell : Mark → ℕ → List ℕ
+cell mark number = cell_tag mark ++ decimal number ++ codes "</td>"
+
+abbrev pub gap_cell : Gap → List ℕ
+gap_cell Any = codes "<td class=\"none\">any</td>"
+gap_cell Unknown = codes "<td class=\"none\">-</td>"
+
+abbrev pub cell_if : Option ℕ → Gap → List ℕ
+cell_if number gap = option_map_or (cell Plain) number (gap_cell gap)
+
+abbrev pub fault : ℕ → List ℕ
+fault number = cell (if number == 0 then Plain else Warn) number
+
+-- a number that is to be 0
+abbrev pub fault_cell : Option ℕ → List ℕ
+fault_cell number = option_map_or fault number (gap_cell Unknown)
+
+abbrev pub row_name : List ℕ → List ℕ
+row_name name = codes "<tr><th scope=\"row\">" ++ page_text name ++ codes "</th>"
+
+-- how much of a bar 84 wide some of all fill
+abbrev pub share : ℕ → ℕ → ℕ
+share part all = if all == 0 then 0 else 84 * min part all / all
+
+abbrev pub bar : Workers → ℕ → List ℕ
+bar workers least =
+    codes "<td><svg class=\"bar\" viewBox=\"0 0 84 8\" aria-hidden=\"true\"><rect class=\"track\" width=\"84\" height=\"8\" rx=\"4\"/>"
+    ++ codes "<rect class=\"fill\" height=\"8\" rx=\"4\" width=\"" ++ decimal (share workers.alive workers.all)
+    ++ codes "\"/><rect class=\"least\" width=\"2\" height=\"8\" x=\"" ++ decimal (share least workers.all) ++ codes "\"/></svg></td>"
+
+-- ---- rows
+
+abbrev pub workers_mark : FunctionView → Mark
+workers_mark f = if nat_lt f.workers f.least then Bad else Plain
+
+-- what waits, what runs, and the workers
+abbrev pub workers_cells : FunctionView → ℕ → List ℕ
+workers_cells f all =
+    cell_if (function_value f FunctionWaiting) Unknown ++ cell_if (function_value f FunctionRunning) Unknown
+    ++ cell (workers_mark f) f.workers ++ bar (record { alive = f.workers; all = all }) f.least
+
+-- what became of the jobs
+abbrev pub jobs_cells : FunctionView → List ℕ
+jobs_cells f =
+    cell_if (function_value f FunctionCompleted) Unknown ++ fault_cell (function_value f FunctionFailed)
+    ++ fault_cell (function_value f FunctionLost)
+
+-- the row of a function in a farm of so many workers
+abbrev pub function_row : ℕ → FunctionView → List ℕ
+function_row all f =
+    row_name (string_bytes f.name) ++ workers_cells f all ++ cell Plain f.least ++ cell_if (function_value f FunctionMost) Any
+    ++ jobs_cells f ++ codes "</tr>\n"
+
+abbrev pub unreached_cell : List ℕ → List ℕ
+unreached_cell why = codes "<td class=\"words bad\">not reached: " ++ page_text why ++ codes "</td>"
+
+abbrev pub reached_cell : HostView → List ℕ
+reached_cell h = option_map_or (λ why. unreached_cell (string_bytes why)) h.unreached (codes "<td class=\"words\">reached</td>")
+
+abbrev pub host_row : HostView → List ℕ
+host_row h =
+    row_name (string_bytes h.name) ++ cell Plain h.workers.alive ++ cell Plain h.workers.all ++ bar h.workers h.workers.all
+    ++ reached_cell h ++ codes "</tr>\n"
+
+abbrev pub end_row : EndView → List ℕ
+end_row end = row_name (string_bytes end.cause) ++ cell Plain end.count ++ codes "</tr>\n"

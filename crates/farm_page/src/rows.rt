@@ -1,0 +1,99 @@
+//! The rows of a page's tables.
+
+ghost use Rattle.std.specs.Prelude.{◌≡◌, ◌++◌, OnOk};
+ghost use Rattle.farm_page.specs.Rows as spec;
+
+use crate::cells::{Gap, Mark, put_bar, put_cell, put_cell_if, put_fault_cell, put_row_name};
+use crate::markup::Markup;
+use crate::metric::{Metric, function_value};
+use crate::view::{EndView, FunctionView, HostView, Workers};
+use std::alloc::AllocError;
+
+/// How the number of a function's workers is shown: it is wrong below the least number.
+fn workers_mark(function: &FunctionView) -> Mark
+    ensures { result ≡ spec.workers_mark function.now }
+{
+    if function.workers < function.least {
+        Mark::Bad
+    } else {
+        Mark::Plain
+    }
+}
+
+/// Adds the numbers of a function's queue and of its workers, of `all` workers of the farm.
+fn put_workers(out: &mut Markup, function: &FunctionView, all: u32) -> Result<(), AllocError>
+    ensures { OnOk result (out.new ≡ out.old ++ spec.workers_cells function.now all) }
+{
+    let alive = function.workers;
+    let waiting = function_value(function, Metric::FunctionWaiting);
+    let running = function_value(function, Metric::FunctionRunning);
+    put_cell_if(out, waiting, Gap::Unknown)?;
+    put_cell_if(out, running, Gap::Unknown)?;
+    put_cell(out, workers_mark(function), u64::from(alive))?;
+    put_bar(out, Workers { alive, all }, function.least)
+}
+
+/// Adds what became of a function's jobs.
+fn put_jobs(out: &mut Markup, function: &FunctionView) -> Result<(), AllocError>
+    ensures { OnOk result (out.new ≡ out.old ++ spec.jobs_cells function.now) }
+{
+    let completed = function_value(function, Metric::FunctionCompleted);
+    let failed = function_value(function, Metric::FunctionFailed);
+    let lost = function_value(function, Metric::FunctionLost);
+    put_cell_if(out, completed, Gap::Unknown)?;
+    put_fault_cell(out, failed)?;
+    put_fault_cell(out, lost)
+}
+
+/// Adds the row of a function, of a farm with so many workers.
+pub fn put_function(out: &mut Markup, function: &FunctionView, all: u32) -> Result<(), AllocError>
+    ensures { OnOk result (out.new ≡ out.old ++ spec.function_row all function.now) }
+{
+    let most = function_value(function, Metric::FunctionMost);
+    put_row_name(out, function.name.as_str())?;
+    put_workers(out, function, all)?;
+    put_cell(out, Mark::Plain, u64::from(function.least))?;
+    put_cell_if(out, most, Gap::Any)?;
+    put_jobs(out, function)?;
+    out.put_tags("</tr>\n")
+}
+
+/// Adds why a host is not reached.
+fn put_unreached(out: &mut Markup, why: &str) -> Result<(), AllocError>
+    ensures { OnOk result (out.new ≡ out.old ++ spec.unreached_cell why.now) }
+{
+    out.put_tags("<td class=\"words bad\">not reached: ")?;
+    out.put_text(why.as_bytes())?;
+    out.put_tags("</td>")
+}
+
+/// Adds whether a host is reached.
+fn put_reached(out: &mut Markup, host: &HostView) -> Result<(), AllocError>
+    ensures { OnOk result (out.new ≡ out.old ++ spec.reached_cell host.now) }
+{
+    match &host.unreached {
+        None => out.put_tags("<td class=\"words\">reached</td>"),
+        Some(why) => put_unreached(out, why.as_str()),
+    }
+}
+
+/// Adds the row of a host.
+pub fn put_host(out: &mut Markup, host: &HostView) -> Result<(), AllocError>
+    ensures { OnOk result (out.new ≡ out.old ++ spec.host_row host.now) }
+{
+    put_row_name(out, host.name.as_str())?;
+    put_cell(out, Mark::Plain, u64::from(host.workers.alive))?;
+    put_cell(out, Mark::Plain, u64::from(host.workers.all))?;
+    put_bar(out, host.workers, host.workers.all)?;
+    put_reached(out, host)?;
+    out.put_tags("</tr>\n")
+}
+
+/// Adds the row of a cause.
+pub fn put_end(out: &mut Markup, end: &EndView) -> Result<(), AllocError>
+    ensures { OnOk result (out.new ≡ out.old ++ spec.end_row end.now) }
+{
+    put_row_name(out, end.cause.as_str())?;
+    put_cell(out, Mark::Plain, end.count)?;
+    out.put_tags("</tr>\n")
+}
