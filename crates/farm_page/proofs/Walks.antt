@@ -14,5 +14,5 @@ flat_map_step f items i x old new whole inside is added before =
     ∙ before
 
 -- two texts after each other
-pub behind : (old between new a b : List ℕ) → between ≡ old ++ a → new ≡ between ++ b → new ≡ old ++ (a ++ b)
+pub behind : {T : Type 0} (old between new a b : List T) → between ≡ old ++ a → new ≡ between ++ b → new ≡ old ++ (a ++ b)
 behind old between new a b first second = second ∙ ap (λ t. t ++ b) first ∙ append_assoc old a b

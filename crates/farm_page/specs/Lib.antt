@@ -1,12 +1,16 @@
+pub mod Answer
 pub mod Escaping
 pub mod Evidence
+pub mod Headers
 pub mod Health
 pub mod Kept
 pub mod Markup
 pub mod Metric
 pub mod Metrics
+pub mod Replying
 pub mod Request
 pub mod Rows
 pub mod Condition
 pub mod Sections
+pub mod Told
 pub mod View

@@ -28,6 +28,8 @@ pub struct Asked<'r> {
     pub method: Method,
     /// The path of the target.
     pub path: &'r [u8],
+    /// The query of the target is `still`.
+    pub is_still: bool,
     /// The value of the header `host`.
     pub host: Option<&'r [u8]>,
     /// The authority of the target, if the target is a whole URL.

@@ -41,3 +41,8 @@ figcaption b{color:var(--text);font-weight:600}svg{display:block;width:100%}.cha
 .curve{fill:none;stroke:var(--blue);stroke-width:1.6;stroke-linejoin:round}.gap{fill:var(--bad);opacity:.16}\
 .track{fill:var(--line)}.fill{fill:var(--blue)}.least{fill:var(--text)}\
 @media(max-width:720px){h1{font-size:22px}main,header,footer{padding:0 12px}}";
+
+/// What a browser may load for an answer: the style, by its hash, and an icon of no bytes.
+pub const POLICY: &str =
+    "default-src 'none'; style-src 'sha256-QkqOVy9nuOZHMCsQ92V2wc+RGfAL8hH0vdeQfBkmh08='; img-src data:; base-uri 'none'; \
+form-action 'none'; frame-ancestors 'none'";

@@ -1,0 +1,105 @@
+-- What a request is answered.
+use Rattle.std.specs.Prelude.{ℕ, ◌≡◌, List, Bool, Option, Some, None, Result, Ok, Err, IsTrue, codes, if◌then◌else◌}
+use Rattle.farm_page.specs.Condition.{sentence}
+use Rattle.farm_page.specs.Evidence.{evidence_text, lost_text}
+use Rattle.farm_page.specs.Health.{health_text, is_healthy}
+use Rattle.farm_page.specs.Markup.{is_markup}
+use Rattle.farm_page.specs.Metrics.{metrics_text}
+use Rattle.farm_page.specs.Sections.{Holds, end_rows, function_rows, headline, host_rows}
+use Rattle.farm_page.specs.Told.{Told}
+use Rattle.farm_page.specs.declared.answer.Allowed.{Allowed}
+use Rattle.farm_page.specs.declared.answer.Allowed.TheVariants.{Posts, Reads}
+use Rattle.farm_page.specs.declared.answer.Content.TheVariants as content
+use Rattle.farm_page.specs.declared.answer.Status.{Status}
+use Rattle.farm_page.specs.declared.answer.Status.TheVariants as status
+use Rattle.farm_page.specs.declared.replying.Part.{Part}
+use Rattle.farm_page.specs.declared.replying.Part.TheVariants as part
+use Rattle.farm_page.specs.declared.replying.Reply.{Reply}
+use Rattle.farm_page.specs.declared.replying.Reply.TheVariants.{Drain, Told as told}
+use Rattle.farm_page.specs.declared.replying.Seen.{Seen}
+use Rattle.farm_page.specs.declared.request.Place.{Place}
+use Rattle.farm_page.specs.declared.request.Place.TheVariants as place
+use Rattle.farm_page.specs.declared.request.Refusal.{Refusal}
+use Rattle.farm_page.specs.declared.request.Refusal.TheVariants as refusal
+use Rattle.farm_page.specs.declared.sections.Share.TheVariants.{Busy, Quiet}
+use Rattle.farm_page.specs.declared.view.Evidence.{Evidence}
+use Rattle.farm_page.specs.declared.view.FarmView.{FarmView}
+
+abbrev pub text_of : Status → List ℕ → Told
+text_of status words = record { status = status; content = content.Text; attempt = None; allowed = None; body = words }
+
+abbrev pub not_allowed : Allowed → List ℕ → Told
+not_allowed allowed words =
+    record { status = status.MethodNotAllowed; content = content.Text; attempt = None; allowed = Some allowed; body = words }
+
+-- each refusal with its status
+abbrev pub refused : Refusal → Told
+refused refusal.OtherHost = text_of status.Forbidden (codes "403: this page has another host\n")
+refused refusal.NoSuchPath = text_of status.NotFound (codes "404: there is nothing here\n")
+refused refusal.OnlyRead = not_allowed Reads (codes "405: this is only read\n")
+refused refusal.OnlyPosted = not_allowed Posts (codes "405: this is only posted to\n")
+refused refusal.NoDrain = text_of status.Forbidden (codes "403: a drain comes from this machine, with its header\n")
+
+-- ---- the evidence
+
+abbrev pub part_text : Part → Evidence → List ℕ
+part_text part.Whole evidence = evidence_text evidence
+part_text part.Report evidence = evidence.report.items
+part_text part.Status evidence = evidence.status.items
+part_text part.Lost evidence = lost_text evidence
+
+-- the text, with the number of the attempt that it is of
+abbrev pub part_answer : Part → Option Evidence → Told
+part_answer part None = text_of status.Unavailable (codes "503: there was no round yet\n")
+part_answer part (Some evidence) = record {
+  status = status.Ok;
+  content = content.Text;
+  attempt = Some evidence.attempt;
+  allowed = None;
+  body = part_text part evidence;
+}
+
+-- ---- the farm
+
+abbrev pub metrics_answer : FarmView → Told
+metrics_answer farm = record {
+  status = status.Ok;
+  content = content.Metrics;
+  attempt = Some farm.attempt;
+  allowed = None;
+  body = metrics_text farm;
+}
+
+abbrev pub health_answer : Seen → Told
+health_answer seen =
+    text_of (if is_healthy seen.farm.now seen.moment then status.Ok else status.Unavailable) (health_text seen.farm.now seen.moment)
+
+-- a page without a tag that is not its own, with the sentence of the farm and a row for each function, host and cause
+pub record IsPage (farm : FarmView) (answer : Told) : Type 0 where
+  pub found : answer.status ≡ status.Ok
+  pub shown : answer.content ≡ content.Page
+  pub attempt : answer.attempt ≡ Some farm.attempt
+  pub allowed : answer.allowed ≡ None
+  pub own : IsTrue (is_markup answer.body)
+  pub sentence : Holds answer.body (headline (sentence farm))
+  pub busy : Holds answer.body (function_rows Busy farm.workers.all farm.functions.items)
+  pub quiet : Holds answer.body (function_rows Quiet farm.workers.all farm.functions.items)
+  pub hosts : Holds answer.body (host_rows farm.hosts.items)
+  pub ends : Holds answer.body (end_rows farm.ends.items)
+
+-- ---- all together
+
+abbrev pub RepliesAt : Seen → Place → Reply → Type 0
+RepliesAt seen place.Page reply = (answer : Told) × (reply ≡ told answer) × IsPage seen.farm.now answer
+RepliesAt seen place.Metrics reply = reply ≡ told (metrics_answer seen.farm.now)
+RepliesAt seen place.Evidence reply = reply ≡ told (part_answer part.Whole seen.farm.now.evidence)
+RepliesAt seen place.Report reply = reply ≡ told (part_answer part.Report seen.farm.now.evidence)
+RepliesAt seen place.Status reply = reply ≡ told (part_answer part.Status seen.farm.now.evidence)
+RepliesAt seen place.Lost reply = reply ≡ told (part_answer part.Lost seen.farm.now.evidence)
+RepliesAt seen place.Health reply = reply ≡ told (health_answer seen)
+RepliesAt seen place.Drain reply = reply ≡ Drain
+
+-- what is asked for, or the refusal
+abbrev pub Replies : Seen → Result Place Refusal → Reply → Type 0
+Replies seen (Ok at) reply = RepliesAt seen at reply
+Replies seen (Err refusal) reply = reply ≡ told (refused refusal)
