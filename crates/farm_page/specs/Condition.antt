@@ -1,5 +1,5 @@
 -- How a farm is, in one sentence.
-use Rattle.std.specs.Prelude.{ℕ, ◌-◌, List, [], ◌++◌, Bool, true, false, ◌&&◌, nat_le, nat_lt, Option, Some, None, String}
+use Rattle.std.specs.Prelude.{ℕ, ◌-◌, List, ◌++◌, Bool, true, false, ◌&&◌, nat_le, nat_lt, Option, Some, None, String}
 use Rattle.std.specs.Prelude.{codes, find, if◌then◌else◌, is_none, is_some, length, string_bytes, take}
 use Rattle.std.specs.Global.{Global}
 use Rattle.std.specs.Fmt.{decimal}

@@ -1,5 +1,5 @@
 -- What a request is answered.
-use Rattle.std.specs.Prelude.{ℕ, ◌≡◌, List, Bool, Option, Some, None, Result, Ok, Err, IsTrue, codes, if◌then◌else◌}
+use Rattle.std.specs.Prelude.{ℕ, ◌≡◌, List, Option, Some, None, Result, Ok, Err, IsTrue, codes, if◌then◌else◌}
 use Rattle.farm_page.specs.Condition.{sentence}
 use Rattle.farm_page.specs.Evidence.{evidence_text, lost_text}
 use Rattle.farm_page.specs.Health.{health_text, is_healthy}

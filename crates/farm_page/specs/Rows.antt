@@ -1,5 +1,5 @@
 -- The rows of a page's tables.
-use Rattle.std.specs.Prelude.{ℕ, ◌*◌, ◌/◌, ◌==◌, List, ◌++◌, Option, Some, None, min, nat_lt}
+use Rattle.std.specs.Prelude.{ℕ, ◌*◌, ◌/◌, ◌==◌, List, ◌++◌, Option, min, nat_lt}
 use Rattle.std.specs.Prelude.{codes, if◌then◌else◌, string_bytes}
 use Rattle.std.specs.Fmt.{decimal}
 use Rattle.std.specs.Option.{option_map_or}

@@ -18,14 +18,21 @@ fn put_lost(out: &mut Vec<u8>, lost: &[String]) -> Result<(), AllocError>
     Ok(())
 }
 
+/// Adds the line of the workers that were not alive.
+fn put_lost_line(out: &mut Vec<u8>, evidence: &Evidence) -> Result<(), AllocError>
+    ensures { OnOk result (out.new.items ≡ out.old.items ++ spec.lost_text evidence.now) }
+{
+    put_text(out, "lost")?;
+    put_lost(out, &evidence.lost)?;
+    put_text(out, "\n")
+}
+
 /// The workers that were not alive, in one line: `lost north/0 north/1`. The only error is out of memory.
 pub fn lost_text(alloc: Global, evidence: &Evidence) -> Result<Vec<u8>, AllocError>
     ensures { IfOk result (λ text. text.items ≡ spec.lost_text evidence.now) }
 {
     let mut out = Vec::new(alloc);
-    put_text(&mut out, "lost")?;
-    put_lost(&mut out, &evidence.lost)?;
-    put_text(&mut out, "\n")?;
+    put_lost_line(&mut out, evidence)?;
     Ok(out)
 }
 
@@ -45,9 +52,9 @@ pub fn evidence_text(alloc: Global, evidence: &Evidence) -> Result<Vec<u8>, Allo
     let mut out = Vec::new(alloc);
     put_text(&mut out, "attempt ")?;
     put_number(&mut out, u64::from(evidence.attempt))?;
-    put_text(&mut out, "\nlost")?;
-    put_lost(&mut out, &evidence.lost)?;
-    put_text(&mut out, "\nstatus\n")?;
+    put_text(&mut out, "\n")?;
+    put_lost_line(&mut out, evidence)?;
+    put_text(&mut out, "status\n")?;
     out.extend_from_slice(&evidence.status)?;
     put_text(&mut out, "report\n")?;
     out.extend_from_slice(&evidence.report)?;

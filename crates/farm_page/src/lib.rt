@@ -1,4 +1,18 @@
-//! The page of a running farm.
+//! The page of a running farm: what is shown of it, and what a request for it is answered. It opens no socket and starts no thread.
+//!
+//! A [`FarmView`] is a farm after one of its attempts to plan. [`reply_to`] answers a request about it: [`place_asked`] says what is asked
+//! for or why it is refused, and the texts are [`page_text`], [`metrics_text`], [`evidence_text`], [`lost_text`] and [`health_text`].
+//!
+//! | request | answer |
+//! |---|---|
+//! | `GET /` | the page, which asks for itself again every five seconds; `/?still` does not |
+//! | `GET /metrics` | the metrics, in the text format of Prometheus |
+//! | `GET /evidence` | the report, the status text and the lost workers of one attempt, in one text |
+//! | `GET /report`, `/status.txt`, `/lost` | its parts |
+//! | `GET /health` | 200 if the last attempt led to a plan and is no older than three rounds, else 503; its body says how the farm is |
+//! | `POST /drain` | the end of the farm, if it comes from this machine with the header `poolman: drain` |
+//!
+//! HEAD has the headers of GET. A request for another host gets 403, another path 404, another method 405.
 #![tactic(auto)]
 
 mod answer;
@@ -33,8 +47,8 @@ pub use metrics::metrics_text;
 pub use page::{Refresh, page_text};
 pub use replying::{Reply, Seen, reply_to};
 pub use request::{Asked, Method, Place, Refusal, Site, place_asked};
+pub use style::POLICY;
 pub use view::{
     EndView, Evidence, FarmView, FunctionView, HostView, JobEnds, Outcome, QueueView, Shortage,
     Workers,
 };
-pub use writing::{put_label, put_number, put_text};

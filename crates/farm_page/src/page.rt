@@ -10,7 +10,7 @@ use crate::drawing::drawing;
 use crate::markup::Markup;
 use crate::sections::{Share, ends_section, functions_section, headline, hosts_section};
 use crate::style::{DAY, DRAWINGS, FRAME, NIGHT, TABLES};
-use crate::view::{FarmView, Shortage};
+use crate::view::FarmView;
 use std::alloc::{AllocError, Global};
 
 /// Whether a page asks for itself again.
@@ -66,17 +66,14 @@ fn head(
     Ok(out)
 }
 
-/// Adds what shows that no plan is better.
-fn put_shortage(
-    alloc: Global,
-    out: &mut Markup,
-    shortage: &Option<Shortage>,
-) -> Result<(), AllocError> {
-    let Some(shortage) = shortage else {
-        return Ok(());
+/// Adds what shows that no plan is better. The sentence of a farm without a plan says it already.
+fn put_shortage(alloc: Global, out: &mut Markup, view: &FarmView) -> Result<(), AllocError> {
+    let shortage = match &view.shortage {
+        Some(shortage) if view.outcome.has_plan() => shortage,
+        _ => return Ok(()),
     };
     let words = shortage_words(alloc, shortage)?;
-    out.put_tags("<p>What shows it: ")?;
+    out.put_tags("<p>No plan is better: ")?;
     out.put_text(words.as_bytes())?;
     out.put_tags(".</p>\n")
 }
@@ -95,7 +92,7 @@ fn put_attempt(out: &mut Markup, view: &FarmView) -> Result<(), AllocError> {
 /// What is between the sentence and the drawing. The only error is out of memory.
 fn state(alloc: Global, view: &FarmView, refresh: Refresh) -> Result<Markup, AllocError> {
     let mut out = Markup::new(alloc);
-    put_shortage(alloc, &mut out, &view.shortage)?;
+    put_shortage(alloc, &mut out, view)?;
     put_attempt(&mut out, view)?;
     match refresh {
         Refresh::Soon => out.put_tags("<a href=\"/?still\">hold still</a></p></header>\n<main>\n")?,

@@ -1,4 +1,3 @@
-use Rattle.std.proofs.Common.{arith}
 use Rattle.farm_page.specs.Metrics.{end_sample}
 use Rattle.farm_page.proofs.Walks.{flat_map_step}
 use Rattle.farm_page.proofs.metrics.put_ends.Goals as goal

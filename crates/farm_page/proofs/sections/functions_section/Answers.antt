@@ -1,5 +1,5 @@
 use Rattle.std.proofs.Common.{◌++◌, ◌∙◌, ap}
-use Rattle.farm_page.specs.Sections.{Holds, function_rows}
+use Rattle.farm_page.specs.Sections.{function_rows}
 use Rattle.farm_page.specs.declared.sections.Share.TheVariants.{Busy, Quiet}
 use Rattle.farm_page.proofs.Held.{holds_last, holds_more}
 use Rattle.farm_page.proofs.sections.functions_section.Goals as goal
