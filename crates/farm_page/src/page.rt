@@ -1,6 +1,6 @@
 //! The page.
 
-ghost use Rattle.std.specs.Prelude.{◌≡◌, IfOk, IsTrue};
+ghost use Rattle.std.specs.Prelude.{IfOk, IsTrue};
 ghost use Rattle.farm_page.specs.Condition.{sentence};
 ghost use Rattle.farm_page.specs.Markup.{is_markup};
 ghost use Rattle.farm_page.specs.Sections.{Holds, end_rows, function_rows, headline, host_rows};

@@ -1,7 +1,6 @@
 //! The parts of a page that say what the farm is: its sentence, and its tables.
 
-ghost use Rattle.std.specs.Prelude.{◌≡◌, ◌++◌, IfOk, IsTrue, OnOk};
-ghost use Rattle.farm_page.specs.Markup.{is_markup};
+ghost use Rattle.std.specs.Prelude.{◌≡◌, ◌++◌, IfOk, OnOk};
 ghost use Rattle.farm_page.specs.Sections as spec;
 
 use crate::markup::Markup;
