@@ -16,3 +16,7 @@ flat_map_step f items i x old new whole inside is added before =
 -- two texts after each other
 pub behind : {T : Type 0} (old between new a b : List T) → between ≡ old ++ a → new ≡ between ++ b → new ≡ old ++ (a ++ b)
 behind old between new a b first second = second ∙ ap (λ t. t ++ b) first ∙ append_assoc old a b
+
+-- a text behind one that is known
+pub behind_known : (between new a b : List ℕ) → between ≡ a → new ≡ between ++ b → new ≡ a ++ b
+behind_known between new a b known added = added ∙ ap (λ t. t ++ b) known
