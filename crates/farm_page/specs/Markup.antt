@@ -2,7 +2,7 @@
 use Rattle.std.specs.Prelude.{ℕ, ◌≡◌, ◌++◌, List, [], ◌∷◌, Bool, ◌&&◌, codes}
 use Rattle.farm_page.specs.Escaping.{is_followed}
 
--- what follows a `<`: none of them begins a script, a frame, a picture or a form
+-- what follows a `<`: none of them begins a script, a frame, an image or a form
 abbrev pub tags : List (List ℕ)
 tags =
     codes "!doctype html>" ∷ codes "html " ∷ codes "/html>" ∷ codes "head>" ∷ codes "/head>" ∷ codes "meta " ∷ codes "title>"

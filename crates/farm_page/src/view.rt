@@ -109,9 +109,9 @@ pub struct Shortage {
 pub struct Evidence {
     /// The attempt's number.
     pub attempt: u32,
-    /// The report of what the planner answered.
+    /// The report of what the planner answered, whole.
     pub report: Vec<u8>,
-    /// The status text of the job server that it was made for.
+    /// The status text of the job server that it was made for, to the end of its line `.`.
     pub status: Vec<u8>,
     /// The workers that were not alive, as `north/0`.
     pub lost: Vec<String>,
