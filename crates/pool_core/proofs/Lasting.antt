@@ -64,10 +64,10 @@ no_fall (y ∷ slots) (suc i) x h (suc s) = no_fall slots i x h s
 no_fall_of : (state : State) (w : WorkerName) (x : Slot) → is_live_in state w ≡ true → last_generation x ≡ w.generation → (s : ℕ) → last_generation (slot_in state.slots s) ≤ last_generation (get_or (set state.slots w.slot x) s (Empty 0))
 no_fall_of state w x live is s = no_fall state.slots w.slot x (omega (arith, is, generation_last (slot_in state.slots w.slot) w.generation live)) s
 
-same_slots : (state : State) (s : ℕ) → last_generation (slot_in state.slots s) ≤ last_generation (slot_in state.slots s)
+pub same_slots : (state : State) (s : ℕ) → last_generation (slot_in state.slots s) ≤ last_generation (slot_in state.slots s)
 same_slots state s = omega arith
 
-same_jobs : (old new : State) → new.jobs ≡ old.jobs → ((k : ℕ) (x : Standing) → standing_in old.standings k ≡ Some x → is_open x ≡ false → standing_in new.standings k ≡ Some x)
+pub same_jobs : (old new : State) → new.jobs ≡ old.jobs → ((k : ℕ) (x : Standing) → standing_in old.standings k ≡ Some x → is_open x ≡ false → standing_in new.standings k ≡ Some x)
     → ((s : ℕ) → last_generation (slot_in old.slots s) ≤ last_generation (slot_in new.slots s)) → ExtendsState old new
 same_jobs old new is h g = record { jobs = ([], is ∙ sym (append-nil old.jobs)); closed = h; generations = g }
 
@@ -98,7 +98,7 @@ extends_after settings (event.Lost worker cause) state h p =
     (lost_keeps state.standings (open_ticket state worker) worker cause (λ k e. h.tickets worker.slot k e))
     (no_fall_of state worker (Empty worker.generation) p refl)
 
-extends_trans : (a b c : State) → ExtendsState a b → ExtendsState b c → ExtendsState a c
+pub extends_trans : (a b c : State) → ExtendsState a b → ExtendsState b c → ExtendsState a c
 extends_trans a b c h k =
     record {
       jobs = (h.jobs.0 ++ k.jobs.0, k.jobs.1 ∙ ap (λ (xs : List Job). xs ++ k.jobs.0) h.jobs.1 ∙ append_assoc a.jobs h.jobs.0 k.jobs.0);
@@ -255,9 +255,11 @@ pub bases_are_sound_lem : BasesAreSound
 bases_are_sound_lem settings r chapters base h =
     subst (IsSoundState settings) (sym h.replays.replayed) (sound_all settings r h.before (first settings) (sound_first settings r) h.replays.history)
 
+pub chapter_sound : (book : Book) → AreSettings book.settings → IsChapter book.settings book.chapters book.events book.state → IsSoundState book.settings book.state
+chapter_sound book r k =
+    subst (IsSoundState book.settings) (sym k.replays.replayed) (sound_all book.settings r book.events k.base (bases_are_sound_lem book.settings r book.chapters k.base k.begins) k.replays.history)
+
 pub events_count_lem : (book : Book) → AreSettings book.settings → IsChapter book.settings book.chapters book.events book.state → EventsCount book
 events_count_lem book r k e new s =
-    let based = bases_are_sound_lem book.settings r book.chapters k.base k.begins in
-    let sound : IsSoundState book.settings book.state = subst (IsSoundState book.settings) (sym k.replays.replayed) (sound_all book.settings r book.events k.base based k.replays.history) in
-    let a = adds_after book.settings e book.state sound s.possible in
+    let a = adds_after book.settings e book.state (chapter_sound book r k) s.possible in
     (ap (λ (t : State). length t.standings) s.state ∙ a.grabs, ap (λ (t : State). count_by is_reported t.standings) s.state ∙ a.reports)

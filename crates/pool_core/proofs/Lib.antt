@@ -9,5 +9,6 @@ pub mod Lasting
 pub mod Booked
 pub mod Grabbers
 pub mod Told
+mod Handed
 pub mod Ordered
 mod Inputs

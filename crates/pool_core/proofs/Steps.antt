@@ -1,12 +1,9 @@
 -- A history that grows by one event, and what a pool keeps then.
 use Rattle.std.proofs.Common.{◌≡◌, ℕ, ◌+◌, ◌≤◌, List, [], ◌∷◌, ◌++◌, length, refl, sym, ap, ◌∙◌, subst, arith, length-append}
-use Rattle.std.specs.Prelude.{count_by}
 use Rattle.pool_settings.specs.Settings.{Settings}
-use Rattle.worker_state.specs.Slots.{is_reported, is_lost}
 use Rattle.pool_core.specs.declared.event.Event.{Event}
 use Rattle.pool_core.specs.Machine.{State, first, after, IsPossible, replay, IsHistory, IsReplay, owed}
-use Rattle.pool_core.specs.Kept.{IsKeptBook, IsChapter}
-use Rattle.pool_core.proofs.Sound.{sound_after}
+use Rattle.pool_core.specs.Kept.{IsChapter}
 
 -- joined lists replay one after the other
 pub replay-append : (settings : Settings) (base : State) (xs ys : List Event) → replay settings base (xs ++ ys) ≡ replay settings (replay settings base xs) ys
@@ -52,22 +49,4 @@ next_chapter_is settings chapters events state h =
         replays = replays_joined settings (first settings) h.begins.before h.base events state h.begins.replays h.replays;
       };
       replays = record { history = tt; replayed = refl };
-    }
-
-pub kept_more : (settings : Settings) (chapters : ℕ) (events : List Event) (state : State) (owes reported lost capacity : ℕ) → IsKeptBook (record { settings = settings; events = events; state = state; chapters = chapters }) owes reported lost capacity
-    → (e : Event) → IsPossible settings e state
-    → (owes' reported' lost' capacity' : ℕ) → owes' ≡ owed (after settings e state)
-    → reported' ≡ count_by is_reported (after settings e state).standings → lost' ≡ count_by is_lost (after settings e state).standings
-    → length events + 1 + owes' ≤ settings.history → length events + 1 + owes' ≤ capacity'
-    → IsKeptBook (record { settings = settings; events = (events ++ e ∷ []); state = (after settings e state); chapters = chapters }) owes' reported' lost' capacity'
-kept_more settings chapters events state owes reported lost capacity h e p owes' reported' lost' capacity' o r l within reserved =
-    record {
-      in_range = h.in_range;
-      history = chapter_more settings chapters events state e h.history p;
-      sound = sound_after settings e state h.in_range h.sound p;
-      owes_is = o;
-      reported_is = r;
-      lost_is = l;
-      within = omega (arith, length-append events (e ∷ []), within);
-      reserved = omega (arith, length-append events (e ∷ []), reserved);
     }

@@ -9,6 +9,7 @@ use Rattle.worker_state.specs.declared.job.Standing.{Standing}
 use Rattle.worker_state.specs.Limits.{max_generation, max_rounds, max_chapters, max_tickets}
 use Rattle.worker_state.specs.Slots.{is_live, last_generation, run_count, is_running, is_reporting, is_open, is_reported, is_lost}
 use Rattle.pool_core.specs.declared.event.Event.{Event}
+use Rattle.pool_core.specs.declared.event.Job.{Job}
 use Rattle.pool_core.specs.declared.error.JoinError.{JoinError}
 use Rattle.pool_core.specs.declared.error.JoinError.TheVariants as join
 use Rattle.pool_core.specs.declared.error.LoadError.{LoadError}
@@ -38,15 +39,17 @@ use Rattle.pool_core.specs.declared.error.ExpireError.{ExpireError}
 use Rattle.pool_core.specs.declared.error.ExpireError.TheVariants as expire
 use Rattle.pool_core.specs.declared.answer.StayOrRetire.{StayOrRetire}
 use Rattle.pool_core.specs.declared.answer.StayOrRetire.TheVariants.{Stay, Retire}
-use Rattle.pool_core.specs.Machine.{State, slot_in, has_open, is_live_in, open_ticket, standing_in, IsPossible}
+use Rattle.pool_core.specs.Machine.{State, slot_in, has_open, is_live_in, open_ticket, standing_in, job_at, IsPossible}
 use Rattle.pool_core.specs.Machine.{after, owed, same_what, input_of, orders_from}
 
--- The value of a pool: what the settings say, its history, and its state.
+-- The value of a pool: what the settings say, its history, its state, how many chapters have ended, and how many of the first tickets are
+-- forgotten: the state has their jobs, and the pool keeps them no longer.
 pub record Book : Type 0 where
   pub settings : Settings
   pub events : List Event
   pub state : State
   pub chapters : ℕ
+  pub forgotten : ℕ
 
 -- the event happened, and nothing else
 pub record IsStep (event : Event) (old new : Book) : Type 0 where
@@ -55,6 +58,26 @@ pub record IsStep (event : Event) (old new : Book) : Type 0 where
   pub events : new.events ≡ old.events ++ event ∷ []
   pub settings : new.settings ≡ old.settings
   pub chapters : new.chapters ≡ old.chapters
+  pub forgotten : new.forgotten ≡ old.forgotten
+
+-- the ticket was given, and its job is in such a state
+abbrev pub stands : (Standing → Bool) → Option Standing → Bool
+stands is_so None = false
+stands is_so (Some standing) = is_so standing
+
+-- what the pool can tell of a ticket: a forgotten one has no standing and no job
+abbrev pub unless_forgotten : {A : Type 0} → ℕ → ℕ → Option A → Option A
+unless_forgotten forgotten ticket it = if nat_lt forgotten ticket then it else None
+
+abbrev pub kept_standing : Book → ℕ → Option Standing
+kept_standing book ticket = unless_forgotten book.forgotten ticket (standing_in book.state.standings ticket)
+
+abbrev pub kept_job : Book → ℕ → Option Job
+kept_job book ticket = unless_forgotten book.forgotten ticket (job_at book.state.jobs ticket)
+
+-- the job of the first ticket that is not forgotten is there, and is reported or lost
+abbrev pub has_closed_front : Book → Bool
+has_closed_front book = stands (λ standing. not (is_open standing)) (standing_in book.state.standings (book.forgotten + 1))
 
 -- there is room for q events beside those owed
 abbrev pub has_room : Book → ℕ → Bool
@@ -76,11 +99,6 @@ grab_refusal book worker =
     else if has_room book 3 && nat_lt (length book.state.standings) max_tickets then None
     else Some grab.HistoryFull)
     else Some grab.Gone
-
--- the ticket was given, and its job is in such a state
-abbrev pub stands : (Standing → Bool) → Option Standing → Bool
-stands is_so None = false
-stands is_so (Some standing) = is_so standing
 
 abbrev pub begin_refusal : Book → WorkerName → ℕ → Option BeginError
 begin_refusal book worker ticket =
@@ -184,3 +202,7 @@ chapter_refusal book = if nat_lt book.chapters max_chapters then None else Some 
 -- the next chapter begins where the last one ended
 abbrev pub next_chapter : Book → Book
 next_chapter book = record book { events = []; chapters = book.chapters + 1 }
+
+-- one ticket more is forgotten
+abbrev pub forget_first : Book → Book
+forget_first book = record book { forgotten = book.forgotten + 1 }

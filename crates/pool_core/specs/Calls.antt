@@ -1,12 +1,13 @@
 -- What each call of a pool does: one event, with what the call reports of it, or the refusal that is due.
-use Rattle.std.specs.Prelude.{◌≡◌, ℕ, ◌+◌, List, Option, Result, Ok, Err, true, false, None, IfOk, OnOk, OnErr, is_some}
+use Rattle.std.specs.Prelude.{◌≡◌, ℕ, ◌+◌, List, Option, Result, Ok, Err, true, false, None, Some, IfOk, OnOk, OnErr}
+use Rattle.std.specs.Prelude.{IfSome, OnSome, IfNone, is_some}
 use Rattle.std.specs.Result.{result_err}
 use Rattle.refusal.specs.Label.{due}
 use Rattle.gear_status.specs.Status.{Line}
 use Rattle.plan_model.specs.Certificate.{Certificate}
 use Rattle.plan_model.specs.Planning.{Instance}
 use Rattle.plan_model.specs.declared.answer.Answer.{Answer}
-use Rattle.worker_state.specs.Slots.{last_generation}
+use Rattle.worker_state.specs.Slots.{last_generation, is_open}
 use Rattle.worker_state.specs.declared.slot.WorkerName.{WorkerName}
 use Rattle.worker_state.specs.declared.job.EndKind.{EndKind}
 use Rattle.worker_state.specs.declared.cause.Cause.{Cause}
@@ -14,6 +15,7 @@ use Rattle.worker_state.specs.declared.cause.Cause.TheVariants.{Late}
 use Rattle.pool_core.specs.declared.event.Event.{Event}
 use Rattle.pool_core.specs.declared.event.Event.TheVariants as event
 use Rattle.pool_core.specs.declared.event.Chapter.{Chapter}
+use Rattle.pool_core.specs.declared.event.Forgotten.{Forgotten}
 use Rattle.pool_core.specs.declared.answer.StayOrRetire.{StayOrRetire}
 use Rattle.pool_core.specs.declared.answer.Ran.{Ran}
 use Rattle.pool_core.specs.declared.error.JoinError.{JoinError}
@@ -29,11 +31,11 @@ use Rattle.pool_core.specs.declared.error.LoseError.{LoseError}
 use Rattle.pool_core.specs.declared.error.ExpireError.{ExpireError}
 use Rattle.pool_core.specs.declared.error.ChapterError.{ChapterError}
 use Rattle.pool_core.specs.CallRefusals.{is_join_memory, is_load_memory, is_round_memory, is_view_memory, is_grab_memory, is_chapter_memory}
-use Rattle.pool_core.specs.Machine.{slot_in, next_ticket}
+use Rattle.pool_core.specs.Machine.{slot_in, next_ticket, standing_in, job_at}
 use Rattle.pool_core.specs.Kept.{IsChapter}
 use Rattle.pool_core.specs.Book.{Book, IsStep, IsInputOf, KeepsPlan, has_round, join_refusal, load_refusal, round_refusal, view_refusal}
 use Rattle.pool_core.specs.Book.{grab_refusal, begin_refusal, report_refusal, lose_refusal, expire_refusal, chapter_refusal, stay_or_retire}
-use Rattle.pool_core.specs.Book.{ran_of, next_chapter}
+use Rattle.pool_core.specs.Book.{ran_of, next_chapter, has_closed_front, forget_first}
 
 -- The call is this event, or it is refused and changes nothing.
 abbrev pub Makes : {A E : Type 0} → Event → Book → Book → Result A E → Type 0
@@ -111,6 +113,16 @@ abbrev pub Expires : WorkerName → ℕ → Book → Book → Result (Unit {0}) 
 Expires worker now old new result =
     Makes (event.Lost worker Late) old new result
     × (result_err result ≡ expire_refusal old worker now)
+
+-- What is handed out is the job of the first ticket that was not forgotten, if it is reported or lost; that ticket is forgotten from then
+-- on. If the job goes on, or no such ticket was given, nothing is handed out. This is no event.
+abbrev pub Forgets : Book → Book → Option Forgotten → Type 0
+Forgets old new result =
+    IfSome result (λ f. (f.ticket ≡ old.forgotten + 1) × (job_at old.state.jobs f.ticket ≡ Some f.job))
+    × IfSome result (λ f. (standing_in old.state.standings f.ticket ≡ Some f.standing) × (is_open f.standing ≡ false))
+    × (is_some result ≡ has_closed_front old)
+    × OnSome result (new ≡ forget_first old)
+    × IfNone result (new ≡ old)
 
 -- The chapter has all events so far and the next number, and the state goes on. This is no event.
 abbrev pub EndsChapter : Book → Book → Result Chapter ChapterError → Type 0

@@ -1,6 +1,6 @@
 -- What every state that a history leads to has, and what a pool keeps beside its state.
 use Rattle.pool_settings.specs.Slots.{slots as slot_count}
-use Rattle.std.specs.Prelude.{◌≡◌, ℕ, ◌+◌, ◌-◌, ◌<◌, ◌≤◌, List, [], length, Option, None, Some, true, slice_index_or, count_by}
+use Rattle.std.specs.Prelude.{◌≡◌, ℕ, ◌+◌, ◌-◌, ◌<◌, ◌≤◌, List, [], length, Option, None, Some, true, false, slice_index_or, count_by}
 use Rattle.pool_settings.specs.Settings.{Settings, AreSettings}
 use Rattle.worker_state.specs.declared.slot.Slot.{Slot}
 use Rattle.worker_state.specs.declared.slot.Slot.TheVariants.{Empty}
@@ -10,7 +10,7 @@ use Rattle.worker_state.specs.Orders.{no_order, IsOrder}
 use Rattle.worker_state.specs.Limits.{max_generation}
 use Rattle.worker_state.specs.Slots.{last_generation, run_count, held_ticket, is_open, is_reported, is_lost, closing_events}
 use Rattle.pool_core.specs.declared.event.Event.{Event}
-use Rattle.pool_core.specs.Machine.{State, first, IsReplay, owed}
+use Rattle.pool_core.specs.Machine.{State, first, IsReplay, owed, standing_in}
 use Rattle.pool_core.specs.Book.{Book}
 
 -- the ticket is open in the slot of that number
@@ -58,6 +58,10 @@ pub record IsChapter (settings : Settings) (chapters : ℕ) (events : List Event
   pub begins : IsBase settings chapters base
   pub replays : IsReplay settings base events state
 
+-- the jobs of the first tickets were given, and each is reported or lost
+abbrev pub AreClosed : List Standing → ℕ → Type 0
+AreClosed standings forgotten = (k : ℕ) → 0 < k → k ≤ forgotten → (x : Standing) × (standing_in standings k ≡ Some x) × (is_open x ≡ false)
+
 -- the running counts and the room that a pool keeps
 pub record IsKeptBook (book : Book) (owes reported lost capacity : ℕ) : Type 0 where
   pub in_range : AreSettings book.settings
@@ -66,5 +70,6 @@ pub record IsKeptBook (book : Book) (owes reported lost capacity : ℕ) : Type 0
   pub owes_is : owes ≡ owed book.state
   pub reported_is : reported ≡ count_by is_reported book.state.standings
   pub lost_is : lost ≡ count_by is_lost book.state.standings
+  pub front : AreClosed book.state.standings book.forgotten
   pub within : length book.events + owes ≤ book.settings.history
   pub reserved : length book.events + owes ≤ capacity

@@ -20,9 +20,11 @@ use Rattle.worker_state.specs.Orders.{no_order}
 use Rattle.pool_core.specs.declared.event.Job.{Job}
 use Rattle.pool_core.specs.declared.event.Event.{Event}
 use Rattle.pool_core.specs.declared.event.Event.TheVariants as event
-use Rattle.pool_core.specs.Kept.{IsBase, IsSoundState}
-use Rattle.pool_core.specs.Machine.{State, first, slot_in, standing_in, is_live_in, open_ticket, what_of, input_of}
+use Rattle.pool_core.specs.Kept.{IsBase, IsChapter, IsSoundState}
+use Rattle.pool_core.specs.Machine.{State, first, slot_in, standing_in, job_at, is_live_in, open_ticket, what_of, input_of}
 use Rattle.pool_core.specs.Machine.{after_round, replay, IsHistory, IsReplay}
+use Rattle.pool_core.specs.declared.event.Forgotten.{Forgotten}
+use Rattle.pool_core.specs.Calls.{Forgets}
 use Rattle.pool_core.specs.Book.{Book, IsStep, next_chapter, totals_of}
 
 -- the generation of the next worker of a slot
@@ -255,16 +257,19 @@ EventsCount book =
 abbrev pub Called : Book → Book → Type 0
 Called old new = (new ≡ old) ⊎ ((e : Event) × IsStep e old new)
 
--- what a call leaves: the pool, and the events that it hands out
+-- what a call leaves: the pool, the events that it hands out, and the jobs
 pub record Outcome : Type 0 where
   pub book : Book
   pub handed_out : List Event
+  pub forgotten : List Forgotten
 
--- One call: nothing or one event, and nothing is handed out; or the end of a chapter, which hands out all of its events.
+-- One call: nothing or one event, and nothing is handed out; or the end of a chapter, which hands out all of its events; or a job that
+-- is handed out and forgotten.
 abbrev pub Leaves : Book → Outcome → Type 0
 Leaves old new =
-    (Called old new.book × (new.handed_out ≡ []))
-    ⊎ ((new.book ≡ next_chapter old) × (new.handed_out ≡ old.events))
+    (Called old new.book × (new.handed_out ≡ []) × (new.forgotten ≡ []))
+    ⊎ ((new.book ≡ next_chapter old) × (new.handed_out ≡ old.events) × (new.forgotten ≡ []))
+    ⊎ ((f : Forgotten) × Forgets old new.book (Some f) × (new.handed_out ≡ []) × (new.forgotten ≡ f ∷ []))
 
 -- any list of calls
 abbrev pub AllCalled : Book → List Outcome → Type 0
@@ -278,6 +283,26 @@ last_of book (next ∷ rest) = last_of next.book rest
 -- all events that the calls hand out, in order
 abbrev pub all_handed_out : List Outcome → List Event
 all_handed_out outcomes = flat_map (λ outcome. outcome.handed_out) outcomes
+
+-- all jobs that the calls hand out, in order
+abbrev pub all_forgotten : List Outcome → List Forgotten
+all_forgotten outcomes = flat_map (λ outcome. outcome.forgotten) outcomes
+
+-- The jobs are those of the tickets after n, one after the other, and each is what the state says of its ticket: reported or lost.
+abbrev pub AreNext : ℕ → List Forgotten → State → Type 0
+AreNext n [] state = Unit {0}
+AreNext n (f ∷ fs) state =
+    (f.ticket ≡ n + 1) × (job_at state.jobs f.ticket ≡ Some f.job) × (standing_in state.standings f.ticket ≡ Some f.standing)
+    × (is_open f.standing ≡ false) × AreNext (n + 1) fs state
+
+-- After any list of calls the jobs that were handed out are those of the tickets from the first that was not forgotten up to the last
+-- that is, each ticket once, and each is as the state of now has it: what was handed out stays true.
+abbrev pub JobsAreHandedOutOnce : Type 0
+JobsAreHandedOutOnce =
+    (book : Book) (calls : List Outcome) → AreSettings book.settings → IsChapter book.settings book.chapters book.events book.state
+    → AllCalled book calls
+    → AreNext book.forgotten (all_forgotten calls) (last_of book calls).state
+    × ((last_of book calls).forgotten ≡ book.forgotten + length (all_forgotten calls))
 
 -- After any list of calls the state is the replay of the events that were handed out and of those that are there, from the base
 -- that it was before.

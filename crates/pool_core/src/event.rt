@@ -7,7 +7,7 @@ use plan_model::{Answer, SlotId};
 use std::alloc::{AllocError, Global};
 use std::marker::Model;
 use std::sync::ArcSlice;
-use worker_state::{Cause, EndKind, Ticket, WorkerName};
+use worker_state::{Cause, EndKind, Standing, Ticket, WorkerName};
 
 /// The name of a function, any bytes, which several owners may share. Clauses see it as its bytes.
 #[derive(Drop)]
@@ -119,4 +119,15 @@ pub struct Chapter {
     pub number: u32,
     /// Its events.
     pub events: Vec<Event>,
+}
+
+/// A job that a pool keeps no longer, as it was when it was forgotten.
+#[derive(Drop)]
+pub struct Forgotten {
+    /// Its ticket.
+    pub ticket: Ticket,
+    /// What was assigned.
+    pub job: Job,
+    /// How it ended: reported, or lost.
+    pub standing: Standing,
 }

@@ -1,7 +1,7 @@
 //! Laws over every history: contracts of functions that do nothing.
 ghost use Rattle.pool_core.specs.Laws.{HistoriesExtend, HistoriesAreSound, HistoriesCount, ChaptersCount, JobsAreBookedOnce};
 ghost use Rattle.pool_core.specs.Laws.{JobsAreLostWithTheirWorkers, JobsAreAccountedFor, WorkersAreNew, RoundsAreShown, RoundsOrder};
-ghost use Rattle.pool_core.specs.Laws.{HistoriesJoin, HistoriesCut, BasesAreSound, EventsCount, CallsReplay};
+ghost use Rattle.pool_core.specs.Laws.{HistoriesJoin, HistoriesCut, BasesAreSound, EventsCount, CallsReplay, JobsAreHandedOutOnce};
 
 use crate::pool::Pool;
 
@@ -81,4 +81,9 @@ pub fn events_count(pool: &Pool)
 /// After any list of calls the state is the replay of the events, those that were handed out among them.
 pub fn calls_replay()
     ensures { CallsReplay }
+{}
+
+/// Each job that is forgotten was handed out once, by its ticket, and what was handed out stays as it was.
+pub fn jobs_are_handed_out_once()
+    ensures { JobsAreHandedOutOnce }
 {}

@@ -18,11 +18,11 @@ pub use error::{
     AdoptError, BeginError, ChapterError, ExpireError, GrabError, JoinError, LoadError, LoseError,
     ReportError, RoundError, ViewError,
 };
-pub use event::{Chapter, Event, FunctionName, Job};
+pub use event::{Chapter, Event, Forgotten, FunctionName, Job};
 pub use laws::{
     bases_are_sound, calls_replay, chapters_count, events_count, histories_are_sound,
     histories_count, histories_cut, histories_extend, histories_join, jobs_are_accounted_for,
-    jobs_are_booked_once, jobs_are_lost_with_their_workers, rounds_are_shown, rounds_order,
+    jobs_are_booked_once, jobs_are_handed_out_once, jobs_are_lost_with_their_workers, rounds_are_shown, rounds_order,
     workers_are_new,
 };
 pub use pool::{Pass, Pool};

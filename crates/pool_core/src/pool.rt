@@ -1,12 +1,13 @@
 //! The pool and what it answers without a change. Its calls stand in the files below it, each of one subject.
 ghost use Rattle.std.specs.Prelude.{◌≡◌, ◌+◌, ◌<◌, ◌≤◌, slice_get, IfSome, IfNone, [], Some, None, length, IfOk};
-ghost use Rattle.pool_core.specs.Machine.{first, slot_in, standing_in, job_at, owed};
+ghost use Rattle.pool_core.specs.Machine.{first, slot_in, standing_in, open_ticket, owed};
 ghost use Rattle.pool_settings.specs.Settings.{AreSettings};
 ghost use Rattle.worker_state.specs.Orders.{IsOrder};
 ghost use Rattle.pool_core.specs.Kept.{IsChapter};
-ghost use Rattle.pool_core.specs.Book.{Book, has_room, totals_of};
+ghost use Rattle.pool_core.specs.Book.{Book, has_room, totals_of, kept_standing, kept_job};
 
 mod chapters;
+mod forgetting;
 mod jobs;
 mod planning;
 mod workers;
@@ -16,6 +17,7 @@ use crate::event::{Event, Job};
 use crate::table;
 use gear_packets::Handle;
 use gear_status::Load;
+use long_list::LongList;
 use plan_model::{Plan, SlotId};
 use pool_settings::Settings;
 use std::alloc::{AllocError, Global};
@@ -53,7 +55,8 @@ impl Pass {
 /// need neither room nor memory when they come: `join` and `grab` make it before. Calls take constant time, but for `load`,
 /// rounds and `end_chapter`; none looks through the history.
 ///
-/// Clauses see a pool as a `Book`: the settings, the events of this chapter, the state, and how many chapters have ended.
+/// Clauses see a pool as a `Book`: the settings, the events of this chapter, the state, how many chapters have ended, and how many of
+/// the first tickets are forgotten.
 #[derive(Drop)]
 pub struct Pool {
     alloc: Global,
@@ -62,8 +65,8 @@ pub struct Pool {
     grab_times: Vec<u64>,
     orders: Vec<Order>,
     load: Option<Load>,
-    jobs: Vec<Job>,
-    standings: Vec<Standing>,
+    jobs: LongList<Job>,
+    standings: LongList<Standing>,
     previous: Option<Plan>,
     rounds: u32,
     events: Vec<Event>,
@@ -90,7 +93,7 @@ impl Pool {
     /// A pool of these settings: all slots are empty, there is no load, and nothing has happened. The only error is that memory
     /// was refused.
     pub fn new(alloc: Global, settings: Settings) -> Result<Pool, AllocError>
-        ensures { IfOk result (λ pool. pool ≡ record { settings = settings; events = []; state = first settings; chapters = 0 }) }
+        ensures { IfOk result (λ pool. pool ≡ record { settings = settings; events = []; state = first settings; chapters = 0; forgotten = 0 }) }
     {
         let count = settings.slots() as usize;
         let slots = table::empty_slots(alloc, count)?;
@@ -103,8 +106,8 @@ impl Pool {
             grab_times,
             orders,
             load: None,
-            jobs: Vec::new(alloc),
-            standings: Vec::new(alloc),
+            jobs: LongList::new(alloc),
+            standings: LongList::new(alloc),
             previous: None,
             rounds: 0,
             events: Vec::new(alloc),
@@ -142,26 +145,30 @@ impl Pool {
         orders[slot.number() as usize]
     }
 
-    /// What became of the ticket, if it was given.
+    /// What became of the ticket. None if it was not given or is forgotten.
     pub fn standing(&self, ticket: Ticket) -> Option<Standing>
-        ensures { result ≡ standing_in self.now.state.standings ticket }
+        ensures { result ≡ kept_standing self.now ticket }
     {
         self.standing_in(ticket)
     }
 
-    /// The handle and the function of the ticket's job, if it was given.
+    /// The handle and the function of the ticket's job. None if it was not given or is forgotten.
     pub fn job(&self, ticket: Ticket) -> Option<(&Handle, &[u8])>
-        ensures some { IfSome result (λ job. job_at self.now.state.jobs ticket
+        ensures some { IfSome result (λ job. kept_job self.now ticket
             ≡ Some (record { handle = job.0.now; function = job.1.now })) }
-        ensures none { IfNone result (job_at self.now.state.jobs ticket ≡ None) }
+        ensures none { IfNone result (kept_job self.now ticket ≡ None) }
     {
-        if ticket.number() == 0 {
-            return None;
-        }
-        match self.jobs.as_slice().get((ticket.number() - 1) as usize) {
+        match table::job_of(&self.jobs, ticket) {
             None => None,
             Some(job) => Some((&job.handle, job.function.bytes())),
         }
+    }
+
+    /// How many of the first tickets are forgotten: it is the number of the last such ticket.
+    pub fn forgotten(&self) -> u64
+        ensures { result ≡ self.now.forgotten }
+    {
+        self.standings.forgotten()
     }
 
     /// The counts of the pool.
@@ -169,7 +176,7 @@ impl Pool {
         ensures exact { result ≡ totals_of self.now }
         ensures within { result.reported ≤ result.grabbed }
     {
-        let grabbed = self.standings.len() as u64;
+        let grabbed = self.standings.len();
         Totals {
             grabbed,
             running: grabbed - self.reported - self.lost,
@@ -217,9 +224,17 @@ impl Pool {
         table::slot_of(self.slots.as_slice(), slot)
     }
 
-    fn standing_in(&self, ticket: Ticket) -> Option<Standing>
+    /// What became of the ticket that the worker has: it is not forgotten.
+    fn held_standing(&self, worker: &WorkerName, ticket: Ticket) -> Option<Standing>
+        requires { open_ticket self.now.state worker.now ≡ Some ticket }
         ensures { result ≡ standing_in self.now.state.standings ticket }
     {
-        table::standing_of(self.standings.as_slice(), ticket)
+        table::standing_of(&self.standings, ticket)
+    }
+
+    fn standing_in(&self, ticket: Ticket) -> Option<Standing>
+        ensures { result ≡ kept_standing self.now ticket }
+    {
+        table::standing_of(&self.standings, ticket)
     }
 }

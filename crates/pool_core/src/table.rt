@@ -1,10 +1,11 @@
 //! Reads and writes of the tables by slot and by ticket.
-ghost use Rattle.std.specs.Prelude.{◌≡◌, ◌+◌, ◌-◌, ◌^◌, ◌<◌, ◌≤◌, ℕ, slice_set, slice_index, length, vec_len, vec_capacity};
+ghost use Rattle.std.specs.Prelude.{◌≡◌, not, ◌+◌, ◌-◌, ◌^◌, ◌<◌, ◌≤◌, ℕ, slice_set, slice_index, length, vec_len, vec_capacity};
 ghost use Rattle.std.specs.Prelude.{if◌then◌else◌, IfSome, IfOk, OnOk, replicate};
 ghost use Rattle.worker_state.specs.Slots as slots;
-ghost use Rattle.pool_core.specs.Machine.{slot_in, standing_in, with_lost};
+ghost use Rattle.pool_core.specs.Machine.{slot_in, standing_in, job_at, with_lost};
 ghost use Rattle.pool_core.specs.Machine as machine;
-ghost use Rattle.pool_core.specs.Book.{stands};
+ghost use Rattle.pool_core.specs.Book.{stands, unless_forgotten};
+ghost use Rattle.std.specs.Option.{option_copied};
 ghost use Rattle.pool_core.specs.Kept.{closing_of, lost_of};
 ghost use Rattle.worker_state.specs.Orders.{no_order};
 ghost use Rattle.worker_state.specs.declared.slot.Slot.TheVariants.{Empty, Live};
@@ -12,6 +13,7 @@ ghost use Rattle.pool_core.specs.declared.answer.StayOrRetire.TheVariants.{Stay,
 
 use crate::answer::StayOrRetire;
 use crate::event::{Event, Job};
+use long_list::LongList;
 use plan_model::SlotId;
 use std::alloc::{AllocError, Global};
 use worker_state::{Cause, Order, Slot, Standing, Ticket, WorkerName};
@@ -46,28 +48,37 @@ pub fn has_open(held: Option<Ticket>, ticket: Ticket) -> bool
     }
 }
 
-/// What became of the ticket, if it was given.
-pub fn standing_of(standings: &[Standing], ticket: Ticket) -> Option<Standing>
-    ensures { result ≡ standing_in standings.now ticket }
+/// What became of the ticket, if it was given and is not forgotten.
+pub fn standing_of(standings: &LongList<Standing>, ticket: Ticket) -> Option<Standing>
+    ensures { result ≡ unless_forgotten standings.now.forgotten ticket (standing_in standings.now.items ticket) }
 {
-    if ticket.number() == 0 {
+    if ticket.number() <= standings.forgotten() {
         return None;
     }
-    let at = (ticket.number() - 1) as usize;
-    if at < standings.len() {
-        Some(standings[at])
-    } else {
-        None
+    match standings.get(ticket.number() - 1) {
+        None => None,
+        Some(standing) => Some(*standing),
     }
 }
 
-/// Lets a ticket that was given stand so.
-pub fn put_standing(standings: &mut Vec<Standing>, ticket: Ticket, to: Standing)
-    requires from_one { 0 < ticket }
-    requires given { ticket ≤ vec_len standings.old }
-    ensures { standings.new.items ≡ slice_set standings.old.items (ticket - 1) to }
+/// The ticket's job, if it was given and is not forgotten.
+pub fn job_of(jobs: &LongList<Job>, ticket: Ticket) -> Option<&Job>
+    ensures { option_copied result ≡ unless_forgotten jobs.now.forgotten ticket (job_at jobs.now.items ticket) }
 {
-    standings[(ticket.number() - 1) as usize] = to;
+    if ticket.number() <= jobs.forgotten() {
+        return None;
+    }
+    jobs.get(ticket.number() - 1)
+}
+
+/// Lets a ticket that was given and is not forgotten stand so.
+pub fn put_standing(standings: &mut LongList<Standing>, ticket: Ticket, to: Standing)
+    requires kept { standings.old.forgotten < ticket }
+    requires given { ticket ≤ length standings.old.items }
+    ensures items { standings.new.items ≡ slice_set standings.old.items (ticket - 1) to }
+    ensures forgotten { standings.new.forgotten ≡ standings.old.forgotten }
+{
+    standings.put(ticket.number() - 1, to);
 }
 
 /// Whether the job of a ticket is being run.
@@ -87,6 +98,16 @@ pub fn is_reporting(standing: Option<Standing>) -> bool
     match standing {
         None => false,
         Some(standing) => standing.is_reporting(),
+    }
+}
+
+/// Whether the job is reported or lost.
+pub fn is_closed(standing: &Standing) -> bool
+    ensures { result ≡ not (slots.is_open standing.now) }
+{
+    match standing {
+        Standing::Running | Standing::Reporting => false,
+        Standing::Reported(_) | Standing::Lost(_, _) => true,
     }
 }
 
@@ -160,19 +181,23 @@ pub fn lost_jobs(ticket: &Option<Ticket>) -> u64
 
 /// Loses the open ticket, and says how many events were owed for its job.
 pub fn put_lost(
-    standings: &mut Vec<Standing>,
+    standings: &mut LongList<Standing>,
     ticket: Option<Ticket>,
     worker: WorkerName,
     cause: Cause,
 ) -> u32
-    requires { IfSome ticket (λ k. (0 < k) × (k ≤ vec_len standings.old)) }
+    requires { IfSome ticket (λ k. (standings.old.forgotten < k) × (k ≤ length standings.old.items)) }
     ensures standings { standings.new.items ≡ with_lost standings.old.items ticket worker cause }
+    ensures forgotten { standings.new.forgotten ≡ standings.old.forgotten }
     ensures owed { result ≡ closing_of standings.old.items ticket }
 {
     match ticket {
         None => 0,
         Some(ticket) => {
-            let owed = standings[(ticket.number() - 1) as usize].closing_events();
+            let owed = match standings.get(ticket.number() - 1) {
+                None => 0,
+                Some(standing) => standing.closing_events(),
+            };
             put_standing(standings, ticket, Standing::Lost(worker, cause));
             owed
         }
@@ -181,17 +206,16 @@ pub fn put_lost(
 
 /// Room for one more job and these events.
 pub fn reserve_job(
-    jobs: &mut Vec<Job>,
-    standings: &mut Vec<Standing>,
+    jobs: &mut LongList<Job>,
+    standings: &mut LongList<Standing>,
     events: &mut Vec<Event>,
     count: usize,
 ) -> Result<(), AllocError>
-    ensures jobs { jobs.new.items ≡ jobs.old.items }
-    ensures standings { standings.new.items ≡ standings.old.items }
+    ensures jobs { (jobs.new.items ≡ jobs.old.items) × (jobs.new.forgotten ≡ jobs.old.forgotten) }
+    ensures standings { (standings.new.items ≡ standings.old.items) × (standings.new.forgotten ≡ standings.old.forgotten) }
     ensures events { events.new.items ≡ events.old.items }
     ensures capacity { vec_capacity events.old ≤ vec_capacity events.new }
-    ensures room { OnOk result ((vec_len jobs.new < vec_capacity jobs.new) × (vec_len standings.new < vec_capacity standings.new)
-        × (vec_len events.new + count ≤ vec_capacity events.new)) }
+    ensures room { OnOk result ((0 < jobs.new.room) × (0 < standings.new.room) × (vec_len events.new + count ≤ vec_capacity events.new)) }
 {
     jobs.reserve(1)?;
     standings.reserve(1)?;

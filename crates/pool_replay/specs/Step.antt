@@ -26,8 +26,7 @@ use Rattle.pool_core.specs.declared.answer.StayOrRetire.{StayOrRetire}
 use Rattle.pool_core.specs.declared.answer.Ran.{Ran}
 use Rattle.refusal.specs.Label.{due}
 use Rattle.pool_core.specs.CallRefusals.{is_view_memory, load_label, round_label, adopt_label, begin_label, lose_label, expire_label}
-use Rattle.pool_core.specs.Machine.{standing_in}
-use Rattle.pool_core.specs.Book.{Book, IsInputOf, view_refusal, totals_of}
+use Rattle.pool_core.specs.Book.{Book, IsInputOf, view_refusal, totals_of, kept_standing}
 use Rattle.pool_core.specs.Calls as call
 use Rattle.pool_commands.specs.declared.command.Command.{Command}
 use Rattle.pool_commands.specs.declared.command.Command.TheVariants as command
@@ -145,7 +144,7 @@ StepOf settings (command.Begin worker ticket) = WithPass worker (TellsBegin work
 StepOf settings (command.Report worker ticket end) = WithPass worker (TellsReport worker ticket end)
 StepOf settings (command.Lose worker cause) = WithPass worker (TellsLoss worker cause)
 StepOf settings (command.Expire worker now) = TellsExpiry worker now
-StepOf settings (command.Job ticket) = λ old. Prints (job_line settings (standing_in old.pool.state.standings ticket)) old
+StepOf settings (command.Job ticket) = λ old. Prints (job_line settings (kept_standing old.pool ticket)) old
 StepOf settings (command.Order slot) = TellsOrder settings slot
 StepOf settings command.Totals = λ old. Prints (totals_line (totals_of old.pool)) old
 StepOf settings command.Chapter = TellsChapter

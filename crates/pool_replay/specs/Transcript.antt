@@ -30,7 +30,7 @@ lines_of text = lines_of_parts (slice_split is_line_feed text)
 abbrev pub first_desk : Settings → Desk
 first_desk settings =
     record {
-      pool = record { settings = settings; events = []; state = first settings; chapters = 0 };
+      pool = record { settings = settings; events = []; state = first settings; chapters = 0; forgotten = 0 };
       passes = set.empty;
       viewed = None;
     }

@@ -2,8 +2,7 @@
 
 ghost use Rattle.std.specs.Prelude.{◌≡◌, ◌<◌, IfOk, OnOk, string_bytes, length};
 ghost use Rattle.pool_commands.specs.Grammar.{IsCommandWithin};
-ghost use Rattle.pool_core.specs.Book.{totals_of};
-ghost use Rattle.pool_core.specs.Machine.{standing_in};
+ghost use Rattle.pool_core.specs.Book.{totals_of, kept_standing};
 ghost use Rattle.pool_core.specs.Totals.{totals_line};
 ghost use Rattle.pool_replay.specs.Lines as spec;
 ghost use Rattle.pool_replay.specs.Step.{TellsJoin, TellsLoad, TellsRound, TellsView, TellsAdoption, TellsGrab, TellsBegin, TellsReport};
@@ -220,7 +219,7 @@ impl Desk {
 
     fn job(&self, alloc: Global, settings: &Settings, ticket: Ticket) -> Result<String, AllocError>
         ensures { IfOk result (λ line.
-            string_bytes line ≡ spec.job_line settings.now (standing_in self.now.pool.state.standings ticket)) }
+            string_bytes line ≡ spec.job_line settings.now (kept_standing self.now.pool ticket)) }
     {
         lines::job_line(alloc, settings, &self.pool.standing(ticket))
     }

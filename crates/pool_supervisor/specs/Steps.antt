@@ -24,6 +24,10 @@ worker_of state slot = record { slot = slot; generation = last_generation (slot_
 abbrev pub IsLate : Book → ℕ → ℕ → Type 0
 IsLate book now slot = expire_refusal book (worker_of book.state slot) now ≡ None
 
+-- how many jobs are forgotten in one hold of the lock, at the most
+abbrev pub most_forgotten : ℕ
+most_forgotten = 1024
+
 -- An answer for the input that was viewed, which keeps the plan before it if that is best and full.
 abbrev pub AnswersView : Instance × Option (List (ℕ × Option ℕ)) → Certificate → Type 0
 AnswersView viewed certified =

@@ -28,6 +28,10 @@ use std::sync::Wait;
 use std::thread;
 use std::thread::{Scope, Threads};
 
+/// In how many holds of the lock an attempt forgets jobs, at the most. Together they may forget 1,048,576 jobs, and no history has room for
+/// more grabs between two attempts.
+const MOST_HOLDS: u32 = 1024;
+
 /// The supervisor's seats at the board.
 #[derive(Drop)]
 pub struct Seats {
@@ -123,6 +127,16 @@ impl<'e, N: RunId, J, C: Watch, R: Wait> Site<'e, N, J, C, R> {
         };
         let mut held = self.shared.hold(self.lent.rt);
         self.run.expire_late(&mut held, now_ms);
+    }
+
+    /// Forgets the jobs that have ended, up to the first that has not. Sessions can take the lock in between.
+    fn forget_ended(&self) {
+        for _hold in 0..MOST_HOLDS {
+            let mut held = self.shared.hold(self.lent.rt);
+            if !self.run.forget_ended(&mut held) {
+                return;
+            }
+        }
     }
 }
 
@@ -257,6 +271,7 @@ impl<
         drop(ended);
         self.start_all(scope)?;
         site.expire_late();
+        site.forget_ended();
         self.longest = None;
         let attempt = self.make_round();
         site.lent.watch.attempted(&Attempted {

@@ -4,7 +4,7 @@ ghost use Rattle.pool_settings.specs.Slots.{slots as slot_count};
 ghost use Rattle.worker_state.specs.Orders.{no_order, IsOrder};
 ghost use Rattle.pool_core.specs.Book.{totals_of};
 ghost use Rattle.pool_core.specs.Kept.{IsSoundState};
-ghost use Rattle.pool_core.specs.Calls.{Joins, Loads, Views, Adopts, Grabs, Begins, Reports, Loses, Expires, EndsChapter};
+ghost use Rattle.pool_core.specs.Calls.{Joins, Loads, Views, Adopts, Grabs, Begins, Reports, Loses, Expires, EndsChapter, Forgets};
 ghost use Rattle.pool_supervisor.specs.Counted.{CountsItsEvents};
 ghost use Rattle.pool_supervisor.specs.Reached.{IsReached};
 
@@ -13,7 +13,7 @@ use gear_packets::Handle;
 use gear_status::Load;
 use plan_model::{Certified, Input, Plan, SlotId};
 use pool_core::{
-    AdoptError, BeginError, Chapter, ChapterError, ExpireError, GrabError, JoinError, LoadError,
+    AdoptError, BeginError, Chapter, ChapterError, ExpireError, Forgotten, GrabError, JoinError, LoadError,
     LoseError, Pass, Pool, Ran, ReportError, StayOrRetire, Totals, ViewError, events_count,
     histories_are_sound, histories_count, histories_join,
 };
@@ -171,6 +171,13 @@ impl<G: RunLedger, D: Ledger> Booked<G, D> {
     {
         events_count(&self.pool);
         self.pool.adopt(certified)
+    }
+
+    /// Forgets the job of the first ticket that is not forgotten, as [`Pool::forget`] does. The books go on: the totals count it.
+    pub fn forget(&mut self) -> Option<Forgotten>
+        ensures { Forgets self.old self.new result }
+    {
+        self.pool.forget()
     }
 
     /// Hands out the events of this chapter, as [`Pool::end_chapter`] does. The books go on: they count over all chapters.

@@ -1,13 +1,14 @@
 //! The steps of an attempt, each on what lies under the lock in one hold of it.
-ghost use Rattle.std.specs.Prelude.{◌≡◌, ◌↔◌, ◌<◌, ℕ, not, count_by, IsSome, IfSome, IfNone, IfOk, OnErr};
+ghost use Rattle.std.specs.Prelude.{◌≡◌, ◌↔◌, ◌+◌, ◌<◌, ◌≤◌, ℕ, true, false, not, count_by, IsSome, IfSome, IfNone, IfOk, OnErr};
 ghost use Rattle.pool_settings.specs.Slots.{slots as slot_count};
 ghost use Rattle.worker_state.specs.Slots.{is_live};
 ghost use Rattle.worker_state.specs.declared.slot.Slot.TheVariants.{Empty};
 ghost use Rattle.pool_core.specs.Machine.{slot_in};
+ghost use Rattle.pool_core.specs.Book.{has_closed_front};
 ghost use Rattle.pool_core.specs.Calls.{Adopts, EndsChapter, Expires};
 ghost use Rattle.pool_supervisor.specs.Published.{ArePosted, round_order, stop_order};
 ghost use Rattle.pool_supervisor.specs.Reached.{IsReached, IsRoundOf};
-ghost use Rattle.pool_supervisor.specs.Steps.{IsChapterDue, IsLate, worker_of};
+ghost use Rattle.pool_supervisor.specs.Steps.{IsChapterDue, IsLate, most_forgotten, worker_of};
 
 use crate::booked::Booked;
 use crate::place::{Grabs, Reports, RunBoard, RunId};
@@ -16,6 +17,9 @@ use order_board::PublisherSeat;
 use plan_model::{Certified, SlotId};
 use pool_core::{AdoptError, Chapter, ChapterError, ExpireError, Ran, histories_join};
 use worker_state::Slot;
+
+/// How many jobs are forgotten in one hold of the lock, at the most.
+const MOST_FORGOTTEN: u32 = 1024;
 
 impl<'e, N: RunId> RunBoard<'e, N> {
     /// Ends the chapter of the history if more than half of what the history may have is used, so that a long run does not run out of
@@ -91,6 +95,22 @@ impl<'e, N: RunId> RunBoard<'e, N> {
             // A refusal says that no job of the slot is late.
             let _ = self.expire_if_late(held, SlotId::new(number), now_ms);
         }
+    }
+
+    /// Forgets the jobs of the first tickets, one after the other, up to the first that has not ended, but at most 1,024, so that no hold
+    /// of the lock is long. True if it forgot so many: more may have ended then.
+    pub fn forget_ended(&self, held: &mut Booked<Grabs<N>, Reports<N>>) -> bool
+        ensures only { held.new ≡ record held.old { forgotten = held.new.forgotten } }
+        ensures more { held.old.forgotten ≤ held.new.forgotten }
+        ensures most { result ≡ true → held.new.forgotten ≡ held.old.forgotten + most_forgotten }
+        ensures all { result ≡ false → has_closed_front held.new ≡ false }
+    {
+        for _number in 0..MOST_FORGOTTEN {
+            if held.forget().is_none() {
+                return false;
+            }
+        }
+        true
     }
 
     /// Adopts an answer, and posts the orders of the round if it has a plan, so that no later round's orders come before them.

@@ -24,7 +24,7 @@ impl Pool {
         if slot.held_ticket().is_some() {
             return Some(GrabError::Busy);
         }
-        if self.has_room(3) && (self.standings.len() as u64) < MAX_TICKETS {
+        if self.has_room(3) && self.standings.len() < MAX_TICKETS {
             None
         } else {
             Some(GrabError::HistoryFull)
@@ -58,7 +58,7 @@ impl Pool {
             &mut self.events,
             self.owed as usize + 3,
         )?;
-        let ticket = Ticket::new(self.standings.len() as u64 + 1);
+        let ticket = Ticket::new(self.standings.len() + 1);
         let runs = table::slot_of(self.slots.as_slice(), worker.slot).run_count();
         let slot = Slot::Live {
             generation: worker.generation,
@@ -82,6 +82,7 @@ impl Pool {
         Ok(ticket)
     }
 
+    #[tactic(auto, using(crate::proofs::Tables::open_is))]
     fn begin_refusal(&self, worker: &WorkerName, ticket: Ticket) -> Option<BeginError>
         ensures { result ≡ begin_refusal self.now worker.now ticket }
     {
@@ -92,7 +93,7 @@ impl Pool {
         if !table::has_open(slot.held_ticket(), ticket) {
             return Some(BeginError::WrongTicket);
         }
-        if !table::is_running(self.standing_in(ticket)) {
+        if !table::is_running(self.held_standing(worker, ticket)) {
             return Some(BeginError::AlreadyReporting);
         }
         None
@@ -115,6 +116,7 @@ impl Pool {
         Ok(())
     }
 
+    #[tactic(auto, using(crate::proofs::Tables::open_is))]
     fn report_refusal(&self, worker: &WorkerName, ticket: Ticket) -> Option<ReportError>
         ensures { result ≡ report_refusal self.now worker.now ticket }
     {
@@ -125,7 +127,7 @@ impl Pool {
         if !table::has_open(slot.held_ticket(), ticket) {
             return Some(ReportError::WrongTicket);
         }
-        if !table::is_reporting(self.standing_in(ticket)) {
+        if !table::is_reporting(self.held_standing(worker, ticket)) {
             return Some(ReportError::NotReporting);
         }
         None
@@ -158,6 +160,8 @@ impl Pool {
             return Err(refusal);
         }
         let stays = self.stays(&worker);
+        // No more are reported than were grabbed.
+        let _grabbed = self.standings.len();
         let runs = table::slot_of(self.slots.as_slice(), worker.slot).run_count();
         let slot = table::slot_after(stays, worker.generation, runs);
         table::put_slot(&mut self.slots, worker.slot, slot);

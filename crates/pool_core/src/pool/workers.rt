@@ -79,6 +79,8 @@ impl Pool {
         let ticket = table::slot_of(self.slots.as_slice(), worker.slot).held_ticket();
         table::put_slot(&mut self.slots, worker.slot, Slot::Empty(worker.generation));
         let jobs = table::lost_jobs(&ticket);
+        // No more are lost than were grabbed.
+        let _grabbed = self.standings.len();
         let name = WorkerName {
             slot: worker.slot,
             generation: worker.generation,
@@ -112,7 +114,7 @@ impl Pool {
         let Some(ticket) = slot.held_ticket() else {
             return Some(ExpireError::NoJob);
         };
-        if table::is_reporting(self.standing_in(ticket)) {
+        if table::is_reporting(self.held_standing(worker, ticket)) {
             return Some(ExpireError::Reporting);
         }
         let since = table::time_of(self.grab_times.as_slice(), worker.slot);

@@ -1,7 +1,7 @@
-use Rattle.std.proofs.Common.{sym, ap, subst, List, [], ◌∷◌, ◌++◌, ◌∙◌, inl, inr, append_assoc, append-nil}
+use Rattle.std.proofs.Common.{◌≡◌, sym, ap, subst, List, [], ◌∷◌, ◌++◌, ◌∙◌, inl, inr, append_assoc, append-nil}
 use Rattle.pool_core.specs.declared.event.Event.{Event}
 use Rattle.pool_core.specs.Machine.{State, IsReplay, after}
-use Rattle.pool_core.specs.Book.{Book, IsStep, next_chapter}
+use Rattle.pool_core.specs.Book.{Book, IsStep, next_chapter, forget_first}
 use Rattle.pool_core.specs.Laws.{Called, Outcome, Leaves, AllCalled, CallsReplay, last_of, all_handed_out}
 use Rattle.pool_core.proofs.Steps.{replays_more}
 use Rattle.pool_core.proofs.laws.calls_replay.Goals as goal
@@ -26,11 +26,21 @@ chapter_leads : (base : State) (out : List Event) (old : Book) → Leads base ou
 chapter_leads base out old h =
     record { all = subst (λ (es : List Event). IsReplay old.settings base es old.state) (sym (append-nil (out ++ old.events))) h.all }
 
+forget_leads : (base : State) (out : List Event) (old new : Book) → Leads base out old → new ≡ forget_first old → Leads base out new
+forget_leads base out old new h e = subst (Leads base out) (sym e) (let k : Leads base out (forget_first old) = record { all = h.all } in k)
+
+none_out : (base : State) (out : List Event) (new : Outcome) → new.handed_out ≡ [] → Leads base out new.book → Leads base (out ++ new.handed_out) new.book
+none_out base out new none h = subst (λ (es : List Event). Leads base es new.book) (sym (ap (λ (es : List Event). out ++ es) none ∙ append-nil out)) h
+
 call_leads : (base : State) (out : List Event) (old : Book) (new : Outcome) → Leads base out old → Leaves old new → Leads base (out ++ new.handed_out) new.book
 call_leads base out old new h c =
     elim c [
-      | inl t ↦ subst (λ (es : List Event). Leads base es new.book) (sym (ap (λ (es : List Event). out ++ es) t.1 ∙ append-nil out)) (called_leads base out old new.book h t.0)
-      | inr t ↦ subst (λ (es : List Event). Leads base (out ++ es) new.book) (sym t.1) (subst (Leads base (out ++ old.events)) (sym t.0) (chapter_leads base out old h))
+      | inl t ↦ none_out base out new t.1 (called_leads base out old new.book h t.0)
+      | inr c' ↦
+          elim c' [
+            | inl t ↦ subst (λ (es : List Event). Leads base (out ++ es) new.book) (sym t.1) (subst (Leads base (out ++ old.events)) (sym t.0) (chapter_leads base out old h))
+            | inr t ↦ none_out base out new t.2 (forget_leads base out old new.book h t.1.3)
+          ]
     ]
 
 calls_lead : (base : State) (out : List Event) (book : Book) (calls : List Outcome) → Leads base out book → AllCalled book calls → Leads base (out ++ all_handed_out calls) (last_of book calls)

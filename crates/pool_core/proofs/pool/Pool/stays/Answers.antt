@@ -7,5 +7,5 @@ pub overflow_add-result : goal.overflow_add-result
 overflow_add-result c =
     let p = c.self.inside in
     let runs : c.run_count-runs.result ≡ run_count (slot_in p.slots.items c.args.worker.now.slot) = cc in
-    let few : run_count (slot_in p.slots.items c.args.worker.now.slot) < p.settings.max_runs = c.self.invariant.sound.runs c.args.worker.now.slot in
+    let few : run_count (slot_in p.slots.items c.args.worker.now.slot) < p.settings.max_runs = c.self.invariant.0.sound.runs c.args.worker.now.slot in
     omega (arith, runs, few, c.max_runs-max_runs.ensures.all, c.max_runs-max_runs.type_inv)
