@@ -33,9 +33,10 @@ impl<T> Model for LongList<T> {
     ghost Value = { Long T };
 
     ghost view = { λ l. record {
-        items = l.past.items ++ l.kept.items;
-        forgotten = l.forgotten;
-        room = deque_capacity l.kept - deque_len l.kept } };
+      items = l.past.items ++ l.kept.items;
+      forgotten = l.forgotten;
+      room = deque_capacity l.kept - deque_len l.kept;
+    } };
 
     ghost invariant = { λ l. (l.forgotten ≡ length l.past.items) × (l.forgotten + deque_len l.kept < 2 ^ 64) };
 }
@@ -80,7 +81,8 @@ impl<T> LongList<T> {
 
     /// Writes over the item at a place, which has to be kept.
     pub fn put(&mut self, at: u64, to: T)
-        where T: Drop
+    where
+        T: Drop,
         requires kept { self.old.forgotten ≤ at }
         requires within { at < length self.old.items }
         ensures items { self.new.items ≡ slice_set self.old.items at to }

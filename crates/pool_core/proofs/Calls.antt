@@ -303,8 +303,7 @@ pub forget_tells : (book new : Book) → has_closed_front book ≡ true → (tic
     → book.forgotten < length book.state.standings → standing ≡ get_or book.state.standings book.forgotten standing
     → new ≡ forget_first book → Forgets book new (Some (record { ticket = ticket; job = job; standing = standing }))
 forget_tells book new front ticket job standing is_ticket job_within job_is within is step =
-    let t = handed book front job standing job_within job_is within is in
-    (
+    let t = handed book front job standing job_within job_is within is in (
       (is_ticket, ap (job_at book.state.jobs) is_ticket ∙ t.job_is),
       (ap (standing_in book.state.standings) is_ticket ∙ t.standing_is, t.closed),
       sym front,

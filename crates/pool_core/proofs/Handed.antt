@@ -41,10 +41,10 @@ goes_called old new r h c =
     elim c [
       | inl e ↦ goes_same old new h (ap (λ (b : Book). b.settings) e) (ap (λ (b : Book). b.state) e)
       | inr t ↦ record {
-          settings = t.1.settings;
-          sound = rw (t.1.settings, t.1.state) (sound_after old.settings t.0 old.state r h t.1.possible);
-          extends = subst (ExtendsState old.state) (sym t.1.state) (extends_after old.settings t.0 old.state h t.1.possible);
-        }
+        settings = t.1.settings;
+        sound = rw (t.1.settings, t.1.state) (sound_after old.settings t.0 old.state r h t.1.possible);
+        extends = subst (ExtendsState old.state) (sym t.1.state) (extends_after old.settings t.0 old.state h t.1.possible);
+      }
     ]
 
 goes_call : (old : Book) (new : Outcome) → AreSettings old.settings → IsSoundState old.settings old.state → Leaves old new → Goes old new.book

@@ -22,8 +22,8 @@ pub use event::{Chapter, Event, Forgotten, FunctionName, Job};
 pub use laws::{
     bases_are_sound, calls_replay, chapters_count, events_count, histories_are_sound,
     histories_count, histories_cut, histories_extend, histories_join, jobs_are_accounted_for,
-    jobs_are_booked_once, jobs_are_handed_out_once, jobs_are_lost_with_their_workers, rounds_are_shown, rounds_order,
-    workers_are_new,
+    jobs_are_booked_once, jobs_are_handed_out_once, jobs_are_lost_with_their_workers,
+    rounds_are_shown, rounds_order, workers_are_new,
 };
 pub use pool::{Pass, Pool};
 pub use totals::totals_line;

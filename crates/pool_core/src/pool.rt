@@ -93,7 +93,8 @@ impl Pool {
     /// A pool of these settings: all slots are empty, there is no load, and nothing has happened. The only error is that memory
     /// was refused.
     pub fn new(alloc: Global, settings: Settings) -> Result<Pool, AllocError>
-        ensures { IfOk result (λ pool. pool ≡ record { settings = settings; events = []; state = first settings; chapters = 0; forgotten = 0 }) }
+        ensures { IfOk result (λ pool.
+            pool ≡ record { settings = settings; events = []; state = first settings; chapters = 0; forgotten = 0 }) }
     {
         let count = settings.slots() as usize;
         let slots = table::empty_slots(alloc, count)?;

@@ -13,9 +13,9 @@ use gear_packets::Handle;
 use gear_status::Load;
 use plan_model::{Certified, Input, Plan, SlotId};
 use pool_core::{
-    AdoptError, BeginError, Chapter, ChapterError, ExpireError, Forgotten, GrabError, JoinError, LoadError,
-    LoseError, Pass, Pool, Ran, ReportError, StayOrRetire, Totals, ViewError, events_count,
-    histories_are_sound, histories_count, histories_join,
+    AdoptError, BeginError, Chapter, ChapterError, ExpireError, Forgotten, GrabError, JoinError,
+    LoadError, LoseError, Pass, Pool, Ran, ReportError, StayOrRetire, Totals, ViewError,
+    events_count, histories_are_sound, histories_count, histories_join,
 };
 use std::marker::Model;
 use std::sync::ledger::{self, Blank, Ledger, Share};

@@ -6,13 +6,15 @@ use Rattle.pool_core.proofs.pool.Pool.begin_report.Goals as goal
 
 pub invariant_of-self : goal.invariant_of-self
 invariant_of-self c =
-    let p = c.self.inside in
-    (rw c.put_standing.ensures.forgotten (kept_begin p.settings p.chapters p.standings.forgotten p.events.items (state_of p) p.owed p.reported p.lost _ c.self.invariant.0
-    c.name-worker.result c.args.ticket
-    (ap (λ (b : Book). begin_refusal b c.name-worker.result c.args.ticket) c.self.view_is ∙ (sym c.begin_refusal.ensures ∙ c.in_default.is))
-    c.push_reserved.new.self.items c.push_reserved.ensures.items
-    c.put_standing.new.standings.items c.put_standing.ensures.items
-    _ c.push_reserved.ensures.capacity), c.self.invariant.1 ∙ sym c.put_standing.ensures.forgotten)
+    let p = c.self.inside in (
+      rw c.put_standing.ensures.forgotten (kept_begin p.settings p.chapters p.standings.forgotten p.events.items (state_of p) p.owed p.reported p.lost _ c.self.invariant.0
+          c.name-worker.result c.args.ticket
+          (ap (λ (b : Book). begin_refusal b c.name-worker.result c.args.ticket) c.self.view_is ∙ (sym c.begin_refusal.ensures ∙ c.in_default.is))
+          c.push_reserved.new.self.items c.push_reserved.ensures.items
+          c.put_standing.new.standings.items c.put_standing.ensures.items
+          _ c.push_reserved.ensures.capacity),
+      c.self.invariant.1 ∙ sym c.put_standing.ensures.forgotten,
+    )
 
 pub push_reserved-requires : goal.push_reserved-requires
 push_reserved-requires c =

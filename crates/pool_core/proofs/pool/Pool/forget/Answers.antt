@@ -7,13 +7,14 @@ use Rattle.pool_core.proofs.pool.Pool.forget.Goals as goal
 
 pub invariant_of-self-2 : goal.invariant_of-self-2
 invariant_of-self-2 c =
-    let p = c.self.inside in
-    (kept_forget p.settings p.chapters p.standings.forgotten p.events.items (state_of p) p.owed p.reported p.lost _ c.self.invariant.0
-    (ap has_closed_front c.self.view_is ∙ sym c.has_closed_front.ensures ∙ cc)
-    c.forget.new.self.items c.in_ok-job.ensures.items
-    c.forget-2.new.self.items c.in_ok-standing.ensures.items
-    c.forget-2.new.self.forgotten c.in_ok-standing.ensures.forgotten,
-    c.in_ok-job.ensures.forgotten ∙ ap (λ n. n + 1) c.self.invariant.1 ∙ sym c.in_ok-standing.ensures.forgotten)
+    let p = c.self.inside in (
+      kept_forget p.settings p.chapters p.standings.forgotten p.events.items (state_of p) p.owed p.reported p.lost _ c.self.invariant.0
+          (ap has_closed_front c.self.view_is ∙ sym c.has_closed_front.ensures ∙ cc)
+          c.forget.new.self.items c.in_ok-job.ensures.items
+          c.forget-2.new.self.items c.in_ok-standing.ensures.items
+          c.forget-2.new.self.forgotten c.in_ok-standing.ensures.forgotten,
+      c.in_ok-job.ensures.forgotten ∙ ap (λ n. n + 1) c.self.invariant.1 ∙ sym c.in_ok-standing.ensures.forgotten,
+    )
 
 pub returns : goal.returns
 returns c =

@@ -25,18 +25,26 @@ invariant_of-self c =
     let w = c.args.worker in
     let ticket : c.held_ticket-ticket.result ≡ held_ticket (slot_in p.slots.items w.slot) = cc in
     let owed : c.put_lost-owed.result ≡ closing_of p.standings.items (held_ticket (slot_in p.slots.items w.slot)) = cc in
-    let lost : c.lost_jobs-jobs.result ≡ lost_of (held_ticket (slot_in p.slots.items w.slot)) = cc in
-    (rw (owed, lost, c.put_lost-owed.ensures.forgotten) (kept_lost p.settings p.chapters p.standings.forgotten p.events.items (state_of p) p.owed p.reported p.lost _ c.self.invariant.0
-    w c.args.cause (subst (λ (b : Book). is_live_in b.state w ≡ true) (sym c.self.view_is) c.requires)
-    c.push_reserved.new.self.items c.push_reserved.ensures.items
-    c.put_slot.new.slots.items c.put_slot.ensures
-    c.put_lost-owed.new.standings.items (cc)
-    _ c.push_reserved.ensures.capacity), c.self.invariant.1 ∙ sym c.put_lost-owed.ensures.forgotten)
+    let lost : c.lost_jobs-jobs.result ≡ lost_of (held_ticket (slot_in p.slots.items w.slot)) = cc in (
+      rw (owed, lost, c.put_lost-owed.ensures.forgotten) (kept_lost p.settings p.chapters p.standings.forgotten p.events.items (state_of p) p.owed p.reported p.lost _ c.self.invariant.0
+          w c.args.cause (subst (λ (b : Book). is_live_in b.state w ≡ true) (sym c.self.view_is) c.requires)
+          c.push_reserved.new.self.items c.push_reserved.ensures.items
+          c.put_slot.new.slots.items c.put_slot.ensures
+          c.put_lost-owed.new.standings.items (cc)
+          _ c.push_reserved.ensures.capacity),
+      c.self.invariant.1 ∙ sym c.put_lost-owed.ensures.forgotten,
+    )
 
 pub overflow_add-self-2 : goal.overflow_add-self-2
 overflow_add-self-2 c =
     let p = c.self.inside in
     let w = c.args.worker in
     let lost : c.lost_jobs-jobs.result ≡ lost_of (held_ticket (slot_in p.slots.items w.slot)) = cc in
-    omega (arith, lost, loss_fits p.settings p.chapters p.standings.forgotten p.events.items (state_of p) p.owed p.reported p.lost _ c.self.invariant.0 w
-    (subst (λ (b : Book). is_live_in b.state w ≡ true) (sym c.self.view_is) c.requires), c.len-grabbed.ensures, c.len-grabbed.type_inv)
+    omega (
+      arith,
+      lost,
+      loss_fits p.settings p.chapters p.standings.forgotten p.events.items (state_of p) p.owed p.reported p.lost _ c.self.invariant.0 w
+          (subst (λ (b : Book). is_live_in b.state w ≡ true) (sym c.self.view_is) c.requires),
+      c.len-grabbed.ensures,
+      c.len-grabbed.type_inv,
+    )

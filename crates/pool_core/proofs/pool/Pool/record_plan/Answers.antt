@@ -33,11 +33,13 @@ moved-moved-requires-clause-new c =
 pub invariant_of-self-2 : goal.invariant_of-self-2
 invariant_of-self-2 c =
     let p = c.self.inside in
-    let room : length p.events.items + owed (state_of p) + 1 ≤ p.settings.history = leb-true _ _ (ap (λ (b : Book). has_room b 1) c.self.view_is ∙ c.requires.room) in
-    (kept_plan p.settings p.chapters p.standings.forgotten p.events.items (state_of p) p.owed p.reported p.lost _ c.self.invariant.0
-    c.args.plan c.args.backlog c.args.short
-    (subst (λ (b : Book). IsPossible b.settings (event.Round (answers.Planned c.args.plan c.args.backlog c.args.short)) b.state) (sym c.self.view_is) c.requires.possible) room
-    c.push_reserved.new.self.items (c.push_reserved.ensures.items ∙ ap (λ (es : List Event). es ++ event.Round (answers.Planned c.args.plan c.args.backlog c.args.short) ∷ []) c.in_ok-reserve.ensures.items)
-    c.in_ok-orders.orders.items (c.in_ok-orders.ensures ∙ orders_same c.args.plan c.args.plan (p.rounds + 1) p.slots.items _ p.orders.items _ refl c.as_slice.ensures.value c.as_slice-2.ensures.value)
-    c.in_ok-noted.noted c.in_ok-noted.ensures
-    _ (omega (arith, c.in_ok-reserve.ensures.ok, c.in_ok-reserve.ensures.len, p.events.ok.0, c.push_reserved.ensures.capacity)), c.self.invariant.1)
+    let room : length p.events.items + owed (state_of p) + 1 ≤ p.settings.history = leb-true _ _ (ap (λ (b : Book). has_room b 1) c.self.view_is ∙ c.requires.room) in (
+      kept_plan p.settings p.chapters p.standings.forgotten p.events.items (state_of p) p.owed p.reported p.lost _ c.self.invariant.0
+          c.args.plan c.args.backlog c.args.short
+          (subst (λ (b : Book). IsPossible b.settings (event.Round (answers.Planned c.args.plan c.args.backlog c.args.short)) b.state) (sym c.self.view_is) c.requires.possible) room
+          c.push_reserved.new.self.items (c.push_reserved.ensures.items ∙ ap (λ (es : List Event). es ++ event.Round (answers.Planned c.args.plan c.args.backlog c.args.short) ∷ []) c.in_ok-reserve.ensures.items)
+          c.in_ok-orders.orders.items (c.in_ok-orders.ensures ∙ orders_same c.args.plan c.args.plan (p.rounds + 1) p.slots.items _ p.orders.items _ refl c.as_slice.ensures.value c.as_slice-2.ensures.value)
+          c.in_ok-noted.noted c.in_ok-noted.ensures
+          _ (omega (arith, c.in_ok-reserve.ensures.ok, c.in_ok-reserve.ensures.len, p.events.ok.0, c.push_reserved.ensures.capacity)),
+      c.self.invariant.1,
+    )

@@ -21,16 +21,18 @@ invariant_of-self c =
     let p = c.self.inside in
     let w = c.name-worker.result in
     let runs : c.run_count-runs.result ≡ run_count (slot_in p.slots.items w.slot) = cc in
-    let slots : c.put_slot.new.slots.items ≡ slice_set p.slots.items w.slot (if c.stays-stays.result then Live w.generation (run_count (slot_in p.slots.items w.slot) + 1) None else Empty w.generation) = cc in
-    (rw c.put_standing.ensures.forgotten (kept_reported p.settings p.chapters p.standings.forgotten p.events.items (state_of p) p.owed p.reported p.lost _ c.self.invariant.0
-    w c.args.ticket c.args.end
-    (ap (λ (b : Book). report_refusal b w c.args.ticket) c.self.view_is ∙ (sym c.report_refusal.ensures ∙ c.in_default.is))
-    c.stays-stays.result (c.stays-stays.ensures.stays ∙ ap (λ (b : Book). nat_lt (run_count (slot_in b.state.slots w.slot) + 1) b.settings.max_runs) (sym c.self.view_is))
-    c.push_reserved.new.self.items c.push_reserved.ensures.items
-    c.put_slot.new.slots.items slots
-    c.put_standing.new.standings.items c.put_standing.ensures.items
-    _ (owes_after_report p.owed c.owed_by_worker.result c.stays-stays.result c.owed_by_worker.ensures (owes_report p.settings p.chapters p.standings.forgotten p.events.items (state_of p) p.owed p.reported p.lost _ c.self.invariant.0 w c.args.ticket (ap (λ (b : Book). report_refusal b w c.args.ticket) c.self.view_is ∙ (sym c.report_refusal.ensures ∙ c.in_default.is)) c.stays-stays.result (c.stays-stays.ensures.stays ∙ ap (λ (b : Book). nat_lt (run_count (slot_in b.state.slots w.slot) + 1) b.settings.max_runs) (sym c.self.view_is))))
-    _ c.push_reserved.ensures.capacity), c.self.invariant.1 ∙ sym c.put_standing.ensures.forgotten)
+    let slots : c.put_slot.new.slots.items ≡ slice_set p.slots.items w.slot (if c.stays-stays.result then Live w.generation (run_count (slot_in p.slots.items w.slot) + 1) None else Empty w.generation) = cc in (
+      rw c.put_standing.ensures.forgotten (kept_reported p.settings p.chapters p.standings.forgotten p.events.items (state_of p) p.owed p.reported p.lost _ c.self.invariant.0
+          w c.args.ticket c.args.end
+          (ap (λ (b : Book). report_refusal b w c.args.ticket) c.self.view_is ∙ (sym c.report_refusal.ensures ∙ c.in_default.is))
+          c.stays-stays.result (c.stays-stays.ensures.stays ∙ ap (λ (b : Book). nat_lt (run_count (slot_in b.state.slots w.slot) + 1) b.settings.max_runs) (sym c.self.view_is))
+          c.push_reserved.new.self.items c.push_reserved.ensures.items
+          c.put_slot.new.slots.items slots
+          c.put_standing.new.standings.items c.put_standing.ensures.items
+          _ (owes_after_report p.owed c.owed_by_worker.result c.stays-stays.result c.owed_by_worker.ensures (owes_report p.settings p.chapters p.standings.forgotten p.events.items (state_of p) p.owed p.reported p.lost _ c.self.invariant.0 w c.args.ticket (ap (λ (b : Book). report_refusal b w c.args.ticket) c.self.view_is ∙ (sym c.report_refusal.ensures ∙ c.in_default.is)) c.stays-stays.result (c.stays-stays.ensures.stays ∙ ap (λ (b : Book). nat_lt (run_count (slot_in b.state.slots w.slot) + 1) b.settings.max_runs) (sym c.self.view_is))))
+          _ c.push_reserved.ensures.capacity),
+      c.self.invariant.1 ∙ sym c.put_standing.ensures.forgotten,
+    )
 
 pub push_reserved-requires : goal.push_reserved-requires
 push_reserved-requires c =
@@ -49,5 +51,10 @@ put_standing-requires-clause-kept c =
 pub overflow_add-self : goal.overflow_add-self
 overflow_add-self c =
     let p = c.self.inside in
-    omega (arith, report_fits p.settings p.chapters p.standings.forgotten p.events.items (state_of p) p.owed p.reported p.lost _ c.self.invariant.0 c.name-worker.result c.args.ticket
-    (ap (λ (b : Book). report_refusal b c.name-worker.result c.args.ticket) c.self.view_is ∙ (sym c.report_refusal.ensures ∙ c.in_default.is)), c.len-grabbed.ensures, c.len-grabbed.type_inv)
+    omega (
+      arith,
+      report_fits p.settings p.chapters p.standings.forgotten p.events.items (state_of p) p.owed p.reported p.lost _ c.self.invariant.0 c.name-worker.result c.args.ticket
+          (ap (λ (b : Book). report_refusal b c.name-worker.result c.args.ticket) c.self.view_is ∙ (sym c.report_refusal.ensures ∙ c.in_default.is)),
+      c.len-grabbed.ensures,
+      c.len-grabbed.type_inv,
+    )
