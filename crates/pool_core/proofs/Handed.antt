@@ -1,14 +1,13 @@
 -- Jobs that are handed out, and what the state says of them ever after.
-use Rattle.std.proofs.Common.{◌≡◌, ℕ, ◌+◌, ◌-◌, Bool, true, false, cond, List, [], ◌∷◌, ◌++◌, length, Option, None, Some, inl, inr, refl, sym, ap, subst, ◌∙◌, arith, length-append}
+use Rattle.std.proofs.Common.{◌≡◌, ℕ, ◌+◌, ◌-◌, Bool, true, false, cond, List, [], ◌∷◌, ◌++◌, length, None, Some, inl, inr, refl, sym, ap, subst, ◌∙◌, arith}
 use Rattle.std.specs.Prelude.{slice_get, ◌==◌}
-use Rattle.pool_settings.specs.Settings.{Settings, AreSettings}
+use Rattle.pool_settings.specs.Settings.{AreSettings}
 use Rattle.worker_state.specs.Slots.{is_open}
 use Rattle.pool_core.specs.declared.event.Job.{Job}
 use Rattle.pool_core.specs.declared.event.Forgotten.{Forgotten}
 use Rattle.pool_core.specs.Machine.{State, job_at, standing_in}
-use Rattle.pool_core.specs.Kept.{IsChapter, IsSoundState}
-use Rattle.pool_core.specs.Book.{Book, IsStep, next_chapter, forget_first}
-use Rattle.pool_core.specs.Calls.{Forgets}
+use Rattle.pool_core.specs.Kept.{IsSoundState}
+use Rattle.pool_core.specs.Book.{Book}
 use Rattle.pool_core.specs.Laws.{ExtendsState, Called, Outcome, Leaves, AllCalled, last_of, all_forgotten, AreNext, JobsAreHandedOutOnce}
 use Rattle.pool_core.proofs.Sound.{sound_after}
 use Rattle.pool_core.proofs.Grabbers.{got_front}

@@ -1,8 +1,8 @@
 -- A history that grows by one event, and what a pool keeps then.
-use Rattle.std.proofs.Common.{◌≡◌, ℕ, ◌+◌, ◌≤◌, List, [], ◌∷◌, ◌++◌, length, refl, sym, ap, ◌∙◌, subst, arith, length-append}
+use Rattle.std.proofs.Common.{◌≡◌, ℕ, ◌+◌, List, [], ◌∷◌, ◌++◌, refl, sym, ap, ◌∙◌, subst, arith}
 use Rattle.pool_settings.specs.Settings.{Settings}
 use Rattle.pool_core.specs.declared.event.Event.{Event}
-use Rattle.pool_core.specs.Machine.{State, first, after, IsPossible, replay, IsHistory, IsReplay, owed}
+use Rattle.pool_core.specs.Machine.{State, first, after, IsPossible, replay, IsHistory, IsReplay}
 use Rattle.pool_core.specs.Kept.{IsChapter}
 
 -- joined lists replay one after the other

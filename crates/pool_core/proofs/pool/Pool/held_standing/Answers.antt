@@ -1,4 +1,4 @@
-use Rattle.std.proofs.Common.{ap, ◌∙◌, sym, Some, ◌≡◌}
+use Rattle.std.proofs.Common.{ap, ◌∙◌}
 use Rattle.pool_core.specs.Machine.{open_ticket, standing_in}
 use Rattle.pool_core.specs.Book.{Book}
 use Rattle.pool_core.specs.View.{state_of}
