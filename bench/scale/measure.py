@@ -1,14 +1,18 @@
-"""How far the parts of a large farm are from the best plan of the whole: bench/scale/measure.py PROGRAM
+"""How far the parts of a large farm are from the best plan of the whole: bench/scale/measure.py [PROGRAM]
 
-Makes each kind of farm, finds the best backlog of the whole by a plain program, splits the farm, and plans each part with `PROGRAM plan`.
-A row has how many functions several parts serve, the best backlog of the whole, and the backlog of the plans of all parts together: for a
-function that several parts serve, their workers are added up. There are three, by how many jobs wait for such a function in a part:
+Makes each kind of farm, finds the best backlog of the whole by a plain program, and splits the farm. A row has how many functions several
+parts serve, the best backlog of the whole, and the worst backlog that a part has by its best plan, by how many jobs wait in the part for a
+function that several serve:
 
 - whole: all of them, as processes beside each other at one job server see it
 - shared: its share, in proportion to the workers of the part that may do the function
-- again: the same, then five times its share in proportion to the workers that the last plan of the part gave the function
 
-Behind them are processor seconds: of the search for the best, of the split, of the plans of all parts once, and of the longest plan.
+With a PROGRAM `PROGRAM plan` plans each part, and has to report the backlogs that the plain program finds. Then come the backlogs of all
+these plans together (for a function that several parts serve, their workers are added up), also
+
+- again: as shared, then five times with shares in proportion to the workers that the last plan of the part gave the function
+
+and processor seconds of the plans of all parts once, and of the longest plan.
 """
 
 import os
@@ -23,7 +27,8 @@ from farm import KINDS, farm as made
 from parts import plan, shares, split, status
 
 AGAIN = 5
-COLUMNS = ("farm", "parts", "in several", "best", "whole", "shared", "again", "best s", "split s", "plans s", "longest s")
+COLUMNS = ("farm", "parts", "in several", "best", "whole", "shared", "best s", "split s")
+PROGRAM_COLUMNS = ("together:", "whole", "shared", "again", "plans s", "longest s")
 
 
 class Planned:
@@ -44,26 +49,26 @@ class Planned:
         return planned
 
     def plan(self, waiting):
-        """The worst backlog of all parts together, and how many workers each part gives each function."""
+        """What each part reports, the backlog of all together, and how many workers each part gives each function."""
         planned = [self.plan_part(number, of_part) for number, of_part in enumerate(waiting)]
         served = [{function: counts.get(function, 0) for function in part.able} for (_, counts), part in zip(planned, self.parts)]
-        together = backlog(self.farm, served)
-        if together == float("inf"):
-            sys.exit("bench/scale: a function with waiting jobs has no worker")
-        if together > max(reported for reported, _ in planned):
-            sys.exit("bench/scale: the parts together are worse than the worst of them")
+        reported, together = [one for one, _ in planned], backlog(self.farm, served)
+        if together > max(reported) or together == float("inf"):
+            sys.exit(f"bench/scale: the parts together have a backlog of {together}, and report {max(reported)} at most")
+        return reported, together, served
+
+    def plan_as(self, waiting, expected):
+        """The same, if the plain program has found these backlogs."""
+        reported, together, served = self.plan(waiting)
+        if reported != expected:
+            sys.exit(f"bench/scale: the parts report {reported}, and the plain program finds {expected}")
         return together, served
 
-    def whole(self):
-        return self.plan([dict(enumerate(self.farm.waiting))] * len(self.parts))[0]
-
-    def shared(self):
-        """The worst backlog with shares by who may do a function, and after so many times with shares by who was given to it."""
-        first, served = self.plan(shares(self.farm, [part.able for part in self.parts]))
-        last = first
+    def again(self, served):
+        """The backlog of all together, after so many times with shares by who was given to a function."""
         for _ in range(AGAIN):
-            last, served = self.plan(shares(self.farm, served))
-        return first, last
+            _, together, served = self.plan(shares(self.farm, served))
+        return together
 
 
 def timed(work, *given):
@@ -71,25 +76,40 @@ def timed(work, *given):
     return work(*given), time.process_time() - start
 
 
+def above(least, worst):
+    return f"{worst} (+{100 * (worst - least) / least:.0f}%)"
+
+
+def best_of_parts(parts, waiting):
+    return [best(part.alone(of_part)) for part, of_part in zip(parts, waiting)]
+
+
+def cells_of_program(planned, least, ways, expected):
+    whole, _ = planned.plan_as(ways[0], expected[0])
+    shared, served = planned.plan_as(ways[1], expected[1])
+    together = [above(least, one) for one in (whole, shared, planned.again(served))]
+    plans = sum(planned.seconds) / len(planned.seconds) * len(planned.parts)
+    return ["", *together, f"{plans:.2f}", f"{max(planned.seconds):.2f}"]
+
+
 def row(program, kind, folder):
     farm = made(kind)
     least, best_seconds = timed(best, farm)
     parts, split_seconds = timed(split, farm)
     several = sum(sum(function in part.able for part in parts) > 1 for function in range(len(farm.waiting)))
-    planned = Planned(program, folder, farm, parts)
-    found = [planned.whole(), *planned.shared()]
-    above = [f"{worst} (+{100 * (worst - least) / least:.0f}%)" for worst in found]
-    plans = sum(planned.seconds) / len(planned.seconds) * len(parts)
-    seconds = [f"{one:.2f}" for one in (best_seconds, split_seconds, plans, max(planned.seconds))]
-    return [kind, len(parts), several, least, *above, *seconds]
+    ways = [[dict(enumerate(farm.waiting))] * len(parts), shares(farm, [part.able for part in parts])]
+    expected = [best_of_parts(parts, waiting) for waiting in ways]
+    worst = [above(least, max(backlogs)) for backlogs in expected]
+    cells = [kind, len(parts), several, least, *worst, f"{best_seconds:.2f}", f"{split_seconds:.2f}"]
+    return cells if program is None else cells + cells_of_program(Planned(program, folder, farm, parts), least, ways, expected)
 
 
 def main(program):
-    print(*(f"{column:>12}" for column in COLUMNS))
+    print(*(f"{column:>12}" for column in COLUMNS + (PROGRAM_COLUMNS if program else ())))
     for kind in KINDS:
         with tempfile.TemporaryDirectory(prefix="scale-") as folder:
             print(*(f"{cell:>12}" for cell in row(program, kind, folder)), flush=True)
 
 
 if __name__ == "__main__":
-    main(os.path.realpath(sys.argv[1]))
+    main(os.path.realpath(sys.argv[1]) if len(sys.argv) > 1 else None)

@@ -4,6 +4,8 @@ import re
 import subprocess
 import sys
 
+from farm import Farm
+
 # What one process takes.
 MOST_MACHINES, MOST_FUNCTIONS, MOST_WORKERS = 256, 1024, 4096
 
@@ -28,6 +30,12 @@ class Part:
         self.workers += self.farm.workers[machine]
         for function in self.farm.lists[machine]:
             self.able[function] = self.able.get(function, 0) + self.farm.workers[machine]
+
+    def alone(self, waiting):
+        """The part as a farm of its own, with so many waiting jobs of each function."""
+        number = {function: at for at, function in enumerate(sorted(self.able))}
+        lists = [[number[function] for function in self.farm.lists[machine]] for machine in self.machines]
+        return Farm([self.farm.workers[machine] for machine in self.machines], lists, [waiting[function] for function in number])
 
     def settings(self):
         functions = "".join(f"[functions.f{function:05}]\n" for function in self.able)
