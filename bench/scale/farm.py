@@ -62,7 +62,7 @@ KINDS = {kind.__name__: kind for kind in (chains, groups, common, anyhow, ranked
 
 
 def farm(kind):
-    """The farm of this kind, each time the same. Each function is listed, and has 1 to 9,999 waiting jobs, as often up to 10 as from 1,000."""
+    """The farm of this kind, always the same. Each function is listed, and has 1 to 9,999 waiting jobs, as often below 10 as from 1,000."""
     draw = random.Random(kind).random
     lists = KINDS[kind](draw)
     for function in set(range(FUNCTIONS)).difference(*lists):

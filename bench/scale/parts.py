@@ -56,7 +56,7 @@ def grown(farm, left):
 
 
 def split(farm):
-    """The parts of a farm. One after the other takes the machine that adds the fewest functions to it, the first of equals, until none fits."""
+    """The parts of a farm. One after the other takes the machine that adds the fewest functions, the first of equals, until none fits."""
     left, parts = list(range(len(farm.workers))), []
     while left:
         parts.append(grown(farm, left))
