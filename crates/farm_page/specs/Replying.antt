@@ -1,9 +1,9 @@
 -- What a request is answered.
-use Rattle.std.specs.Prelude.{ℕ, ◌≡◌, List, Option, Some, None, Result, Ok, Err, IsTrue, codes, if◌then◌else◌}
+use Rattle.std.specs.Prelude.{ℕ, ◌≡◌, List, Option, Some, None, Result, Ok, Err, codes, if◌then◌else◌}
 use Rattle.farm_page.specs.Condition.{sentence}
 use Rattle.farm_page.specs.Evidence.{evidence_text, lost_text}
 use Rattle.farm_page.specs.Health.{health_text, is_healthy}
-use Rattle.farm_page.specs.Markup.{is_markup}
+use Rattle.farm_page.specs.Markup.{IsPageOf}
 use Rattle.farm_page.specs.Metrics.{metrics_text}
 use Rattle.farm_page.specs.Sections.{Holds, end_rows, function_rows, headline, host_rows}
 use Rattle.farm_page.specs.Told.{Told}
@@ -12,11 +12,14 @@ use Rattle.farm_page.specs.declared.answer.Allowed.TheVariants.{Posts, Reads}
 use Rattle.farm_page.specs.declared.answer.Content.TheVariants as content
 use Rattle.farm_page.specs.declared.answer.Status.{Status}
 use Rattle.farm_page.specs.declared.answer.Status.TheVariants as status
+use Rattle.farm_page.specs.declared.page.Refresh.{Refresh}
+use Rattle.farm_page.specs.declared.page.Refresh.TheVariants.{Never, Soon}
 use Rattle.farm_page.specs.declared.replying.Part.{Part}
 use Rattle.farm_page.specs.declared.replying.Part.TheVariants as part
 use Rattle.farm_page.specs.declared.replying.Reply.{Reply}
 use Rattle.farm_page.specs.declared.replying.Reply.TheVariants.{Drain, Told as told}
 use Rattle.farm_page.specs.declared.replying.Seen.{Seen}
+use Rattle.farm_page.specs.declared.request.Asked.{Asked}
 use Rattle.farm_page.specs.declared.request.Place.{Place}
 use Rattle.farm_page.specs.declared.request.Place.TheVariants as place
 use Rattle.farm_page.specs.declared.request.Refusal.{Refusal}
@@ -74,13 +77,13 @@ abbrev pub health_answer : Seen → Told
 health_answer seen =
     text_of (if is_healthy seen.farm.now seen.moment then status.Ok else status.Unavailable) (health_text seen.farm.now seen.moment)
 
--- a page without a tag that is not its own, with the sentence of the farm and a row for each function, host and cause
-pub record IsPage (farm : FarmView) (answer : Told) : Type 0 where
+-- a page without a tag that is not its own, which asks for itself again or does not, with the sentence of the farm and a row for each function, host and cause
+pub record IsPage (farm : FarmView) (refresh : Refresh) (answer : Told) : Type 0 where
   pub found : answer.status ≡ status.Ok
   pub shown : answer.content ≡ content.Page
   pub attempt : answer.attempt ≡ Some farm.attempt
   pub allowed : answer.allowed ≡ None
-  pub own : IsTrue (is_markup answer.body)
+  pub own : IsPageOf refresh answer.body
   pub sentence : Holds answer.body (headline (sentence farm))
   pub busy : Holds answer.body (function_rows Busy farm.workers.all farm.functions.items)
   pub quiet : Holds answer.body (function_rows Quiet farm.workers.all farm.functions.items)
@@ -89,17 +92,21 @@ pub record IsPage (farm : FarmView) (answer : Told) : Type 0 where
 
 -- ---- all together
 
-abbrev pub RepliesAt : Seen → Place → Reply → Type 0
-RepliesAt seen place.Page reply = (answer : Told) × (reply ≡ told answer) × IsPage seen.farm.now answer
-RepliesAt seen place.Metrics reply = reply ≡ told (metrics_answer seen.farm.now)
-RepliesAt seen place.Evidence reply = reply ≡ told (part_answer part.Whole seen.farm.now.evidence)
-RepliesAt seen place.Report reply = reply ≡ told (part_answer part.Report seen.farm.now.evidence)
-RepliesAt seen place.Status reply = reply ≡ told (part_answer part.Status seen.farm.now.evidence)
-RepliesAt seen place.Lost reply = reply ≡ told (part_answer part.Lost seen.farm.now.evidence)
-RepliesAt seen place.Health reply = reply ≡ told (health_answer seen)
-RepliesAt seen place.Drain reply = reply ≡ Drain
+abbrev pub RepliesAt : Seen → Refresh → Place → Reply → Type 0
+RepliesAt seen refresh place.Page reply = (answer : Told) × (reply ≡ told answer) × IsPage seen.farm.now refresh answer
+RepliesAt seen refresh place.Metrics reply = reply ≡ told (metrics_answer seen.farm.now)
+RepliesAt seen refresh place.Evidence reply = reply ≡ told (part_answer part.Whole seen.farm.now.evidence)
+RepliesAt seen refresh place.Report reply = reply ≡ told (part_answer part.Report seen.farm.now.evidence)
+RepliesAt seen refresh place.Status reply = reply ≡ told (part_answer part.Status seen.farm.now.evidence)
+RepliesAt seen refresh place.Lost reply = reply ≡ told (part_answer part.Lost seen.farm.now.evidence)
+RepliesAt seen refresh place.Health reply = reply ≡ told (health_answer seen)
+RepliesAt seen refresh place.Drain reply = reply ≡ Drain
+
+-- the page holds still if it is asked to
+abbrev pub refresh_of : Asked → Refresh
+refresh_of asked = if asked.is_still then Never else Soon
 
 -- what is asked for, or the refusal
-abbrev pub Replies : Seen → Result Place Refusal → Reply → Type 0
-Replies seen (Ok at) reply = RepliesAt seen at reply
-Replies seen (Err refusal) reply = reply ≡ told (refused refusal)
+abbrev pub Replies : Seen → Asked → Result Place Refusal → Reply → Type 0
+Replies seen asked (Ok at) reply = RepliesAt seen (refresh_of asked) at reply
+Replies seen asked (Err refusal) reply = reply ≡ told (refused refusal)

@@ -1,8 +1,8 @@
 //! The page.
 
-ghost use Rattle.std.specs.Prelude.{IfOk, IsTrue};
+ghost use Rattle.std.specs.Prelude.{◌≡◌, ◌++◌, IfOk, OnOk};
 ghost use Rattle.farm_page.specs.Condition.{sentence};
-ghost use Rattle.farm_page.specs.Markup.{is_markup};
+ghost use Rattle.farm_page.specs.Markup.{IsPageOf, opening};
 ghost use Rattle.farm_page.specs.Sections.{Holds, end_rows, function_rows, headline, host_rows};
 
 use crate::condition::{Condition, condition_of, sentence, shortage_words};
@@ -11,6 +11,7 @@ use crate::markup::Markup;
 use crate::sections::{Share, ends_section, functions_section, headline, hosts_section};
 use crate::style::{DAY, DRAWINGS, FRAME, NIGHT, TABLES};
 use crate::view::FarmView;
+use crate::writing::{put_bytes, put_text};
 use std::alloc::{AllocError, Global};
 
 /// Whether a page asks for itself again.
@@ -20,6 +21,21 @@ pub enum Refresh {
     Soon,
     /// Never.
     Never,
+}
+
+/// Adds how a page begins, whatever it shows.
+fn put_opening(out: &mut Vec<u8>, refresh: Refresh) -> Result<(), AllocError>
+    ensures { OnOk result (out.new.items ≡ out.old.items ++ opening refresh) }
+{
+    put_text(
+        out,
+        "<!doctype html>\n<html lang=\"en\"><head><meta charset=\"utf-8\">\
+        <meta name=\"viewport\" content=\"width=device-width, initial-scale=1\">",
+    )?;
+    match refresh {
+        Refresh::Soon => put_text(out, "<meta http-equiv=\"refresh\" content=\"5\">"),
+        Refresh::Never => Ok(()),
+    }
 }
 
 /// Adds the style.
@@ -42,19 +58,9 @@ fn put_body(out: &mut Markup, condition: Condition) -> Result<(), AllocError> {
     }
 }
 
-/// What is before the sentence. The only error is out of memory.
-fn head(
-    alloc: Global,
-    view: &FarmView,
-    title: &str,
-    refresh: Refresh,
-) -> Result<Markup, AllocError> {
+/// What is between the opening and the sentence. The only error is out of memory.
+fn head(alloc: Global, view: &FarmView, title: &str) -> Result<Markup, AllocError> {
     let mut out = Markup::new(alloc);
-    out.put_tags("<!doctype html>\n<html lang=\"en\"><head><meta charset=\"utf-8\">")?;
-    out.put_tags("<meta name=\"viewport\" content=\"width=device-width, initial-scale=1\">")?;
-    if let Refresh::Soon = refresh {
-        out.put_tags("<meta http-equiv=\"refresh\" content=\"5\">")?;
-    }
     out.put_tags("<title>")?;
     out.put_text(title.as_bytes())?;
     out.put_tags(" - poolman</title><link rel=\"icon\" href=\"data:,\">")?;
@@ -107,19 +113,16 @@ const FOOT: &str =
 and <b>poolman check</b>.</p><nav><a href=\"/report\">report</a><a href=\"/status.txt\">status text</a>\
 <a href=\"/lost\">lost workers</a><a href=\"/metrics\">metrics</a><a href=\"/health\">health</a></nav></footer>\n</body></html>\n";
 
-/// The page of a farm, in HTML: how the farm is in one sentence, what shows it, the last backlogs as a drawing, and the tables of the
-/// functions, the hosts and the causes for which workers ended. It has no script, and no file from elsewhere. Whatever names it shows,
-/// each `<` in it begins a tag of the program's own. The only error is out of memory.
-pub fn page_text(alloc: Global, view: &FarmView, refresh: Refresh) -> Result<Vec<u8>, AllocError>
-    ensures own { IfOk result (λ page. IsTrue (is_markup page.items)) }
-    ensures sentence { IfOk result (λ page. Holds page.items (headline (sentence view.now))) }
-    ensures busy { IfOk result (λ page. Holds page.items (function_rows Share.Busy view.now.workers.all view.now.functions.items)) }
-    ensures quiet { IfOk result (λ page. Holds page.items (function_rows Share.Quiet view.now.workers.all view.now.functions.items)) }
-    ensures hosts { IfOk result (λ page. Holds page.items (host_rows view.now.hosts.items)) }
-    ensures ends { IfOk result (λ page. Holds page.items (end_rows view.now.ends.items)) }
+/// What a page shows, behind its opening. The only error is out of memory.
+fn rest_of(alloc: Global, view: &FarmView, refresh: Refresh) -> Result<Markup, AllocError>
+    ensures sentence { IfOk result (λ rest. Holds rest (headline (sentence view.now))) }
+    ensures busy { IfOk result (λ rest. Holds rest (function_rows Share.Busy view.now.workers.all view.now.functions.items)) }
+    ensures quiet { IfOk result (λ rest. Holds rest (function_rows Share.Quiet view.now.workers.all view.now.functions.items)) }
+    ensures hosts { IfOk result (λ rest. Holds rest (host_rows view.now.hosts.items)) }
+    ensures ends { IfOk result (λ rest. Holds rest (end_rows view.now.ends.items)) }
 {
     let words = sentence(alloc, view)?;
-    let mut out = head(alloc, view, words.as_str(), refresh)?;
+    let mut out = head(alloc, view, words.as_str())?;
     let headline = headline(alloc, words.as_str())?;
     let state = state(alloc, view, refresh)?;
     let drawing = drawing(alloc, &view.backlogs)?;
@@ -133,5 +136,23 @@ pub fn page_text(alloc: Global, view: &FarmView, refresh: Refresh) -> Result<Vec
     out.put(&hosts)?;
     out.put(&ends)?;
     out.put_tags(FOOT)?;
-    Ok(out.into_bytes())
+    Ok(out)
+}
+
+/// The page of a farm, in HTML: how the farm is in one sentence, what shows it, the last backlogs as a drawing, and the tables of the
+/// functions, the hosts and the causes for which workers ended. It has no script, and no file from elsewhere. Whatever names it shows,
+/// each `<` in it begins a tag of the program's own. The only error is out of memory.
+pub fn page_text(alloc: Global, view: &FarmView, refresh: Refresh) -> Result<Vec<u8>, AllocError>
+    ensures own { IfOk result (λ page. IsPageOf refresh page.items) }
+    ensures sentence { IfOk result (λ page. Holds page.items (headline (sentence view.now))) }
+    ensures busy { IfOk result (λ page. Holds page.items (function_rows Share.Busy view.now.workers.all view.now.functions.items)) }
+    ensures quiet { IfOk result (λ page. Holds page.items (function_rows Share.Quiet view.now.workers.all view.now.functions.items)) }
+    ensures hosts { IfOk result (λ page. Holds page.items (host_rows view.now.hosts.items)) }
+    ensures ends { IfOk result (λ page. Holds page.items (end_rows view.now.ends.items)) }
+{
+    let rest = rest_of(alloc, view, refresh)?.into_bytes();
+    let mut page = Vec::new(alloc);
+    put_opening(&mut page, refresh)?;
+    put_bytes(&mut page, rest.as_slice())?;
+    Ok(page)
 }

@@ -117,7 +117,7 @@ fn part_answer(alloc: Global, evidence: &Option<Evidence>, part: Part) -> Result
 
 /// The answer of the page.
 fn page_answer(alloc: Global, farm: &FarmView, refresh: Refresh) -> Result<Answer, AllocError>
-    ensures { IfOk result (λ answer. spec.IsPage farm.now answer) }
+    ensures { IfOk result (λ answer. spec.IsPage farm.now refresh answer) }
 {
     Ok(Answer {
         status: Status::Ok,
@@ -161,7 +161,7 @@ fn reply_at(
     place: Place,
     refresh: Refresh,
 ) -> Result<Reply, AllocError>
-    ensures { IfOk result (λ reply. spec.RepliesAt seen.now place reply) }
+    ensures { IfOk result (λ reply. spec.RepliesAt seen.now refresh place reply) }
 {
     let evidence = &seen.farm.evidence;
     let answer = match place {
@@ -185,7 +185,7 @@ pub fn reply_to(
     site: &Site<'_>,
     asked: &Asked<'_>,
 ) -> Result<Reply, AllocError>
-    ensures { IfOk result (λ reply. spec.Replies seen.now (place_asked site.now asked.now) reply) }
+    ensures { IfOk result (λ reply. spec.Replies seen.now asked.now (place_asked site.now asked.now) reply) }
 {
     match place_asked(site, asked) {
         Ok(place) if asked.is_still => reply_at(alloc, seen, place, Refresh::Never),

@@ -1,56 +1,49 @@
-use Rattle.std.proofs.Common.{◌∙◌, ◌++◌, List, ℕ, ap, subst, sym}
+use Rattle.std.proofs.Common.{◌∙◌, ◌++◌, List, ℕ, ap}
 use Rattle.farm_page.specs.Condition.{sentence}
-use Rattle.farm_page.specs.Sections.{Holds, end_rows, function_rows, headline, host_rows}
+use Rattle.farm_page.specs.Markup.{opening}
+use Rattle.farm_page.specs.Sections.{end_rows, function_rows, headline, host_rows}
 use Rattle.farm_page.specs.declared.sections.Share.TheVariants.{Busy, Quiet}
-use Rattle.farm_page.proofs.Held.{holds_in, holds_last, holds_more}
+use Rattle.farm_page.proofs.Held.{holds_in}
 use Rattle.farm_page.proofs.page.page_text.Goals as goal
+
+pub returns-clause-own : goal.returns-clause-own
+returns-clause-own c =
+    let rest : List ℕ = c.into_bytes-rest.result.items in
+    let begun = c.in_ok-put_opening.ensures ∙ ap (λ t. t ++ opening c.args.refresh) c.new-page.ensures.items in
+    record {
+      rest = rest;
+      is =
+          c.in_ok-put_bytes.ensures ∙ ap (λ t. c.put_opening.new.out.items ++ t) c.as_slice.ensures.value
+          ∙ ap (λ t. t ++ rest) begun;
+      own = c.into_bytes-rest.ensures.own;
+    }
 
 pub returns-clause-sentence : goal.returns-clause-sentence
 returns-clause-sentence c =
-    let rows : List ℕ = headline (sentence c.args.view.now) in
-    let at_1 = holds_last c.in_ok-out.out rows c.put.new.self (c.in_ok-put.ensures ∙ ap (λ t. c.in_ok-out.out ++ t) (c.in_ok-headline.ensures ∙ ap (λ t. headline t) (c.as_str-2.ensures.value ∙ c.in_ok-words.ensures))) in
-    let at_2 = holds_more c.put.new.self rows c.in_ok-state.state c.put-2.new.self at_1 c.in_ok-put-2.ensures in
-    let at_3 = holds_more c.put-2.new.self rows c.in_ok-drawing.drawing c.put-3.new.self at_2 c.in_ok-put-3.ensures in
-    let at_4 = holds_more c.put-3.new.self rows c.in_ok-functions.functions c.put-4.new.self at_3 c.in_ok-put-4.ensures in
-    let at_5 = holds_more c.put-4.new.self rows c.in_ok-hosts.hosts c.put-5.new.self at_4 c.in_ok-put-5.ensures in
-    let at_6 = holds_more c.put-5.new.self rows c.in_ok-ends.ends c.put-6.new.self at_5 c.in_ok-put-6.ensures in
-    let whole = holds_more c.put-6.new.self rows _ c.put_tags.new.self at_6 c.in_ok-put_tags.ensures in
-    let P : List ℕ → Type 0 = λ t. Holds t rows in
-    subst P (sym c.into_bytes.ensures.all) whole
+    let begun : List ℕ = c.put_opening.new.out.items in
+    let added = c.in_ok-put_bytes.ensures ∙ ap (λ t. begun ++ t) (c.as_slice.ensures.value ∙ c.into_bytes-rest.ensures.all) in
+    holds_in begun c.in_ok-rest_of.field-0 (headline (sentence c.args.view.now)) c.put_bytes.new.out.items c.in_ok-rest_of.ensures.sentence added
 
 pub returns-clause-busy : goal.returns-clause-busy
 returns-clause-busy c =
-    let rows : List ℕ = function_rows Busy c.args.view.now.workers.all c.args.view.now.functions.items in
-    let at_4 = holds_in c.put-3.new.self c.in_ok-functions.functions rows c.put-4.new.self c.in_ok-functions.ensures.busy c.in_ok-put-4.ensures in
-    let at_5 = holds_more c.put-4.new.self rows c.in_ok-hosts.hosts c.put-5.new.self at_4 c.in_ok-put-5.ensures in
-    let at_6 = holds_more c.put-5.new.self rows c.in_ok-ends.ends c.put-6.new.self at_5 c.in_ok-put-6.ensures in
-    let whole = holds_more c.put-6.new.self rows _ c.put_tags.new.self at_6 c.in_ok-put_tags.ensures in
-    let P : List ℕ → Type 0 = λ t. Holds t rows in
-    subst P (sym c.into_bytes.ensures.all) whole
+    let begun : List ℕ = c.put_opening.new.out.items in
+    let added = c.in_ok-put_bytes.ensures ∙ ap (λ t. begun ++ t) (c.as_slice.ensures.value ∙ c.into_bytes-rest.ensures.all) in
+    holds_in begun c.in_ok-rest_of.field-0 (function_rows Busy c.args.view.now.workers.all c.args.view.now.functions.items) c.put_bytes.new.out.items c.in_ok-rest_of.ensures.busy added
 
 pub returns-clause-quiet : goal.returns-clause-quiet
 returns-clause-quiet c =
-    let rows : List ℕ = function_rows Quiet c.args.view.now.workers.all c.args.view.now.functions.items in
-    let at_4 = holds_in c.put-3.new.self c.in_ok-functions.functions rows c.put-4.new.self c.in_ok-functions.ensures.quiet c.in_ok-put-4.ensures in
-    let at_5 = holds_more c.put-4.new.self rows c.in_ok-hosts.hosts c.put-5.new.self at_4 c.in_ok-put-5.ensures in
-    let at_6 = holds_more c.put-5.new.self rows c.in_ok-ends.ends c.put-6.new.self at_5 c.in_ok-put-6.ensures in
-    let whole = holds_more c.put-6.new.self rows _ c.put_tags.new.self at_6 c.in_ok-put_tags.ensures in
-    let P : List ℕ → Type 0 = λ t. Holds t rows in
-    subst P (sym c.into_bytes.ensures.all) whole
+    let begun : List ℕ = c.put_opening.new.out.items in
+    let added = c.in_ok-put_bytes.ensures ∙ ap (λ t. begun ++ t) (c.as_slice.ensures.value ∙ c.into_bytes-rest.ensures.all) in
+    holds_in begun c.in_ok-rest_of.field-0 (function_rows Quiet c.args.view.now.workers.all c.args.view.now.functions.items) c.put_bytes.new.out.items c.in_ok-rest_of.ensures.quiet added
 
 pub returns-clause-hosts : goal.returns-clause-hosts
 returns-clause-hosts c =
-    let rows : List ℕ = host_rows c.args.view.now.hosts.items in
-    let at_5 = holds_in c.put-4.new.self c.in_ok-hosts.hosts rows c.put-5.new.self c.in_ok-hosts.ensures c.in_ok-put-5.ensures in
-    let at_6 = holds_more c.put-5.new.self rows c.in_ok-ends.ends c.put-6.new.self at_5 c.in_ok-put-6.ensures in
-    let whole = holds_more c.put-6.new.self rows _ c.put_tags.new.self at_6 c.in_ok-put_tags.ensures in
-    let P : List ℕ → Type 0 = λ t. Holds t rows in
-    subst P (sym c.into_bytes.ensures.all) whole
+    let begun : List ℕ = c.put_opening.new.out.items in
+    let added = c.in_ok-put_bytes.ensures ∙ ap (λ t. begun ++ t) (c.as_slice.ensures.value ∙ c.into_bytes-rest.ensures.all) in
+    holds_in begun c.in_ok-rest_of.field-0 (host_rows c.args.view.now.hosts.items) c.put_bytes.new.out.items c.in_ok-rest_of.ensures.hosts added
 
 pub returns-clause-ends : goal.returns-clause-ends
 returns-clause-ends c =
-    let rows : List ℕ = end_rows c.args.view.now.ends.items in
-    let at_6 = holds_in c.put-5.new.self c.in_ok-ends.ends rows c.put-6.new.self c.in_ok-ends.ensures c.in_ok-put-6.ensures in
-    let whole = holds_more c.put-6.new.self rows _ c.put_tags.new.self at_6 c.in_ok-put_tags.ensures in
-    let P : List ℕ → Type 0 = λ t. Holds t rows in
-    subst P (sym c.into_bytes.ensures.all) whole
+    let begun : List ℕ = c.put_opening.new.out.items in
+    let added = c.in_ok-put_bytes.ensures ∙ ap (λ t. begun ++ t) (c.as_slice.ensures.value ∙ c.into_bytes-rest.ensures.all) in
+    holds_in begun c.in_ok-rest_of.field-0 (end_rows c.args.view.now.ends.items) c.put_bytes.new.out.items c.in_ok-rest_of.ensures.ends added
