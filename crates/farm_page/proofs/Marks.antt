@@ -34,7 +34,7 @@ head_more true s t nexts begins = any_more s t nexts begins
 head_more false s t nexts begins = refl
 
 -- one such text behind another
-pub is_followed-append : (lead : ℕ) (nexts : List (List ℕ)) (s t : List ℕ)
+is_followed-append : (lead : ℕ) (nexts : List (List ℕ)) (s t : List ℕ)
     → is_followed lead nexts s ≡ true → is_followed lead nexts t ≡ true → is_followed lead nexts (s ++ t) ≡ true
 is_followed-append lead nexts [] t left right = right
 is_followed-append lead nexts (b ∷ s) t left right =
@@ -42,7 +42,7 @@ is_followed-append lead nexts (b ∷ s) t left right =
     and_from _ _ (head_more (b == lead) s t nexts parts.0) (is_followed-append lead nexts s t parts.1 right)
 
 -- a text without such a byte
-pub followed_nowhere : (lead : ℕ) (nexts : List (List ℕ)) (test : ℕ → Bool) (text : List ℕ)
+followed_nowhere : (lead : ℕ) (nexts : List (List ℕ)) (test : ℕ → Bool) (text : List ℕ)
     → test lead ≡ false → list_all test text ≡ true → is_followed lead nexts text ≡ true
 followed_nowhere lead nexts test [] out all = refl
 followed_nowhere lead nexts test (b ∷ text) out all =
@@ -52,7 +52,7 @@ followed_nowhere lead nexts test (b ∷ text) out all =
 
 -- ---- markup
 
-pub is_markup-append : (s t : List ℕ) → is_markup s ≡ true → is_markup t ≡ true → is_markup (s ++ t) ≡ true
+is_markup-append : (s t : List ℕ) → is_markup s ≡ true → is_markup t ≡ true → is_markup (s ++ t) ≡ true
 is_markup-append s t left right =
     let a = and_parts (is_followed 60 tags s) (is_followed 38 entities s) left in
     let b = and_parts (is_followed 60 tags t) (is_followed 38 entities t) right in
@@ -115,7 +115,3 @@ pub still_markup_if : (b : Bool) (old text new : List ℕ) → is_markup old ≡
     → new ≡ (if b then old ++ text else old) → is_markup new ≡ true
 still_markup_if true old text new before added is = rw is (is_markup-append old text before added)
 still_markup_if false old text new before added is = rw is before
-
--- a text begins with what it was before more was added
-pub extends_added : (old new more : List ℕ) → new ≡ old ++ more → starts_with nat_eq new old ≡ true
-extends_added old new more is = (starts_is Decides-eqb new old _ refl).1 more is

@@ -4,10 +4,11 @@ use Rattle.farm_page.specs.Escaping.{is_followed}
 use Rattle.farm_page.specs.declared.page.Refresh.{Refresh}
 use Rattle.farm_page.specs.declared.page.Refresh.TheVariants.{Never, Soon}
 
--- what follows a `<`: none of them begins a script, a frame, an image, a form or a `meta` that loads another page
+-- what follows a `<`: none of them begins a script, a frame, an image, a form or a `meta`
 abbrev pub tags : List (List ℕ)
 tags =
-    codes "/html>" ∷ codes "/head>" ∷ codes "title>" ∷ codes "/title>" ∷ codes "link " ∷ codes "style>" ∷ codes "/style>" ∷ codes "body " ∷ codes "/body>" ∷ codes "header>"
+    codes "/html>" ∷ codes "/head>" ∷ codes "title>" ∷ codes "/title>"
+    ∷ codes "link " ∷ codes "style>" ∷ codes "/style>" ∷ codes "body " ∷ codes "/body>" ∷ codes "header>"
     ∷ codes "/header>" ∷ codes "main>" ∷ codes "/main>" ∷ codes "footer>" ∷ codes "/footer>" ∷ codes "nav>" ∷ codes "/nav>"
     ∷ codes "section>" ∷ codes "section " ∷ codes "/section>" ∷ codes "h1>" ∷ codes "/h1>" ∷ codes "h2>" ∷ codes "/h2>"
     ∷ codes "p>" ∷ codes "/p>" ∷ codes "a " ∷ codes "/a>" ∷ codes "b>" ∷ codes "/b>" ∷ codes "span>" ∷ codes "span "

@@ -77,7 +77,8 @@ abbrev pub health_answer : Seen → Told
 health_answer seen =
     text_of (if is_healthy seen.farm.now seen.moment then status.Ok else status.Unavailable) (health_text seen.farm.now seen.moment)
 
--- a page without a tag that is not its own, which asks for itself again or does not, with the sentence of the farm and a row for each function, host and cause
+-- a page without a tag that is not its own, which asks for itself again or does not, with the sentence of the farm and a row for each
+-- function, host and cause
 pub record IsPage (farm : FarmView) (refresh : Refresh) (answer : Told) : Type 0 where
   pub found : answer.status ≡ status.Ok
   pub shown : answer.content ≡ content.Page
