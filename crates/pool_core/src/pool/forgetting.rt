@@ -1,6 +1,5 @@
 //! Jobs that are kept no longer.
-ghost use Rattle.std.specs.Prelude.{◌≡◌, not};
-ghost use Rattle.worker_state.specs.Slots.{is_open};
+ghost use Rattle.std.specs.Prelude.{◌≡◌};
 ghost use Rattle.pool_core.specs.Book.{has_closed_front};
 ghost use Rattle.pool_core.specs.Calls.{Forgets};
 
