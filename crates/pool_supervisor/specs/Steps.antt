@@ -1,5 +1,5 @@
 -- What the steps of an attempt look at in the pool.
-use Rattle.std.specs.Prelude.{◌≡◌, ℕ, ◌*◌, ◌<◌, List, length, Option, None, Result, IfSome}
+use Rattle.std.specs.Prelude.{◌≡◌, ℕ, ◌*◌, ◌<◌, Bool, List, length, Option, None, Result, IfSome}
 use Rattle.byte_io.specs.Sides.{Input, Met, Meets}
 use Rattle.gear_status.specs.Status.{Line}
 use Rattle.gear_status.specs.Stream.{AnswersStatus}
@@ -9,6 +9,8 @@ use Rattle.plan_model.specs.Planning.{Instance}
 use Rattle.level_search.specs.Steady.{IsSteady}
 use Rattle.worker_state.specs.Slots.{last_generation}
 use Rattle.worker_state.specs.declared.slot.WorkerName.{WorkerName}
+use Rattle.pool_settings.specs.Planning.{instance_of}
+use Rattle.pool_settings.specs.Settings.{Settings}
 use Rattle.pool_core.specs.Machine.{State, slot_in}
 use Rattle.pool_core.specs.Book.{Book, expire_refusal}
 
@@ -27,6 +29,10 @@ IsLate book now slot = expire_refusal book (worker_of book.state slot) now ≡ N
 -- how many jobs are forgotten in one hold of the lock, at the most
 abbrev pub most_forgotten : ℕ
 most_forgotten = 1024
+
+-- The input is one of these settings.
+abbrev pub IsMadeOf : Settings → Instance → Type 0
+IsMadeOf settings input = (live : List Bool) × (waiting : List ℕ) × (input ≡ instance_of settings live waiting)
 
 -- An answer for the input that was viewed, which keeps the plan before it if that is best and full.
 abbrev pub AnswersView : Instance × Option (List (ℕ × Option ℕ)) → Certificate → Type 0

@@ -11,7 +11,7 @@ use crate::attempt::Attempt;
 use crate::crew::Crew;
 use crate::dial::Dial;
 use crate::jobs::JobSource;
-use crate::news::{Attempted, Progress};
+use crate::news::{Attempted, JoinedWorker, Progress};
 use crate::place::{Place, RunId};
 use crate::planner::Planner;
 use crate::port::Watch;
@@ -178,8 +178,14 @@ impl<
             seat: site.run.board.seat_reader(&mut self.seats.source, slot),
             of: PhantomData,
         };
+        let name = pass.name();
         let worker = Enrolled { pass, place };
-        site.start(scope, &mut self.crew, berth, link, worker)
+        site.start(scope, &mut self.crew, berth, link, worker)?;
+        site.lent.watch.joined(&JoinedWorker {
+            settings: site.run.settings,
+            worker: name,
+        });
+        Ok(())
     }
 
     /// Dials for the slot if it is empty and may have a worker, and starts a session if there is a link, room and a worker. The error is

@@ -27,14 +27,14 @@ mod session;
 mod shared;
 mod steps;
 
-pub use attempt::{Attempt, PoolRefusal, attempt_line};
+pub use attempt::{Attempt, PoolRefusal, attempt_line, attempt_words};
 pub use booked::Booked;
 pub use calls::{Call, Calls};
 pub use dial::Dial;
 pub use ends::EndCounts;
 pub use job_counts::JobCounts;
 pub use jobs::JobSource;
-pub use news::{Attempted, EndedWorker, Progress};
+pub use news::{Attempted, EndedWorker, JoinedWorker, Progress};
 pub use place::{Grabs, Place, Reports, RunBoard, RunId, RunLedger};
 pub use planner::{ArenaPlanner, Planner};
 pub use port::{SharedPort, Watch};

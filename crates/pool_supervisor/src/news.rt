@@ -1,12 +1,13 @@
 //! What is reported of a run while it goes on.
 ghost use Rattle.std.specs.Prelude.{◌<◌};
 ghost use Rattle.pool_settings.specs.Slots.{slots};
+ghost use Rattle.pool_supervisor.specs.Steps.{IsMadeOf};
 
 use crate::attempt::Attempt;
 use crate::queue::Queue;
 use crate::run::RunEnd;
 use job_runner::EndCause;
-use plan_model::FuncId;
+use plan_model::{Certified, FuncId};
 use pool_settings::Settings;
 use worker_state::WorkerName;
 
@@ -23,6 +24,17 @@ pub struct Attempted<'a> {
     pub alive: u32,
     /// The longest queue per worker under the attempt's plan. None if it led to no plan, or if no job waits.
     pub longest: Option<Queue>,
+}
+
+/// A worker that joined, and whose session was started.
+#[derive(Clone, Copy)]
+pub struct JoinedWorker<'a> {
+    /// The settings of the run.
+    pub settings: &'a Settings,
+    /// The worker.
+    pub worker: WorkerName,
+    /// The worker is one of the settings.
+    pub ghost known: { worker.slot < slots settings.now },
 }
 
 /// A worker whose session has ended.
@@ -43,8 +55,17 @@ pub trait Progress {
     /// A run by these settings begins, and has no job for the function. Jobs of it are answered as failed.
     fn lacks_job(&self, _settings: &Settings, _function: FuncId) {}
 
+    /// An answer was found for what was viewed of the pool, and the pool is asked to take it next. If an attempt comes to a round, it is
+    /// the round of the last answer that was found.
+    fn planned(&self, _settings: &Settings, _certified: &Certified)
+        requires of_these { IsMadeOf _settings.now _certified.now.input }
+    {}
+
     /// An attempt was made.
     fn attempted(&self, made: &Attempted<'_>);
+
+    /// A worker joined, and its session was started.
+    fn joined(&self, _joined: &JoinedWorker<'_>) {}
 
     /// A worker's session has ended, and its thread was joined.
     fn ended(&self, _ended: &EndedWorker<'_>) {}

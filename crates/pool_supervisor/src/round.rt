@@ -1,14 +1,15 @@
 //! One round of planning: what the server says, the plan, and its orders.
-ghost use Rattle.std.specs.Prelude.{◌≡◌, Ok, true, false, IfSome, IfNone, IfErr, OnOk};
+ghost use Rattle.std.specs.Prelude.{◌≡◌, Ok, true, false, IfSome, IfNone, IfOk, IfErr, OnOk};
 ghost use Rattle.pool_supervisor.specs.Asking.{Given, IsNotTaken, Takes, Tells, is_planned};
 ghost use Rattle.pool_supervisor.specs.Rounds.{Posts, is_round};
-ghost use Rattle.pool_supervisor.specs.Steps.{AnswersView};
+ghost use Rattle.pool_supervisor.specs.Steps.{AnswersView, IsMadeOf};
 
 use crate::asking::ask_for_load;
 use crate::attempt::{Attempt, PoolRefusal};
 use crate::attempts::Supervisor;
 use crate::dial::Dial;
 use crate::jobs::JobSource;
+use crate::news::Progress;
 use crate::place::RunId;
 use crate::planner::Planner;
 use crate::queue::longest_queue;
@@ -16,11 +17,22 @@ use crate::session::Site;
 use byte_io::{Sink, Source};
 use gear_status::Load;
 use plan_model::{Certified, Input, Plan};
-use pool_core::AdoptError;
+use pool_core::{AdoptError, ViewError};
 use std::sync::Wait;
 
 /// How often a round is planned if the pool changes while the planner is at work.
 const TRIES: u32 = 3;
+
+/// What a round would plan for, and the plan before it.
+fn view_pool<N: RunId, J, C, R: Wait>(
+    site: &Site<'_, N, J, C, R>,
+) -> Result<(Input, Option<Plan>), ViewError>
+    ensures { IfOk result (λ viewed. IsMadeOf N.settings viewed.0) }
+{
+    let held = site.shared.hold(site.lent.rt);
+    held.facts();
+    held.view()
+}
 
 /// The answer of the planner to what was viewed, as one that is shown. The lock is free meanwhile. None if memory was refused.
 fn planned_for<P: Planner>(planner: &P, viewed: (Input, Option<Plan>)) -> Option<Certified>
@@ -56,7 +68,7 @@ impl<
     Y: Dial<L>,
     P: Planner,
     J: JobSource,
-    C,
+    C: Progress,
     R: Wait,
 > Supervisor<'e, N, L, Y, P, J, C, R> {
     /// Asks the server for its load, and gives it to the pool. The error is the line of an attempt that has no load to plan for.
@@ -79,14 +91,14 @@ impl<
         ensures dial { self.new.dial ≡ self.old.dial }
     {
         let site = self.site;
-        let viewed = site.shared.hold(site.lent.rt).view();
-        let viewed = match viewed {
+        let viewed = match view_pool(&site) {
             Ok(viewed) => viewed,
             Err(error) => return Some(Attempt::Refused(PoolRefusal::View(error))),
         };
         let Some(certified) = planned_for(self.planner, viewed) else {
             return Some(Attempt::Memory);
         };
+        site.lent.watch.planned(site.run.settings, &certified);
         let longest = longest_queue(&certified);
         let mut held = site.shared.hold(site.lent.rt);
         let publisher = &mut self.seats.publisher;

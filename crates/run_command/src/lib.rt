@@ -8,7 +8,7 @@ mod text;
 mod watching;
 
 pub use host::{Host, Route};
-pub use pool_supervisor::{Attempt, Attempted, EndedWorker, Progress, RunEnd, Watch};
+pub use pool_supervisor::{Attempt, Attempted, EndedWorker, JoinedWorker, Progress, RunEnd, Watch};
 pub use running::{run_jobs, run_rounds, run_source};
 pub use stock_jobs::{StockJob, stock_jobs};
 pub use system::{System, time_in_seconds};
