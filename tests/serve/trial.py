@@ -21,6 +21,7 @@ from farm import FAILED, HOST, TOTALS, at_once, held, wait_until
 
 import hosts
 from asking import ask_rightly, mixed_jobs, wanted
+from page import Page
 
 # After so many seconds a wait is given up.
 PATIENCE = 60
@@ -60,9 +61,9 @@ def settings(server):
     return "\n".join([*lines, ""])
 
 
-def services(places):
-    """The services of the farm, by the ports of its machines. Jobs that a bad host may get have little time."""
-    lines = ["version = 1", *[f'[machines.{name}]\nurl = "http://{HOST}:{port}/jobs"' for name, port in places.items()]]
+def services(places, page):
+    """The services of the farm, by the ports of its machines, and its page. Jobs that a bad host may get have little time."""
+    lines = ["version = 1", f'[page]\nlisten = "{HOST}:{page}"', *[f'[machines.{name}]\nurl = "http://{HOST}:{port}/jobs"' for name, port in places.items()]]
     lines += [f"[functions.{name}]\ntimeout_ms = 1000" for _, name in BAD.values()]
     return "\n".join([*lines, ""])
 
@@ -107,7 +108,8 @@ class Farm:
     def __init__(self, program, processes):
         self.program, self.processes = program, processes
         self.marker = f"{processes.folder}/held"
-        self.server, *places = ports(1 + len(HEALTHY) + len(BAD))
+        self.server, page, *places = ports(2 + len(HEALTHY) + len(BAD))
+        self.page = Page(page, PATIENCE)
         self.places = dict(zip([*HEALTHY, *BAD], places))
         self.answered, self.lock = [], threading.Lock()
 
@@ -117,7 +119,7 @@ class Farm:
         wait_until(lambda: listens(self.server, gearmand), PATIENCE, "gearmand listens")
         self.services = {name: self.start_service(name) for name in HEALTHY}
         self.bad = {name: hosts.Host(self.places[name], misbehave) for name, (misbehave, _) in BAD.items()}
-        self.poolman = self.start_poolman(services(self.places), stdin=subprocess.PIPE)
+        self.poolman = self.start_poolman(services(self.places, self.page.port), stdin=subprocess.PIPE)
         workers = sum(HEALTHY.values()) + BAD_WORKERS * len(BAD)
         wait_until(lambda: self.workers() == workers, PATIENCE, "each worker has a function at the server")
 
@@ -194,9 +196,16 @@ class Farm:
         self.services[name] = self.start_service(name)
         self.ask_until(lambda: not self.is_away(name) and len(self.done(name)) > before, f"{name} does jobs again")
 
+    def look_at_its_page(self):
+        """A peer sees that it is well, and can check its plan."""
+        self.page.wait_until_well()
+        self.page.look(LEAST)
+        self.page.refuse()
+        self.page.check(self.program, f"{self.processes.folder}/settings.toml", self.processes.folder)
+
     def end(self):
-        """Ends poolman by the end of its input, and holds its totals to what was answered."""
-        self.poolman.stdin.close()
+        """Ends poolman by a drain, and holds its totals to what was answered."""
+        self.page.drain()
         status = self.poolman.wait(PATIENCE)
         held(status in (0, 1), f"poolman ended with status {status}")
         lines = self.lines()
@@ -225,6 +234,7 @@ def a_farm(program, processes):
     clients = [lambda n=n: farm.ask(mixed_jobs(f"job-{n}", JOBS)) for n in range(CLIENTS)]
     at_once([*clients, farm.kill_in_mid_job])
     farm.ask_until(lambda: all(host.asked for host in farm.bad.values()), "each bad host was asked")
+    farm.look_at_its_page()
     farm.end()
     farm.account()
 
@@ -243,10 +253,10 @@ def a_refused_file(program, processes):
 
 
 def a_service_of_systemd(program, processes):
-    """SIGTERM ends it as the end of its input does: with the totals, and the status of a farm that never had a plan."""
+    """SIGTERM ends it as the end of its input does: with the totals, and the status of a farm that never had a plan, as its page says."""
     farm = Farm(program, processes)
-    script = farm.start_as_service(services(farm.places))
-    wait_until(lambda: farm.lines(), PATIENCE, "an attempt is made")
+    script = farm.start_as_service(services(farm.places, farm.page.port))
+    wait_until(farm.page.is_unwell, PATIENCE, "the page says that the farm is not well")
     script.terminate()
     status = script.wait(PATIENCE)
     held(status == 5 and TOTALS.fullmatch(farm.lines()[-1]), f"the script ended with status {status}, and {farm.lines()[-1]}")

@@ -44,6 +44,11 @@ abbrev pub IsNew : Link → Type 0
 IsNew link =
     (link.input.failures ≡ 0) × (link.output.failures ≡ 0) × IsNothing link.input.given × IsNothing link.output.got
 
+-- a connection is kept, and is new
+abbrev pub HasNew : Option Link → Type 0
+HasNew None = ⊥
+HasNew (Some link) = IsNew link
+
 -- how often the kept connection has failed
 abbrev pub kept_failures : {L : Type 0} → (L → Input) → (L → Output) → Option L → ℕ
 kept_failures input output None = 0

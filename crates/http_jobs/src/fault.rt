@@ -55,6 +55,21 @@ impl From<AllocError> for NotDone {
     }
 }
 
+/// A session hears that a job was not served, and not why.
+impl From<NotDone> for job_runner::NotDone {
+    ghost use Rattle.std.specs.Prelude.{◌≡◌};
+    ghost use Rattle.http_jobs.specs.Serving.{as_of_session};
+
+    ghost from_gives = { λ why heard. heard ≡ as_of_session why };
+
+    fn from(why: NotDone) -> job_runner::NotDone {
+        match why {
+            NotDone::Unserved(_) => job_runner::NotDone::Unserved,
+            NotDone::Memory => job_runner::NotDone::Memory,
+        }
+    }
+}
+
 impl From<Unserved> for NotDone {
     ghost use Rattle.std.specs.Prelude.{◌≡◌};
     ghost use Rattle.http_jobs.specs.declared.fault.NotDone.TheVariants.{Unserved};

@@ -255,10 +255,6 @@ impl<L: Source + Sink + Look + Drop, D: Dial<L>, C: Clock> Jobs for ServiceJobs<
         alloc: Global,
         job: Assignment,
     ) -> Result<Option<Outcome>, job_runner::NotDone> {
-        match self.serve(alloc, &job) {
-            Ok(outcome) => Ok(outcome),
-            Err(NotDone::Unserved(_)) => Err(job_runner::NotDone::Unserved),
-            Err(NotDone::Memory) => Err(job_runner::NotDone::Memory),
-        }
+        Ok(self.serve(alloc, &job)?)
     }
 }

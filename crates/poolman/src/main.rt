@@ -11,15 +11,19 @@ use fault_detail::{Reader, complain};
 use lent::Lent;
 use plan_commands::Fault;
 use program::program;
-use serve_command::{Edges, FarmSystem, end_with_input, write_lines};
+use serve_command::{Edges, FarmSystem, SharedPage, end_with_input, serve_page, write_lines};
 use std::alloc::{AllocError, Global};
 use std::fs::{File, OpenOptions};
+use std::hash::RandomState;
 use std::process::ExitCode;
 use std::sync::Arc;
 use std::{env, fs, io, thread};
 
 /// For how many milliseconds at most the end of a farm waits for whoever reads its lines.
 const LAST_LINES_MS: u32 = 5_000;
+
+/// For how many milliseconds at most it waits for whoever reads its page.
+const LAST_PEERS_MS: u32 = 1_000;
 
 /// The words of the command line, the program's name first.
 fn words(rt: &HostRuntime) -> io::Result<Vec<String>> {
@@ -52,14 +56,27 @@ fn hold_if_closed(rt: &HostRuntime, stream: &str, options: &OpenOptions) -> Opti
     }
 }
 
+/// Takes the numbers of those standard streams that are closed.
+fn hold_streams(rt: &HostRuntime) -> [Option<File>; 3] {
+    let mut for_writing = OpenOptions::new();
+    for_writing.write(true);
+    let mut for_reading = OpenOptions::new();
+    for_reading.read(true);
+    [
+        hold_if_closed(rt, "/proc/self/fd/0", &for_writing),
+        hold_if_closed(rt, "/proc/self/fd/1", &for_reading),
+        hold_if_closed(rt, "/proc/self/fd/2", &for_reading),
+    ]
+}
+
 /// Which threads a farm has at its edges.
 #[derive(Clone, Copy, Debug, PartialEq, Eq)]
 enum EdgeThreads {
     /// None: the words ask for no farm.
     None,
-    /// One that writes its lines.
+    /// One that writes its lines, and those of its page.
     Lines,
-    /// That, and one that reads standard input for its end.
+    /// Those, and one that reads standard input for its end.
     LinesAndInput,
 }
 
@@ -76,11 +93,27 @@ fn edge_threads(alloc: Global, words: &io::Result<Vec<String>>) -> EdgeThreads {
 }
 
 /// What a farm shares with the threads at its edges, once for itself and once for each of them.
-fn edges_of(alloc: Global) -> Result<(Arc<Edges>, Arc<Edges>, Arc<Edges>), AllocError> {
-    let edges = Arc::new(alloc, Edges::new(alloc))?;
-    let of_lines = Arc::try_clone(&edges)?;
-    let of_input = Arc::try_clone(&edges)?;
-    Ok((edges, of_lines, of_input))
+#[derive(Drop)]
+struct Handles {
+    own: Arc<Edges>,
+    of_lines: Arc<Edges>,
+    of_input: Arc<Edges>,
+    of_page: Arc<SharedPage>,
+}
+
+impl Handles {
+    /// Those of a farm that goes on. The only error is out of memory.
+    fn new(alloc: Global) -> Result<Handles, AllocError> {
+        let edges = Edges::new(alloc)?;
+        let of_page = Arc::try_clone(&edges.page)?;
+        let own = Arc::new(alloc, edges)?;
+        Ok(Handles {
+            of_lines: Arc::try_clone(&own)?,
+            of_input: Arc::try_clone(&own)?,
+            of_page,
+            own,
+        })
+    }
 }
 
 /// Prints that memory, or a thread, was refused.
@@ -94,19 +127,20 @@ fn end_lacking(rt: &HostRuntime) -> ExitCode {
 }
 
 fn main(rt: HostRuntime) -> ExitCode {
-    let mut for_writing = OpenOptions::new();
-    for_writing.write(true);
-    let mut for_reading = OpenOptions::new();
-    for_reading.read(true);
-    let _input = hold_if_closed(&rt, "/proc/self/fd/0", &for_writing);
-    let _output = hold_if_closed(&rt, "/proc/self/fd/1", &for_reading);
-    let _errors = hold_if_closed(&rt, "/proc/self/fd/2", &for_reading);
+    let _streams = hold_streams(&rt);
+    let alloc = rt.alloc();
     let words = words(&rt);
-    let threads = edge_threads(rt.alloc(), &words);
-    let Ok((edges, of_lines, of_input)) = edges_of(rt.alloc()) else {
+    let threads = edge_threads(alloc, &words);
+    let Ok(handles) = Handles::new(alloc) else {
         return end_lacking(&rt);
     };
-    // Nobody joins these two: a read of standard input may never return, and neither may a write.
+    let Handles {
+        own: edges,
+        of_lines,
+        of_input,
+        of_page,
+    } = handles;
+    // Nobody joins these: a read of standard input may never return, and neither may a write.
     if threads != EdgeThreads::None
         && thread::spawn(
             &rt,
@@ -125,10 +159,18 @@ fn main(rt: HostRuntime) -> ExitCode {
     {
         return end_lacking(&rt);
     }
+    if threads != EdgeThreads::None {
+        let Ok(keys) = RandomState::new(&rt) else {
+            return end_lacking(&rt);
+        };
+        if thread::spawn(&rt, move || serve_page(rt, alloc, keys, &of_page)).is_err() {
+            return end_lacking(&rt);
+        }
+    }
     let lent = Lent {
         files: &rt,
         host: &FarmSystem::new(&rt, &edges),
-        alloc: rt.alloc(),
+        alloc,
         reader: reader_of(&rt),
     };
     let status = program(
@@ -139,6 +181,7 @@ fn main(rt: HostRuntime) -> ExitCode {
         &mut OutputSink::new(rt.stderr()),
     );
     if threads != EdgeThreads::None {
+        edges.page.close(&rt, LAST_PEERS_MS);
         edges.lines.close(&rt, LAST_LINES_MS);
     }
     ExitCode::from(status)

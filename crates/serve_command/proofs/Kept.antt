@@ -1,10 +1,17 @@
--- What holds besides, whatever comes of a call.
-use Rattle.std.specs.Prelude.{Result, Ok, Err, IfOk, IfErr}
+-- What holds of a job once it is known whether it was done.
+use Rattle.std.proofs.Common.{subst}
+use Rattle.std.specs.Prelude.{◌≡◌, Result, Ok, Err, IfErr, IfOk}
+use Rattle.std.specs.Result.{IsErrAnd}
+use Rattle.http_jobs.specs.Serving.{as_of_session}
+use Rattle.http_jobs.specs.declared.fault.NotDone.{NotDone}
+use Rattle.job_runner.specs.declared.jobs.NotDone as session
 
-pub also_ok : {A E : Type 0} (F : Type 0) (P : A → Type 0) (r : Result A E) → F → IfOk r P → IfOk r (λ a. F × P a)
-also_ok F P (Ok a) f p = (f, p)
-also_ok F P (Err e) f p = tt
+pub of_ok : {A E : Type 0} (P : A → Type 0) (r : Result A E) (x : A) → r ≡ Ok x → IfOk r P → P x
+of_ok P r x e p = subst (λ r. IfOk r P) e p
 
-pub also_err : {A E : Type 0} (F : Type 0) (P : E → Type 0) (r : Result A E) → F → IfErr r P → IfErr r (λ e. F × P e)
-also_err F P (Ok a) f p = tt
-also_err F P (Err e) f p = (f, p)
+-- A job was not done, a session hears so, and three facts hold besides.
+pub heard : {A B : Type 0} (F G H : Type 0) (P : NotDone → Type 0) (r : Result A NotDone) (why : NotDone) (s : Result B session.NotDone)
+    → F → G → H → r ≡ Err why → IsErrAnd s (λ error. error ≡ as_of_session why) → IfErr r P
+    → IfErr s (λ error. F × ((e : NotDone) × P e × (error ≡ as_of_session e) × G × H))
+heard F G H P r why (Ok x) f g h failed told p = tt
+heard F G H P r why (Err error) f g h failed told p = (f, (why, subst (λ x. IfErr x P) failed p, told, g, h))

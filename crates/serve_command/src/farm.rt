@@ -9,7 +9,7 @@ use plan_commands::{Fault, read_services, read_settings};
 use plan_model::SlotId;
 use pool_settings::Settings;
 use service_settings::{ServiceUrl, Services};
-use std::alloc::Global;
+use std::alloc::{AllocError, Global};
 use std::marker::Model;
 use worker_state::WorkerName;
 
@@ -80,6 +80,16 @@ impl Farm {
     {
         let url = self.url_of(slot);
         String::from_str(alloc, url.host()).ok()
+    }
+
+    /// The worker's name with its generation, as `north/0#3`, and nothing if its slot is none of the farm. The only error is out of
+    /// memory.
+    pub fn name_of(&self, alloc: Global, worker: WorkerName) -> Result<String, AllocError> {
+        if worker.slot.number() >= self.settings.slots() {
+            return Ok(String::new(alloc));
+        }
+        self.settings
+            .worker_text(alloc, worker.slot, worker.generation)
     }
 
     /// How long calls of a connection to a service may take.

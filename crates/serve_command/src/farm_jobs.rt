@@ -3,6 +3,8 @@
 use crate::farm::Farm;
 use crate::host::FarmHost;
 use crate::hosts::{HostNews, Hosts};
+use crate::job_lines::{Failure, job_line};
+use farm_notes::{JobEnd, Tally};
 use gear_packets::Assignment;
 use http_jobs::ServiceJobs;
 use job_runner::{Jobs, NotDone, Outcome};
@@ -22,12 +24,15 @@ pub struct FarmSource<'e, H> {
     pub farm: &'e Farm,
     /// Which hosts are reached.
     pub hosts: &'e Hosts,
+    /// What became of the jobs.
+    pub tally: &'e Tally,
 }
 
 impl<'e, H: FarmHost> JobSource for FarmSource<'e, H> {
-    ghost use Rattle.std.specs.Prelude.{◌≡◌, true, IfSome, ⊤};
+    ghost use Rattle.std.specs.Prelude.{◌≡◌, true, ⊤};
+    ghost use Rattle.std.specs.Option.{option_map};
     ghost use Rattle.job_runner.specs.Run.{seen_link};
-    ghost use Rattle.http_jobs.specs.Serving.{IsNew};
+    ghost use Rattle.http_jobs.specs.Serving.{HasNew};
     ghost use Rattle.serve_command.specs.Farm.{IsServiceOf};
 
     type Jobs = FarmJobs<'e, H>;
@@ -35,7 +40,7 @@ impl<'e, H: FarmHost> JobSource for FarmSource<'e, H> {
     ghost allows = { λ _ _ _. true };
 
     ghost gives = { λ source worker given. (given.farm ≡ source.farm) × IsServiceOf source.farm.now worker given.jobs.service
-        × IfSome given.jobs.kept (λ link. IsNew (seen_link H.Call.input H.Call.output link)) };
+        × HasNew (option_map (seen_link H.Call.input H.Call.output) given.jobs.kept) };
 
     ghost denies = { λ _ _. ⊤ };
 
@@ -51,13 +56,14 @@ impl<'e, H: FarmHost> JobSource for FarmSource<'e, H> {
     fn jobs_of(&self, worker: WorkerName) -> Option<FarmJobs<'e, H>> {
         let farm = self.farm;
         let slot = worker.slot;
+        let generation = worker.generation;
         if slot.number() >= farm.settings.slots() {
             return None;
         }
         let machine = farm.settings.machine_of(slot);
-        let name = farm.host_of(self.alloc, slot)?;
+        let host = farm.host_of(self.alloc, slot)?;
         let service = farm.service_of(self.alloc, worker)?;
-        let dials = self.host.dials(name, farm.call_times());
+        let dials = self.host.dials(host, farm.call_times());
         let mut jobs = ServiceJobs::new(service, dials, self.host.times(), 0);
         let is_open = jobs.open();
         if let Some(news) = self.hosts.was_dialled(self.host, machine, is_open) {
@@ -70,7 +76,10 @@ impl<'e, H: FarmHost> JobSource for FarmSource<'e, H> {
             host: self.host,
             farm,
             hosts: self.hosts,
+            tally: self.tally,
             machine,
+            slot,
+            generation,
             jobs,
         })
     }
@@ -87,16 +96,28 @@ pub struct FarmJobs<'e, H: FarmHost> {
     host: &'e H,
     farm: &'e Farm,
     hosts: &'e Hosts,
+    tally: &'e Tally,
     machine: MachineId,
+    slot: SlotId,
+    generation: u32,
     jobs: ServiceJobs<H::Call, H::Dials, H::Times>,
 }
 
 /// Whether a job was served. None if that is not known, for want of memory.
-fn is_served(done: &Result<Option<Outcome>, NotDone>) -> Option<bool> {
+fn is_served(done: &Result<Option<Outcome>, http_jobs::NotDone>) -> Option<bool> {
     match done {
         Ok(_) => Some(true),
-        Err(NotDone::Unserved) => Some(false),
-        Err(NotDone::Memory) => None,
+        Err(http_jobs::NotDone::Unserved(_)) => Some(false),
+        Err(http_jobs::NotDone::Memory) => None,
+    }
+}
+
+/// How a job ended, by what became of it if it was not completed.
+fn end_of(failure: Option<Failure>) -> JobEnd {
+    match failure {
+        None => JobEnd::Completed,
+        Some(Failure::Failed) => JobEnd::Failed,
+        Some(Failure::Lost(_)) => JobEnd::Lost,
     }
 }
 
@@ -117,6 +138,17 @@ fn news_line(
     }
 }
 
+/// The line of what is new of a machine's host, if anything is.
+fn host_line(
+    alloc: Global,
+    farm: &Farm,
+    machine: MachineId,
+    news: Option<HostNews>,
+) -> Option<Result<String, AllocError>> {
+    let news = news?;
+    Some(news_line(alloc, farm, machine, news))
+}
+
 impl<'e, H: FarmHost> Jobs for FarmJobs<'e, H> {
     ghost use Rattle.std.specs.Prelude.{◌≡◌};
     ghost use Rattle.http_jobs.specs.Serving.{IsDoneBy, IsNotDoneBy, stands};
@@ -135,16 +167,25 @@ impl<'e, H: FarmHost> Jobs for FarmJobs<'e, H> {
         after.jobs.service after.jobs.timeout_ms job error };
 
     fn run(&mut self, alloc: Global, job: Assignment) -> Result<Option<Outcome>, NotDone> {
+        let farm = self.farm;
+        let function = farm.settings.function_named(&job.function);
+        self.tally.begin(self.host, function);
         let timeout_ms = self.farm.timeout_ms(&job.function);
         self.jobs.set_timeout(timeout_ms as u64);
-        let done = self.jobs.run(alloc, job);
+        let done = self.jobs.serve(alloc, &job);
         let news = is_served(&done).and_then(|is_served| self
             .hosts
             .was_asked(self.host, self.machine, is_served));
-        if let Some(news) = news {
-            self.host
-                .tell(news_line(alloc, self.farm, self.machine, news));
-        }
-        done
+        self.host
+            .tell_if(host_line(alloc, farm, self.machine, news));
+        let failure = Failure::of(&done);
+        self.tally.end(self.host, function, end_of(failure));
+        let worker = WorkerName {
+            slot: self.slot,
+            generation: self.generation,
+        };
+        self.host
+            .tell_if(job_line(alloc, farm, worker, &job, failure));
+        Ok(done?)
     }
 }

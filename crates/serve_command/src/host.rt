@@ -1,8 +1,11 @@
 //! What a farm is lent by the machine that it is run on.
 
 use byte_io::{Sink, Source};
+use farm_page::FarmView;
 use http_jobs::{CallTimes, Clock, Dial, Look};
+use page_server::PageTimes;
 use run_command::Host;
+use service_settings::Page;
 use std::alloc::AllocError;
 
 /// What a farm is lent by the machine that it is run on: what a run is, and connections to services, an end, and somebody who reads its
@@ -31,4 +34,20 @@ pub trait FarmHost: Host {
 
     /// Takes a line of what happens, without a line feed, or that there was no memory for one. It does not wait for whoever reads it.
     fn tell(&self, line: Result<String, AllocError>);
+
+    /// Takes such a line, if there is one.
+    fn tell_if(&self, line: Option<Result<String, AllocError>>) {
+        if let Some(line) = line {
+            self.tell(line);
+        }
+    }
+
+    /// Lets peers ask for the page of the farm at its address. A page that cannot be opened is told of in a line.
+    fn open_page(&self, _page: &Page, _times: PageTimes) {}
+
+    /// Shows this on the page from now on.
+    fn show(&self, _view: FarmView) {}
+
+    /// The farm has ended, and came to this.
+    fn has_come_to(&self, _text: String) {}
 }

@@ -107,6 +107,14 @@ impl HostState {
         }
     }
 
+    /// Why it is left alone, if it is.
+    fn reason(self) -> Option<Reason> {
+        match self {
+            HostState::Present(_) => None,
+            HostState::Away { why, .. } => Some(why),
+        }
+    }
+
     /// What is new, if this was the state before.
     fn news_since(self, before: HostState) -> Option<HostNews> {
         match (before, self) {
@@ -141,6 +149,20 @@ impl Hosts {
         Ok(Hosts {
             table: Mutex::new(Table { attempt: 1, states }),
         })
+    }
+
+    /// By machine, why its host is left alone, if it is. The only error is out of memory.
+    pub fn unreached<R: Wait>(
+        &self,
+        rt: &R,
+        alloc: Global,
+    ) -> Result<Vec<Option<&'static str>>, AllocError> {
+        let held = self.table.lock(rt);
+        let mut unreached = Vec::new(alloc);
+        for state in &held.states {
+            unreached.push(state.reason().map(Reason::name))?;
+        }
+        Ok(unreached)
     }
 
     /// The next attempt begins.

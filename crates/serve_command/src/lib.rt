@@ -1,21 +1,23 @@
 //! The command `serve` as a call over the texts of settings and services and a host: a farm, whose hosts do its jobs.
 #![tactic(auto)]
 
-mod end_flag;
 mod farm;
 mod farm_jobs;
 mod host;
 mod hosts;
+mod job_lines;
 mod line_queue;
 mod reporting;
 mod serving;
 mod system;
 
-pub use end_flag::{EndFlag, end_with_input};
 pub use farm::{Farm, FarmTexts};
 pub use farm_jobs::{FarmJobs, FarmSource};
 pub use host::FarmHost;
 pub use hosts::{HostNews, Hosts, Reason};
+pub use job_lines::{Failure, failure_line, job_line};
 pub use line_queue::{LineQueue, Taken, write_lines};
-pub use serving::{run_farm, serve_farm};
+pub use page_server::{EndFlag, SharedPage, end_with_input, serve_page};
+pub use reporting::Outlook;
+pub use serving::{FarmEnd, run_farm, serve_farm};
 pub use system::{Edges, FarmSystem};

@@ -5,8 +5,14 @@ ghost use Rattle.serve_command.specs.Serving.{status_of};
 
 use crate::host::FarmHost;
 use crate::hosts::Hosts;
+use farm_notes::{Known, PageNotes, Tally};
+use farm_page::FarmView;
+use plan_model::Certified;
 use pool_core::totals_line;
-use pool_supervisor::{Attempt, Attempted, EndedWorker, Progress, RunEnd, Watch, attempt_line};
+use pool_settings::Settings;
+use pool_supervisor::{
+    Attempt, Attempted, EndedWorker, JoinedWorker, Progress, RunEnd, Watch, attempt_line,
+};
 use refusal::Labelled;
 use run_command::end_notes;
 use std::alloc::{AllocError, Global};
@@ -46,22 +52,42 @@ impl Outlook {
     }
 }
 
-/// The host of a farm's run: it rests until the farm has to end, and what happens is told in lines.
+/// What is kept of a farm while it runs.
+#[derive(Clone, Copy)]
+pub struct Books<'e> {
+    /// Which hosts are reached.
+    pub hosts: &'e Hosts,
+    /// What became of the jobs.
+    pub tally: &'e Tally,
+    /// Whether the farm has a page.
+    pub has_page: bool,
+}
+
+/// The host of a farm's run: it rests until the farm has to end, and what happens is told in lines, and on a page if the farm has one.
 #[derive(Drop)]
 pub struct Reporting<'e, H> {
     host: &'e H,
     alloc: Global,
     hosts: &'e Hosts,
+    tally: &'e Tally,
+    notes: Option<PageNotes>,
     outlook: Mutex<Outlook>,
 }
 
 impl<'e, H: Wait> Reporting<'e, H> {
     /// A run's, before its first attempt.
-    pub fn new(host: &'e H, alloc: Global, hosts: &'e Hosts) -> Reporting<'e, H> {
+    pub fn new(host: &'e H, alloc: Global, books: Books<'e>) -> Reporting<'e, H> {
+        let Books {
+            hosts,
+            tally,
+            has_page,
+        } = books;
         Reporting {
             host,
             alloc,
             hosts,
+            tally,
+            notes: has_page.then(|| PageNotes::new(alloc)),
             outlook: Mutex::new(Outlook::Nothing),
         }
     }
@@ -69,6 +95,18 @@ impl<'e, H: Wait> Reporting<'e, H> {
     /// What the attempts came to so far.
     pub fn outlook(&self) -> Outlook {
         *self.outlook.lock(self)
+    }
+
+    /// What the page shows after an attempt. None if there is no page, or no memory.
+    fn view(&self, made: &Attempted<'_>) -> Option<FarmView> {
+        let notes = self.notes.as_ref()?;
+        let unreached = self.hosts.unreached(self, self.alloc).ok()?;
+        let jobs = self.tally.counts(self).ok()?;
+        let known = Known {
+            unreached: &unreached,
+            jobs: &jobs,
+        };
+        notes.view(self, self.alloc, made, &known).ok()
     }
 
     /// Notes what one more attempt came to.
@@ -102,15 +140,34 @@ impl<'e, H: FarmHost> Progress for Reporting<'e, H> {
         self.hosts.begin_attempt(self);
         self.host
             .tell(attempt_line(self.alloc, made.number, made.attempt));
+        if let Some(view) = self.view(made) {
+            self.host.show(view);
+        }
+    }
+
+    fn planned(&self, settings: &Settings, certified: &Certified) {
+        if let Some(notes) = &self.notes {
+            notes.planned(self, self.alloc, settings, certified);
+        }
+    }
+
+    fn joined(&self, joined: &JoinedWorker<'_>) {
+        self.host.tell(joined_line(self.alloc, joined));
     }
 
     fn ended(&self, ended: &EndedWorker<'_>) {
         self.host.tell(ended_line(self.alloc, ended));
+        if let Some(notes) = &self.notes {
+            notes.ended(self, ended.cause);
+        }
     }
 
     fn finished(&self, ended: &RunEnd) {
         match end_lines(self.alloc, ended) {
             Ok(lines) => {
+                if let Ok(text) = text_of(self.alloc, &lines) {
+                    self.host.has_come_to(text);
+                }
                 for line in lines {
                     self.host.tell(Ok(line));
                 }
@@ -118,6 +175,14 @@ impl<'e, H: FarmHost> Progress for Reporting<'e, H> {
             Err(error) => self.host.tell(Err(error)),
         }
     }
+}
+
+/// Which worker joined, as `joined north/0#3`. The only error is out of memory.
+fn joined_line(alloc: Global, joined: &JoinedWorker<'_>) -> Result<String, AllocError> {
+    let worker = joined
+        .settings
+        .worker_text(alloc, joined.worker.slot, joined.worker.generation)?;
+    format!(in alloc; "joined {worker}")
 }
 
 /// Which worker ended, and why, as `ended north/0#3 Closed`. The only error is out of memory.
@@ -139,4 +204,14 @@ fn end_lines(alloc: Global, ended: &RunEnd) -> Result<Vec<String>, AllocError> {
     }
     lines.push(totals_line(alloc, ended.totals)?)?;
     Ok(lines)
+}
+
+/// These lines as one text.
+fn text_of(alloc: Global, lines: &[String]) -> Result<String, AllocError> {
+    let mut text = String::new(alloc);
+    for line in lines {
+        text.push_str(line.as_str())?;
+        text.push_str("\n")?;
+    }
+    Ok(text)
 }

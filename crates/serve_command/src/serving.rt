@@ -8,11 +8,17 @@ use crate::farm::{Farm, FarmTexts};
 use crate::farm_jobs::FarmSource;
 use crate::host::FarmHost;
 use crate::hosts::Hosts;
-use crate::reporting::{Outlook, Reporting};
+use crate::reporting::{Books, Outlook, Reporting};
+use farm_notes::Tally;
+use page_server::PageTimes;
 use plan_commands::{Exit, Fault};
+use pool_settings::Settings;
 use pool_supervisor::{ArenaPlanner, Lent, RunEnd, run_until_told};
 use run_command::Route;
 use std::alloc::{AllocError, Global};
+
+/// For how many milliseconds more than a job may take a drain waits for the end of the farm.
+const DRAIN_MS: u32 = 60_000;
 
 /// A farm that ended.
 #[derive(Drop)]
@@ -21,6 +27,14 @@ pub struct FarmEnd {
     pub run: RunEnd,
     /// What its attempts came to.
     pub outlook: Outlook,
+}
+
+/// The times that the page of a farm with these settings goes by.
+fn page_times(settings: &Settings) -> PageTimes {
+    PageTimes {
+        round_ms: settings.round_ms(),
+        drain_ms: settings.job_timeout_ms().saturating_add(DRAIN_MS),
+    }
 }
 
 /// Runs a farm until its host says that it has to end.
@@ -39,13 +53,23 @@ fn run_until_end<'x, H: FarmHost>(
     };
     let planner = ArenaPlanner::new(alloc);
     let hosts = Hosts::new(alloc, settings.machines())?;
+    let tally = Tally::new(alloc, settings.functions())?;
     let source = FarmSource {
         host,
         alloc,
         farm,
         hosts: &hosts,
+        tally: &tally,
     };
-    let watch = Reporting::new(host, alloc, &hosts);
+    if let Some(page) = farm.services.page() {
+        host.open_page(page, page_times(&settings));
+    }
+    let books = Books {
+        hosts: &hosts,
+        tally: &tally,
+        has_page: farm.services.page().is_some(),
+    };
+    let watch = Reporting::new(host, alloc, books);
     let lent = Lent {
         rt: &watch,
         alloc,

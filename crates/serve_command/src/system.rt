@@ -1,37 +1,66 @@
 //! The system as the host of a farm.
 
-use crate::end_flag::EndFlag;
 use crate::host::FarmHost;
 use crate::line_queue::LineQueue;
 use devices::TcpLink;
+use farm_page::FarmView;
 use http_jobs::{CallTimes, SystemClock, TcpDial};
+use page_server::{Door, EndFlag, PageTimes, SharedPage};
 use plan_model::FuncId;
 use pool_settings::Settings;
 use run_command::{Attempted, EndedWorker, Host, Progress, RunEnd, System, Watch, time_in_seconds};
+use service_settings::Page;
 use std::alloc::{AllocError, Global};
-use std::net::{Net, TcpStream};
+use std::io;
+use std::net::{Net, TcpListener, TcpStream};
 use std::rt::{Clock, Env};
-use std::sync::Wait;
+use std::sync::{Arc, Wait};
 use std::thread::Threads;
 
-/// What a farm shares with the threads at its edges, which nobody joins: one that raises the flag when it has to end, and one that writes
-/// its lines.
+/// What a farm shares with the threads at its edges, which nobody joins: one that raises the flag when it has to end, one that writes its
+/// lines, and those of its page.
 #[derive(Drop)]
 pub struct Edges {
     /// Whether it has to end.
-    pub end: EndFlag,
+    pub end: Arc<EndFlag>,
     /// Its lines.
     pub lines: LineQueue,
+    /// Its page.
+    pub page: Arc<SharedPage>,
 }
 
 impl Edges {
-    /// Those of a farm that goes on, before its first line.
-    pub fn new(alloc: Global) -> Edges {
-        Edges {
-            end: EndFlag::new(),
+    /// Those of a farm that goes on, before its first line. The only error is out of memory.
+    pub fn new(alloc: Global) -> Result<Edges, AllocError> {
+        let end = Arc::new(alloc, EndFlag::new())?;
+        let page = SharedPage::new(Arc::try_clone(&end)?);
+        Ok(Edges {
+            end,
             lines: LineQueue::new(alloc),
-        }
+            page: Arc::new(alloc, page)?,
+        })
     }
+}
+
+/// The door of a page, if the system opens its address.
+fn door_of<R: Net<Stream = TcpStream, Listener = TcpListener>>(
+    rt: &R,
+    alloc: Global,
+    page: &Page,
+    times: PageTimes,
+) -> io::Result<Door> {
+    let listener = TcpListener::bind(rt, page.listen())?;
+    listener.set_nonblocking(true)?;
+    let mut hosts = Vec::new(alloc);
+    for host in page.hosts() {
+        hosts.push(String::from_str(alloc, host.as_str())?)?;
+    }
+    Ok(Door {
+        listener,
+        listen: String::from_str(alloc, page.listen())?,
+        hosts,
+        times,
+    })
 }
 
 /// The system as the host of a farm, and of a run as [`System`] is. Connections are opened over TCP. Each line of a farm is put behind
@@ -55,6 +84,12 @@ impl<'m, R: Env + Alloc + Copy> FarmSystem<'m, R> {
 }
 
 impl<'m, R: Clock + Alloc<A = Global>> FarmSystem<'m, R> {
+    /// The time, as RFC 3339 writes it. None if the clock cannot be read, or for want of memory.
+    fn time_text(&self) -> Option<String> {
+        let time = time_in_seconds(&self.rt)?;
+        format!(in self.rt.alloc(); "{time}").ok()
+    }
+
     /// A line behind the time, with its line feed. The only error is out of memory.
     fn stamped(&self, line: Result<String, AllocError>) -> Result<String, AllocError> {
         let line = line?;
@@ -63,6 +98,12 @@ impl<'m, R: Clock + Alloc<A = Global>> FarmSystem<'m, R> {
             None => format!(in self.rt.alloc(); "- {line}\n"),
         }
     }
+}
+
+/// The line of a page that cannot be opened. The only error is out of memory.
+fn no_page_line(alloc: Global, page: &Page, error: &io::Error) -> Result<String, AllocError> {
+    let listen = page.listen();
+    format!(in alloc; "nopage {listen} ({error})")
 }
 
 impl<'m, R: Threads> Threads for FarmSystem<'m, R> {}
@@ -116,7 +157,7 @@ impl<
         + Clock
         + Eprint
         + Alloc<A = Global>
-        + Net<Stream = TcpStream>
+        + Net<Stream = TcpStream, Listener = TcpListener>
         + Sync
         + Send
         + Copy,
@@ -145,5 +186,24 @@ impl<
 
     fn tell(&self, line: Result<String, AllocError>) {
         self.edges.lines.put(&self.rt, self.stamped(line));
+    }
+
+    fn open_page(&self, page: &Page, times: PageTimes) {
+        match door_of(&self.rt, self.rt.alloc(), page, times) {
+            Ok(door) => self.edges.page.open(&self.rt, door),
+            Err(error) => self.tell(no_page_line(self.rt.alloc(), page, &error)),
+        }
+    }
+
+    fn show(&self, view: FarmView) {
+        let mut view = view;
+        view.time = self.time_text();
+        if let Ok(view) = Arc::new(self.rt.alloc(), view) {
+            self.edges.page.shown.show(&self.rt, view);
+        }
+    }
+
+    fn has_come_to(&self, text: String) {
+        self.edges.page.end_text.tell(&self.rt, text);
     }
 }

@@ -1,27 +1,28 @@
-use Rattle.std.proofs.Common.{refl}
-use Rattle.serve_command.proofs.Kept.{also_ok, also_err}
+use Rattle.std.proofs.Common.{refl, ap, ◌∙◌}
+use Rattle.std.specs.Result.{result_from_control_flow}
+use Rattle.serve_command.proofs.Kept.{heard, of_ok}
 use Rattle.serve_command.proofs.farm_jobs.FarmJobsJobs.run.Goals as goal
 
-pub returns-in-Some-clause-tells : goal.returns-in-Some-clause-tells
-returns-in-Some-clause-tells g c =
+pub returns-clause-tells : goal.returns-clause-tells
+returns-clause-tells g c =
     let set = c.set_timeout.ensures in
-    also_ok _ _ c.run-done.result refl (rw (set.service, set.timeout, set.kept, set.dial, set.clock, c.timeout_ms-timeout_ms.ensures, c.deref.ensures.value) at
-    c.run-done.ensures.tells)
+    let facts = c.timeout_ms-timeout_ms.ensures in
+    let is_ok = c.branch-done.ensures ∙ ap result_from_control_flow c.in_ok-done.is in
+    let served = rw (set.service, set.timeout, set.kept, set.dial, set.clock, facts, c.deref-2.ensures.value) at c.serve-done.ensures.served in (
+      refl,
+      (
+        of_ok _ c.serve-done.result c.in_ok-done.field-0 is_ok served,
+        (rw set.service at c.serve-done.ensures.service),
+        (rw (set.timeout, facts, c.deref-2.ensures.value) at c.serve-done.ensures.timeout),
+      ),
+    )
 
-pub returns-in-Some-clause-fails : goal.returns-in-Some-clause-fails
-returns-in-Some-clause-fails g c =
+pub returns-in_err-done-clause-fails : goal.returns-in_err-done-clause-fails
+returns-in_err-done-clause-fails g c =
     let set = c.set_timeout.ensures in
-    also_err _ _ c.run-done.result refl (rw (set.service, set.timeout, set.kept, set.dial, set.clock, c.timeout_ms-timeout_ms.ensures, c.deref.ensures.value) at
-    c.run-done.ensures.fails)
-
-pub returns-in_default-clause-tells : goal.returns-in_default-clause-tells
-returns-in_default-clause-tells g c =
-    let set = c.set_timeout.ensures in
-    also_ok _ _ c.run-done.result refl (rw (set.service, set.timeout, set.kept, set.dial, set.clock, c.timeout_ms-timeout_ms.ensures, c.deref.ensures.value) at
-    c.run-done.ensures.tells)
-
-pub returns-in_default-clause-fails : goal.returns-in_default-clause-fails
-returns-in_default-clause-fails g c =
-    let set = c.set_timeout.ensures in
-    also_err _ _ c.run-done.result refl (rw (set.service, set.timeout, set.kept, set.dial, set.clock, c.timeout_ms-timeout_ms.ensures, c.deref.ensures.value) at
-    c.run-done.ensures.fails)
+    let facts = c.timeout_ms-timeout_ms.ensures in
+    let is_err = c.branch-done.ensures ∙ ap result_from_control_flow c.in_err-done.is in
+    heard _ _ _ _ c.serve-done.result c.in_err-done.field-0.0 c.from_residual.result refl
+    (rw set.service at c.serve-done.ensures.service) (rw (set.timeout, facts, c.deref-2.ensures.value) at c.serve-done.ensures.timeout)
+    is_err c.from_residual.ensures.1
+    (rw (set.service, set.timeout, set.kept, set.dial, set.clock, facts, c.deref-2.ensures.value) at c.serve-done.ensures.failed)

@@ -1,0 +1,126 @@
+//! What a page shows of an answer.
+
+ghost use Rattle.std.specs.Prelude.{IfOk};
+ghost use Rattle.farm_notes.specs.Evidence as spec;
+ghost use Rattle.pool_supervisor.specs.Steps.{IsMadeOf};
+
+use crate::evidence::evidence_of;
+use farm_page::{Evidence, Shortage};
+use plan_model::{Answer, Certified, FuncSet, Input, Plan, TOP_LEVEL, count_neighbours};
+use pool_settings::Settings;
+use std::alloc::{AllocError, Global};
+
+/// What a page shows of the answer to an attempt.
+#[derive(Drop)]
+pub struct Found {
+    /// What it can be checked with.
+    pub evidence: Evidence,
+    /// The functions that are short of workers, if the answer names any.
+    pub shortage: Option<Shortage>,
+    /// By function, how many jobs wait.
+    pub waiting: Vec<u32>,
+    /// By function, how many workers the plan gives it.
+    pub workers: Vec<u32>,
+    /// By machine, how many of its workers are alive.
+    pub alive: Vec<u32>,
+}
+
+/// How many workers a plan gives each of so many functions.
+fn workers_by_function(
+    alloc: Global,
+    plan: &Plan,
+    functions: usize,
+) -> Result<Vec<u32>, AllocError> {
+    let mut workers = vec![in alloc; 0u32; functions]?;
+    for (_, function) in plan.entries() {
+        if let Some(function) = function {
+            if let Some(count) = workers.get_mut(function.number() as usize) {
+                *count = count.saturating_add(1);
+            }
+        }
+    }
+    Ok(workers)
+}
+
+/// How many workers of each machine are live.
+fn alive_by_machine(alloc: Global, input: &Input) -> Result<Vec<u32>, AllocError> {
+    let mut alive = vec![in alloc; 0u32; input.machines()]?;
+    for (_, machine) in input.live() {
+        if let Some(count) = alive.get_mut(machine.number() as usize) {
+            *count = count.saturating_add(1);
+        }
+    }
+    Ok(alive)
+}
+
+/// What shows that no plan has a lower level, or that there is none.
+fn shortage_of(
+    alloc: Global,
+    settings: &Settings,
+    input: &Input,
+    level: u64,
+    short: &FuncSet,
+) -> Result<Shortage, AllocError> {
+    let mut functions = Vec::new(alloc);
+    let mut need = 0u64;
+    for function in short.functions() {
+        if (function.number() as usize) < input.functions()
+            && function.number() < settings.functions()
+        {
+            functions.push(String::from_str(alloc, settings.function_name(*function))?)?;
+            need = need.saturating_add(u64::from(input.need(level, *function)));
+        }
+    }
+    Ok(Shortage {
+        functions,
+        need,
+        have: u64::from(count_neighbours(input, short)),
+    })
+}
+
+impl Found {
+    /// What a page shows of this answer. The only error is out of memory.
+    pub fn of(
+        alloc: Global,
+        settings: &Settings,
+        certified: &Certified,
+    ) -> Result<Found, AllocError>
+        requires of_these { IsMadeOf settings.now certified.now.input }
+        ensures { IfOk result (λ found. spec.IsEvidenceOf settings.now certified.now found.evidence) }
+    {
+        let input = certified.input();
+        let (shortage, workers) = match certified.answer() {
+            Answer::Planned {
+                plan,
+                backlog,
+                short,
+            } => {
+                let shortage = match short {
+                    Some(short) => Some(shortage_of(
+                        alloc,
+                        settings,
+                        input,
+                        backlog.saturating_sub(1),
+                        short,
+                    )?),
+                    None => None,
+                };
+                (
+                    shortage,
+                    workers_by_function(alloc, plan, input.functions())?,
+                )
+            }
+            Answer::NoPlan { short } => (
+                Some(shortage_of(alloc, settings, input, TOP_LEVEL, short)?),
+                vec![in alloc; 0u32; input.functions()]?,
+            ),
+        };
+        Ok(Found {
+            evidence: evidence_of(alloc, settings, certified)?,
+            shortage,
+            waiting: Vec::from_slice(alloc, input.waiting())?,
+            workers,
+            alive: alive_by_machine(alloc, input)?,
+        })
+    }
+}

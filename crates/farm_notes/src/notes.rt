@@ -1,0 +1,308 @@
+//! What the page of a farm is made of, kept from attempt to attempt.
+
+ghost use Rattle.std.specs.Prelude.{◌<◌, length};
+ghost use Rattle.pool_supervisor.specs.Steps.{IsMadeOf};
+
+use crate::found::Found;
+use crate::tally::FunctionJobs;
+use farm_page::{
+    Backlogs, EndView, Evidence, FarmView, FunctionView, HostView, Outcome, QueueView, Shortage,
+    Workers,
+};
+use job_runner::EndCause;
+use plan_model::{Certified, FuncId, MachineId};
+use pool_settings::Settings;
+use pool_supervisor::{Attempt, Attempted, EndCounts, attempt_words};
+use refusal::Labelled;
+use std::alloc::{AllocError, Global};
+use std::sync::{Mutex, Wait};
+
+/// What others know of a farm when a page is made.
+#[derive(Clone, Copy)]
+pub struct Known<'a> {
+    /// By machine, why its host is left alone, if it is.
+    pub unreached: &'a [Option<&'static str>],
+    /// By function, its jobs.
+    pub jobs: &'a [FunctionJobs],
+}
+
+/// What is kept.
+#[derive(Drop)]
+struct Kept {
+    /// What was found in the attempt that goes on.
+    found: Option<Found>,
+    /// What was found in the last attempt that led to a round.
+    last: Option<Found>,
+    /// The backlogs of the attempts.
+    backlogs: Backlogs,
+    /// Why workers ended.
+    ends: EndCounts,
+}
+
+/// What the page of a farm is made of, kept from attempt to attempt.
+#[derive(Drop)]
+pub struct PageNotes {
+    kept: Mutex<Kept>,
+}
+
+/// Whether an attempt led to a round.
+fn is_round(attempt: &Attempt) -> bool {
+    matches!(
+        attempt,
+        Attempt::Backlog { .. } | Attempt::Unserved { .. } | Attempt::NoPlan { .. }
+    )
+}
+
+/// The backlog of an attempt, if it has one that can be drawn.
+fn backlog_of(attempt: &Attempt) -> Option<u64> {
+    match attempt {
+        Attempt::Backlog { backlog, .. } => Some(*backlog),
+        _ => None,
+    }
+}
+
+/// What an attempt came to, as a page shows it. The only error is out of memory.
+fn outcome_of(alloc: Global, attempt: &Attempt) -> Result<Outcome, AllocError> {
+    match attempt {
+        Attempt::Backlog { backlog, .. } => Ok(Outcome::Backlog(*backlog)),
+        Attempt::Unserved { waiting, .. } => Ok(Outcome::Unserved(*waiting)),
+        Attempt::NoPlan { .. } => Ok(Outcome::NoPlan),
+        Attempt::NoLink | Attempt::Status(_) | Attempt::Refused(_) | Attempt::Memory => Ok(
+            Outcome::NoRound(attempt_words(alloc, attempt)?),
+        ),
+    }
+}
+
+/// The greatest number of workers of a function, if the settings bound it.
+fn most_of(settings: &Settings, function: FuncId) -> Option<u32> {
+    match settings.most_numbers().get(function.number() as usize) {
+        Some(most) if *most < settings.slots() => Some(*most),
+        _ => None,
+    }
+}
+
+/// What a page shows of a function's queue, if its waiting jobs are known.
+fn queue_view(waiting: Option<u32>, jobs: Option<FunctionJobs>) -> Option<QueueView> {
+    let running = jobs.map_or(0, |jobs| jobs.running);
+    waiting.map(|waiting| QueueView { waiting, running })
+}
+
+/// The same evidence again. The only error is out of memory.
+fn copy_evidence(evidence: &Evidence) -> Result<Evidence, AllocError> {
+    Ok(Evidence {
+        attempt: evidence.attempt,
+        report: evidence.report.clone()?,
+        status: evidence.status.clone()?,
+        lost: evidence.lost.clone()?,
+    })
+}
+
+/// The same shortage again. The only error is out of memory.
+fn copy_shortage(shortage: &Option<Shortage>) -> Result<Option<Shortage>, AllocError> {
+    let Some(shortage) = shortage else {
+        return Ok(None);
+    };
+    Ok(Some(Shortage {
+        functions: shortage.functions.clone()?,
+        need: shortage.need,
+        have: shortage.have,
+    }))
+}
+
+/// What a page shows of a cause for which workers ended.
+fn end_view(alloc: Global, cause: EndCause, count: u64) -> Result<EndView, AllocError> {
+    Ok(EndView {
+        cause: String::from_str(alloc, cause.label().name())?,
+        count,
+    })
+}
+
+impl Kept {
+    /// Keeps what an attempt came to. The only error is out of memory.
+    fn note(&mut self, made: &Attempted<'_>) -> Result<(), AllocError> {
+        let found = self.found.take();
+        if is_round(made.attempt) {
+            if let Some(mut found) = found {
+                found.evidence.attempt = made.number;
+                self.last = Some(found);
+            }
+        }
+        self.backlogs.add(backlog_of(made.attempt))
+    }
+
+    /// What a page shows of a function.
+    fn function(
+        &self,
+        alloc: Global,
+        settings: &Settings,
+        function: FuncId,
+        jobs: Option<FunctionJobs>,
+    ) -> Result<FunctionView, AllocError>
+        requires function { function < length settings.now.functions }
+    {
+        let place = function.number() as usize;
+        let (waiting, workers) = match &self.last {
+            Some(found) => (
+                found.waiting.get(place).copied(),
+                found.workers.get(place).copied(),
+            ),
+            None => (None, None),
+        };
+        Ok(FunctionView {
+            name: String::from_str(alloc, settings.function_name(function))?,
+            queue: queue_view(waiting, jobs),
+            workers: workers.unwrap_or(0),
+            least: settings.least(function),
+            most: most_of(settings, function),
+            jobs: jobs.map(|jobs| jobs.ends),
+        })
+    }
+
+    /// What a page shows of the functions.
+    fn functions(
+        &self,
+        alloc: Global,
+        settings: &Settings,
+        known: &Known<'_>,
+    ) -> Result<Vec<FunctionView>, AllocError> {
+        let mut functions = Vec::new(alloc);
+        for number in 0..settings.functions() {
+            let jobs = known.jobs.get(number as usize).copied();
+            functions.push(self.function(alloc, settings, FuncId::new(number), jobs)?)?;
+        }
+        Ok(functions)
+    }
+
+    /// What a page shows of a machine.
+    fn host(
+        &self,
+        alloc: Global,
+        settings: &Settings,
+        machine: MachineId,
+        unreached: Option<&'static str>,
+    ) -> Result<HostView, AllocError>
+        requires machine { machine < length settings.now.machines }
+    {
+        let alive = match &self.last {
+            Some(found) => found.alive.get(machine.number() as usize).copied(),
+            None => None,
+        };
+        let unreached = match unreached {
+            Some(why) => Some(String::from_str(alloc, why)?),
+            None => None,
+        };
+        Ok(HostView {
+            name: String::from_str(alloc, settings.machine_name(machine))?,
+            workers: Workers {
+                alive: alive.unwrap_or(0),
+                all: settings.workers(machine),
+            },
+            unreached,
+        })
+    }
+
+    /// What a page shows of the machines.
+    fn hosts(
+        &self,
+        alloc: Global,
+        settings: &Settings,
+        known: &Known<'_>,
+    ) -> Result<Vec<HostView>, AllocError> {
+        let mut hosts = Vec::new(alloc);
+        for number in 0..settings.machines() {
+            let unreached = known.unreached.get(number as usize).copied().flatten();
+            hosts.push(self.host(alloc, settings, MachineId::new(number), unreached)?)?;
+        }
+        Ok(hosts)
+    }
+
+    /// What a page shows of the causes for which workers ended.
+    fn ends(&self, alloc: Global) -> Result<Vec<EndView>, AllocError> {
+        let mut ends = Vec::new(alloc);
+        for (cause, count) in self.ends.each() {
+            if count > 0 {
+                ends.push(end_view(alloc, cause, count)?)?;
+            }
+        }
+        Ok(ends)
+    }
+
+    /// What a page shows after an attempt.
+    fn view(
+        &self,
+        alloc: Global,
+        made: &Attempted<'_>,
+        known: &Known<'_>,
+    ) -> Result<FarmView, AllocError> {
+        let settings = made.settings;
+        let (shortage, evidence) = match &self.last {
+            Some(found) => (
+                copy_shortage(&found.shortage)?,
+                Some(copy_evidence(&found.evidence)?),
+            ),
+            None => (None, None),
+        };
+        Ok(FarmView {
+            server: String::from_str(alloc, settings.server())?,
+            time: None,
+            attempt: made.number,
+            outcome: outcome_of(alloc, made.attempt)?,
+            shortage,
+            workers: Workers {
+                alive: made.alive,
+                all: settings.slots(),
+            },
+            functions: self.functions(alloc, settings, known)?,
+            hosts: self.hosts(alloc, settings, known)?,
+            ends: self.ends(alloc)?,
+            evidence,
+            backlogs: self.backlogs.copy()?,
+        })
+    }
+}
+
+impl PageNotes {
+    /// Those of a farm before its first attempt.
+    pub fn new(alloc: Global) -> PageNotes {
+        PageNotes {
+            kept: Mutex::new(Kept {
+                found: None,
+                last: None,
+                backlogs: Backlogs::new(alloc),
+                ends: EndCounts::none(),
+            }),
+        }
+    }
+
+    /// An answer was found. If there is no memory for what a page shows of it, the page goes on to show the answer before.
+    pub fn planned<R: Wait>(
+        &self,
+        rt: &R,
+        alloc: Global,
+        settings: &Settings,
+        certified: &Certified,
+    )
+        requires of_these { IsMadeOf settings.now certified.now.input }
+    {
+        let found = Found::of(alloc, settings, certified).ok();
+        self.kept.lock(rt).found = found;
+    }
+
+    /// A worker ended for this cause.
+    pub fn ended<R: Wait>(&self, rt: &R, cause: EndCause) {
+        self.kept.lock(rt).ends.count(cause);
+    }
+
+    /// What a page shows after an attempt. Its time is left open. The only error is out of memory.
+    pub fn view<R: Wait>(
+        &self,
+        rt: &R,
+        alloc: Global,
+        made: &Attempted<'_>,
+        known: &Known<'_>,
+    ) -> Result<FarmView, AllocError> {
+        let mut held = self.kept.lock(rt);
+        held.note(made)?;
+        held.view(alloc, made, known)
+    }
+}

@@ -1,0 +1,191 @@
+//! What a page answers.
+ghost use Rattle.std.specs.Prelude.{◌≡◌};
+
+use crate::limited::Limit;
+use crate::places::Distance;
+use crate::shared_page::{PageTimes, SharedPage};
+use bytes::{BufMut, Bytes};
+use farm_page::{
+    Answer, Asked, Backlogs, FarmView, Header, Method, Moment, Outcome, Reply, Seen, Site, Workers,
+    headers_of, reply_to,
+};
+use http::{HeaderName, HeaderValue, Request, StatusCode};
+use http_server::{Response, Service};
+use std::alloc::{AllocError, Global};
+use std::sync::Wait;
+use std::time::Clock;
+
+/// For how many milliseconds the answer to a drain may be written, once the farm has ended.
+const WRITE_MS: u32 = 5_000;
+
+/// Answers the requests of one peer.
+#[derive(Drop)]
+pub struct PageService<'a, R> {
+    /// Clock and locks.
+    pub rt: &'a R,
+    /// Where memory comes from.
+    pub alloc: Global,
+    /// The page.
+    pub page: &'a SharedPage,
+    /// Where the page is.
+    pub place: Site<'a>,
+    /// Until when the peer is served.
+    pub limit: &'a Limit,
+    /// Where the peer is.
+    pub distance: Distance,
+    /// The times of the farm.
+    pub times: PageTimes,
+}
+
+/// The method of a request.
+fn method_of(request: &Request<Bytes>) -> Method {
+    match request.method().as_str() {
+        "GET" => Method::Get,
+        "HEAD" => Method::Head,
+        "POST" => Method::Post,
+        _ => Method::Other,
+    }
+}
+
+/// The value of a header, if it is there.
+fn header<'r>(request: &'r Request<Bytes>, name: &str) -> Option<&'r [u8]> {
+    match request.headers().get(name) {
+        Some(value) => Some(value.as_bytes()),
+        None => None,
+    }
+}
+
+/// What a request asks, as far as it decides what is answered.
+fn asked_by<'r>(request: &'r Request<Bytes>, distance: Distance) -> Asked<'r> {
+    let uri = request.uri();
+    Asked {
+        method: method_of(request),
+        path: uri.path().as_bytes(),
+        host: header(request, "host"),
+        authority: match uri.authority() {
+            Some(authority) => Some(authority.as_str().as_bytes()),
+            None => None,
+        },
+        is_still: uri.query() == Some("still"),
+        is_near: distance == Distance::Near,
+        asks_drain: header(request, "poolman") == Some(b"drain".as_slice()),
+    }
+}
+
+/// Puts an answer into a response.
+fn put_answer(alloc: Global, answer: Answer, response: &mut Response) -> Result<(), AllocError> {
+    if let Ok(status) = StatusCode::from_u16(answer.status().code()) {
+        response.status = status;
+    }
+    for header in headers_of(alloc, &answer)? {
+        let Header { name, value } = header;
+        let name = HeaderName::from_bytes(alloc, name.as_bytes());
+        let value = HeaderValue::from_string(value);
+        if let (Ok(name), Ok(value)) = (name, value) {
+            response.add_header(name, value)?;
+        }
+    }
+    match Bytes::from_vec(answer.into_body()) {
+        Ok(body) => response.body.push(body),
+        Err(_) => Err(AllocError),
+    }
+}
+
+/// Adds a header whose name and value HTTP allows.
+fn put_header(
+    response: &mut Response,
+    alloc: Global,
+    name: &'static str,
+    value: &'static str,
+) -> Result<(), AllocError> {
+    let name = HeaderName::from_bytes(alloc, name.as_bytes());
+    let value = HeaderValue::from_bytes(alloc, value.as_bytes());
+    match (name, value) {
+        (Ok(name), Ok(value)) => response.add_header(name, value),
+        _ => Err(AllocError),
+    }
+}
+
+/// What a page shows before the first attempt.
+fn before_attempts(alloc: Global) -> Result<FarmView, AllocError> {
+    Ok(FarmView {
+        server: String::new(alloc),
+        time: None,
+        attempt: 0,
+        outcome: Outcome::NoRound(String::from_str(alloc, "no attempt yet")?),
+        shortage: None,
+        workers: Workers { alive: 0, all: 0 },
+        functions: Vec::new(alloc),
+        hosts: Vec::new(alloc),
+        ends: Vec::new(alloc),
+        evidence: None,
+        backlogs: Backlogs::new(alloc),
+    })
+}
+
+impl<'a, R: Wait + Clock> PageService<'a, R> {
+    /// What is answered of a farm that was seen so many milliseconds ago.
+    fn reply_of(
+        &self,
+        farm: &FarmView,
+        age_ms: u64,
+        asked: &Asked<'_>,
+    ) -> Result<Reply, AllocError> {
+        let moment = Moment {
+            age_ms,
+            round_ms: self.times.round_ms,
+        };
+        let seen = Seen { farm, moment };
+        reply_to(self.alloc, &seen, &self.place, asked)
+    }
+
+    /// What is answered of the farm as it is shown now.
+    fn reply(&self, asked: &Asked<'_>) -> Result<Reply, AllocError> {
+        match self.page.shown.current(self.rt)? {
+            Some((view, age_ms)) => self.reply_of(&view, age_ms, asked),
+            None => self.reply_of(&before_attempts(self.alloc)?, 0, asked),
+        }
+    }
+
+    /// Ends the farm, and answers with what it came to.
+    fn drain(&self, response: &mut Response) -> Result<(), AllocError> {
+        self.page.end.raise(self.rt);
+        let text = self
+            .page
+            .end_text
+            .wait(self.rt, self.alloc, self.times.drain_ms)?;
+        let _ = self.limit.renew(self.rt, WRITE_MS);
+        put_header(
+            response,
+            self.alloc,
+            "content-type",
+            "text/plain; charset=utf-8",
+        )?;
+        put_header(response, self.alloc, "x-content-type-options", "nosniff")?;
+        match text {
+            Some(text) => response.body.put_slice(text.as_bytes()),
+            None => {
+                response.status = StatusCode::GATEWAY_TIMEOUT;
+                response
+                    .body
+                    .put_slice(b"504: the farm has not ended yet\n")
+            }
+        }
+    }
+}
+
+impl<'a, R: Wait + Clock> Service for PageService<'a, R> {
+    ghost answers = { λ old request response new. new ≡ old };
+
+    fn call(
+        &mut self,
+        request: &Request<Bytes>,
+        response: &mut Response,
+    ) -> Result<(), AllocError> {
+        let asked = asked_by(request, self.distance);
+        match self.reply(&asked)? {
+            Reply::Told(answer) => put_answer(self.alloc, answer, response),
+            Reply::Drain => self.drain(response),
+        }
+    }
+}
