@@ -36,12 +36,12 @@ pub struct Workers {
     pub all: u32,
 }
 
-/// The queue of a function, as the job server counts it.
+/// The queue of a function.
 #[derive(Clone, Copy)]
 pub struct QueueView {
-    /// Jobs that wait for a worker.
+    /// Jobs that wait for a worker, as the job server counts them.
     pub waiting: u32,
-    /// Jobs that a worker has.
+    /// Jobs that a worker of the farm has.
     pub running: u32,
 }
 
