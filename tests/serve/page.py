@@ -1,10 +1,17 @@
 """What a peer asks of the page of a farm."""
 
 import http.client
+import os
 import re
+import shutil
 import subprocess
 
 from farm import HOST, TOTALS, held, wait_until
+
+# A page serves so many peers at once.
+PLACES = 64
+
+TOP = os.path.join(os.path.dirname(os.path.abspath(__file__)), "../..")
 
 # A sample of the text format of Prometheus.
 SAMPLE = re.compile(r'[a-z_]+(\{[a-z_]+="(?:[^"\\\n]|\\.)*"\})? \d+')
@@ -58,17 +65,25 @@ class Page:
         for line in self.text("/metrics").splitlines():
             held(line.startswith("# ") or SAMPLE.fullmatch(line), f"no sample: {line}")
 
-    def check(self, program, settings, folder):
-        """The plan of the running farm is shown by its evidence."""
-        text = self.text("/evidence")
-        found = re.fullmatch(r"attempt (\d+)\nlost((?: \S+)*)\nstatus\n(.*?\n\.\n)report\n(.*)", text, re.DOTALL)
-        held(found, f"no evidence: {text[:200]}")
-        status = f"{folder}/status.txt"
-        with open(status, "w") as it:
-            it.write(found[3])
-        words = [program, "check", settings, status, *found[2].split()]
-        done = subprocess.run(words, input=found[4], capture_output=True, text=True, timeout=self.patience)
-        held((done.returncode, done.stdout) == (0, "shown\n"), f"the evidence of attempt {found[1]}: {done}")
+    def crowd(self):
+        """A peer that has left gives its place back: more come one after the other than there are places."""
+        for _ in range(PLACES + 1):
+            held(self.health() == 200, "a peer is turned away")
+
+    def check(self, program, folder):
+        """The plan of the running farm is shown by its evidence, with the commands of docs/OPERATING.md, in the folder of its settings."""
+        with open(f"{TOP}/docs/OPERATING.md") as it:
+            commands = re.search(r"```sh\n(curl .*/evidence .*?)```", it.read(), re.DOTALL)[1]
+        commands = commands.replace("127.0.0.1:4780", f"{HOST}:{self.port}")
+        if shutil.which("curl") is None:
+            with open(f"{folder}/evidence.txt", "w") as it:
+                it.write(self.text("/evidence"))
+            commands = commands.split("\n", 1)[1]
+        path = f"{os.path.dirname(os.path.abspath(program))}:{os.environ['PATH']}"
+        done = subprocess.run(
+            ["bash", "-ec", commands], cwd=folder, env={**os.environ, "PATH": path}, capture_output=True, text=True, timeout=self.patience
+        )
+        held((done.returncode, done.stdout) == (0, "shown\n"), f"the evidence: {done}")
 
     def refuse(self):
         """What is asked wrongly is refused."""

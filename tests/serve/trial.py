@@ -201,7 +201,8 @@ class Farm:
         self.page.wait_until_well()
         self.page.look(LEAST)
         self.page.refuse()
-        self.page.check(self.program, f"{self.processes.folder}/settings.toml", self.processes.folder)
+        self.page.crowd()
+        self.page.check(self.program, self.processes.folder)
 
     def end(self):
         """Ends poolman by a drain, and holds its totals to what was answered."""
