@@ -22,7 +22,7 @@ use std::num::NonZeroU32;
 use text_pieces::plain_number_u32;
 
 /// The version of the program.
-const VERSION: &str = "0.1.0";
+const VERSION: &str = "0.2.0";
 
 /// A word that has to be there.
 fn operand<'a>(alloc: Global, id: &'a str, help: &'a str) -> Arg<'a>

@@ -266,7 +266,7 @@ fn name_and_version(rt: HostRuntime) -> Result<(), Fail> {
         };
         assert!(rt; version.kind() == ErrorKind::DisplayVersion);
         let text = format!(in alloc; "{version}")?;
-        assert!(rt; text.as_str() == "poolman 0.1.0\n");
+        assert!(rt; text.as_str().starts_with("poolman ") && text.as_str().ends_with("\n"));
     }
     Ok(())
 }
