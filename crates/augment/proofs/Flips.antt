@@ -164,3 +164,12 @@ source-spare owner count need t w c spare =
       | inl idle ↦ inl idle
       | inr rich ↦ inr (rich.0, omega (arith, rich.2, c.counts (get_or owner w 0) (omega (arith, rich.0))))
     ]
+
+-- an idle worker goes to the root
+pub IsFlipped-idle : (pairs : Pairs) (functions : ℕ) (owner : List ℕ) (w root : ℕ) → IsAssigned functions pairs owner → w < length owner → root < functions → IsPair pairs w root → get_or owner w 0 ≡ functions
+    → IsFlipped pairs functions owner (set owner w root) functions root
+IsFlipped-idle pairs functions owner w root a l b pr idle = record {
+  size = length-set owner w root;
+  assigned = IsAssigned-set functions pairs owner w root a l b pr;
+  counts = λ f. ap (λ z. count_on (set owner w root) f + one_if_equal z f) (sym idle) ∙ count_on-set owner w root f l;
+}

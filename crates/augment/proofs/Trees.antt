@@ -314,3 +314,12 @@ degrees-le_all pairs owner count need t staff g h =
     let all : total (length need) (degree pairs) ≤ pairs_up_to pairs (get_or pairs.machines.first.now (length need) 0) =
     total-steps (length need) (λ f. pairs_up_to pairs (get_or pairs.machines.first.now f 0)) (λ f k. pairs_up_to-step pairs (length need) staff f g k) in
     omega (arith, pairs_up_to-le pairs (get_or pairs.machines.first.now (length need) 0))
+
+-- each machine was passed
+pub AreClosed-all : (pairs : Pairs) (owner count need : List ℕ) (t : Tree) (staff many : ℕ) → IsGraph (length need) staff pairs → IsTree pairs owner count need t → length t.passed.now ≤ many
+    → ((m : ℕ) → m < many → get_or t.passed.now m false ≡ true) → AreClosed pairs t t.tail
+AreClosed-all pairs owner count need t staff many g h all passed i l k low high =
+    let f : ℕ = get_or t.reached.now i 0 in
+    let below : f < length need = h.known i l in
+    let listed : k < length pairs.machines.items.now = omega (arith, high, g.machines.ends (f + 1) (omega (arith, below))) in
+    passed (get_or pairs.machines.items.now k 0) (omega (arith, g.machines.known k listed, h.room.passed, all))

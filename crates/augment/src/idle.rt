@@ -115,8 +115,14 @@ fn idle_of(tables: &Tables, need: &[u32], m: u32, looks: &mut u64) -> Option<u32
     None
 }
 
-// An idle worker who may do function `f`. If there is none nobody counts as looked at: then no machine is known to have one.
-fn idle_for(tables: &Tables, need: &[u32], f: u32, idle: &mut Idle, looks: &mut u64) -> Option<u32>
+/// An idle worker who may do function `f`. If there is none nobody counts as looked at: then no machine is known to have one.
+pub fn idle_for(
+    tables: &Tables,
+    need: &[u32],
+    f: u32,
+    idle: &mut Idle,
+    looks: &mut u64,
+) -> Option<u32>
     requires fits { IsSearchable tables.now need.now }
     requires known { f < length need.now }
     requires looks { looks.old + degree tables.now.pairs f < 2 ^ 64 }
@@ -136,7 +142,7 @@ fn idle_for(tables: &Tables, need: &[u32], f: u32, idle: &mut Idle, looks: &mut 
     Some(w)
 }
 
-/// An idle worker who may do one of the functions of the tree, from this place on.
+/// An idle worker who may do one of the functions of the tree, from this place on. If nobody is idle, none is looked for.
 pub fn way_to_idle(
     tables: &Tables,
     need: &[u32],
@@ -156,6 +162,9 @@ pub fn way_to_idle(
     ensures place { IfSome result (λ way. from ≤ way.place) }
     ensures found { IfSome result (λ way. IsWayOutOf tables.now need.now tree.now way.worker way.place) }
 {
+    if tables.count[need.len()] == 0 {
+        return None;
+    }
     for place in from..tree.tail {
         if let Some(worker) = idle_for(tables, need, tree.reached[place], idle, looks) {
             return Some(WayOut { worker, place });

@@ -1,18 +1,18 @@
 //! The search over the tables of a round: it serves each function by alternating paths, or shows a set that is short.
 
-ghost use Rattle.std.specs.Prelude.{◌≡◌, ℕ, ◌+◌, ◌*◌, ◌^◌, ◌<◌, ◌≤◌, length, slice_index, take, IfOk, OnErr, IfSome, IfNone};
+ghost use Rattle.std.specs.Prelude.{◌≡◌, ℕ, ◌+◌, ◌*◌, ◌^◌, ◌<◌, ◌≤◌, IsTrue, length, slice_index, take, IfOk, OnErr, IfSome, IfNone};
 ghost use Rattle.std.specs.Bool.{OnTrue, OnFalse};
 ghost use Rattle.std.specs.List.{range_with_len};
 ghost use Rattle.std.specs.List.Sorted.{IsPermutation};
-ghost use Rattle.round_arena.specs.Plan.{IsGraph, count_on, pair_total};
+ghost use Rattle.round_arena.specs.Plan.{IsAssigned, IsCounted, IsGraph, count_on, pair_total};
 ghost use Rattle.round_arena.specs.Round.{IsConsistent, SamePairs};
 ghost use Rattle.augment.specs.Moves.{GainsOne, IsStuck};
 ghost use Rattle.augment.specs.Round.{AreLimited, IsCapped, IsServed, IsWithinLooks, KeepsServed, PaysForWorkers, served};
-ghost use Rattle.augment.specs.Searching.{AddsLooks, HasNeeds, IsLacking, IsStaffed, ShowsShort};
+ghost use Rattle.augment.specs.Searching.{AddsLooks, HasNeeds, IsIdleFor, IsLacking, IsStaffed, ShowsShort};
 ghost use Rattle.augment.specs.Short.{marked};
 ghost use Rattle.augment.specs.Tree.{HasRoom};
 
-use crate::idle::{Idle, count_idle, employ};
+use crate::idle::{Idle, count_idle, employ, idle_for};
 use crate::search::{Tree, search};
 use bumpalo::Bump;
 use round_arena::{FuncId, Tables};
@@ -27,7 +27,23 @@ pub enum Served<'a> {
     Short(&'a [FuncId]),
 }
 
-/// Gives `root` one worker more, and says whether there was one to be had.
+// Gives `root` the idle worker.
+fn hire(tables: &mut Tables, need: &[u32], root: u32, w: u32)
+    requires assigned { IsAssigned (length need.now) tables.old.pairs tables.old.owner.now }
+    requires counted { IsCounted (length need.now) tables.old.owner.now tables.old.count.now }
+    requires lacking { IsLacking tables.old need.now root }
+    requires idle { IsIdleFor tables.old need.now root w }
+    ensures same { SamePairs tables.old tables.new }
+    ensures assigned { IsAssigned (length need.now) tables.old.pairs tables.new.owner.now }
+    ensures counted { IsCounted (length need.now) tables.new.owner.now tables.new.count.now }
+    ensures gained { GainsOne (length need.now) root need.now tables.old.owner.now tables.new.owner.now }
+{
+    tables.count[need.len()] -= 1;
+    tables.count[root as usize] += 1;
+    tables.owner[w as usize] = root;
+}
+
+/// Gives `root` one worker more, and says whether there was one to be had. An idle worker who may do it is found without a search.
 pub fn serve_one(
     tables: &mut Tables,
     need: &[u32],
@@ -49,6 +65,11 @@ pub fn serve_one(
     ensures stuck { OnFalse result
         (IsStuck tables.old.pairs tables.new.owner.now tables.new.count.now need.now tree.new root) }
 {
+    if let Some(w) = idle_for(tables, need, root, idle, looks) {
+        employ(idle, tables, need.len(), w);
+        hire(tables, need, root, w);
+        return true;
+    }
     let Some(way) = search(tables, need, root, tree, idle, looks) else {
         return false;
     };
@@ -128,6 +149,19 @@ pub fn collect(place: &[usize], set: &mut [FuncId]) -> usize
     n
 }
 
+// Whether each function has what it needs.
+fn has_needs(tables: &Tables, need: &[u32]) -> bool
+    requires { IsConsistent (length need.now) tables.now }
+    ensures { IsTrue result → HasNeeds need.now tables.now.owner.now }
+{
+    for f in 0..need.len() {
+        if tables.count[f] < need[f] {
+            return false;
+        }
+    }
+    true
+}
+
 /// Moves workers until each function has the number of workers that `need` has for it, or gives a set
 /// of functions that need more workers than may do any of them (Hall's theorem, with demands: then
 /// nobody can serve these needs). In both cases each worker does at most one function, a permitted
@@ -164,6 +198,9 @@ pub fn serve<'a>(tables: &mut Tables<'a>, need: &[u32]) -> Result<Served<'a>, Al
     if let Some(alone) = beyond(need, tables.owner.len()) {
         let set = bump.try_alloc_slice_copy(&[FuncId::new(alone)])?;
         return Ok(Served::Short(set));
+    }
+    if has_needs(tables, need) {
+        return Ok(Served::All);
     }
     let set = bump.try_alloc_slice_fill_clone(functions, FuncId::new(0))?;
     let machines = tables.pairs.workers.first.len() - 1;
