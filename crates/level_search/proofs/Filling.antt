@@ -82,6 +82,22 @@ AreBusyUpTo-more functions pairs most owner f m end b here k l n =
       | inr ne ↦ b k l (omega (arith, ne))
     ]
 
+-- a function that can take nobody leaves nobody idle for nothing
+pub AreBusy-closed : (functions : ℕ) (pairs : Pairs) (most owner : List ℕ) (f m : ℕ) → IsGraph functions (length owner) pairs → IsAssigned functions pairs owner → m < machine_count pairs
+    → (count_on owner functions ≡ 0) ⊎ (get_or most f 0 ≤ count_on owner f) → AreBusy pairs most owner functions f m
+AreBusy-closed functions pairs most owner f m g a known closed k l n =
+    let w : ℕ = get_or pairs.workers.items.now k 0 in
+    let there : w < length owner = g.workers.known k (omega (arith, n, g.workers.ends (m + 1) (omega (arith, known)))) in
+    elim closed [
+      | inl none ↦ inl (elim (cases_lt (get_or owner w 0) functions) [
+        | inl busy ↦ busy
+        | inr idle ↦
+            let same : get_or owner w 0 ≡ functions = omega (arith, idle, a.below w there) in
+            absurd (omega (arith, none, count_on-positive owner w there, ap (count_on owner) same))
+      ])
+      | inr filled ↦ inr filled
+    ]
+
 pub IsBusyUpTo-filled : (functions : ℕ) (pairs : Pairs) (most before after count : List ℕ) (f end : ℕ) → IsFilled functions pairs most before after count → f < functions → IsBusyUpTo pairs most before functions f end → IsBusyUpTo pairs most after functions f end
 IsBusyUpTo-filled functions pairs most before after count f end h below b k l n =
     let m = get_or pairs.machines.items.now k 0 in

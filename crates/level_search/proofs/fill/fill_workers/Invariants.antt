@@ -1,6 +1,6 @@
 use Rattle.std.proofs.Common.{◌≡◌, ◌+◌, slice_index}
 use Rattle.level_search.specs.Filled.{IsFilled, AreBusyUpTo}
-use Rattle.level_search.proofs.fill.fill_machine.Given as goal
+use Rattle.level_search.proofs.fill.fill_workers.Given as goal
 
 abbrev pub invariant-loop-k : goal.invariant-loop-k
 invariant-loop-k l = record {
