@@ -4,6 +4,7 @@ import http.client
 import os
 import re
 import shutil
+import socket
 import subprocess
 
 from farm import HOST, TOTALS, held, wait_until
@@ -15,6 +16,21 @@ TOP = os.path.join(os.path.dirname(os.path.abspath(__file__)), "../..")
 
 # A sample of the text format of Prometheus.
 SAMPLE = re.compile(r'[a-z_]+(\{[a-z_]+="(?:[^"\\\n]|\\.)*"\})? \d+')
+
+
+DRAIN = b"POST /drain HTTP/1.1\r\nhost: localhost\r\npoolman: drain\r\n"
+
+# What is no request, and the statuses that it may get. Who sends much may be cut off before he reads one.
+BROKEN = {
+    "two lengths": (DRAIN + b"content-length: 1\r\ncontent-length: 2\r\n\r\nab", (400,)),
+    "a length and chunks": (DRAIN + b"content-length: 4\r\ntransfer-encoding: chunked\r\n\r\n0\r\n\r\n", (400,)),
+    "two hosts": (DRAIN + b"host: localhost\r\n\r\n", (400,)),
+    "a host with a space": (b"GET / HTTP/1.1\r\nhost: local host\r\n\r\n", (400,)),
+    "no HTTP": (b"\x16\x03\x01 what is this\r\n\r\n", (400,)),
+    "a path of 1 MiB": (b"GET /" + b"a" * (1 << 20) + b" HTTP/1.1\r\nhost: localhost\r\n\r\n", (414, 431, None)),
+    "a header of 1 MiB": (DRAIN + b"x: " + b"a" * (1 << 20) + b"\r\n\r\n", (431, None)),
+    "a body of 1 MiB": (DRAIN + b"content-length: 1048576\r\n\r\n" + b"a" * (1 << 20), (413, None)),
+}
 
 
 class Page:
@@ -97,6 +113,22 @@ class Page:
         for wanted, method, path, headers in asked:
             status, _, _ = self.ask(method, path, **headers)
             held(status == wanted, f"{method} {path} {headers}: {status} in place of {wanted}")
+
+    def say(self, text):
+        """The status of the response to these bytes, or None if the peer is cut off without one."""
+        with socket.create_connection((HOST, self.port), self.patience) as peer:
+            try:
+                peer.sendall(text)
+                said = peer.recv(4096)
+            except ConnectionError:
+                return None
+        return int(said.split()[1]) if said else None
+
+    def refuse_broken(self):
+        """What is no request is refused, and does nothing."""
+        for what, (text, wanted) in BROKEN.items():
+            status = self.say(text)
+            held(status in wanted, f"{what}: {status} in place of {wanted}")
 
     def drain(self):
         """Ends the farm, and waits for what it came to."""

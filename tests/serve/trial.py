@@ -201,6 +201,7 @@ class Farm:
         self.page.wait_until_well()
         self.page.look(LEAST)
         self.page.refuse()
+        self.page.refuse_broken()
         self.page.crowd()
         self.page.check(self.program, self.processes.folder)
 
