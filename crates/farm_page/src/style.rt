@@ -30,7 +30,7 @@ th,td{text-align:right;padding:5px 10px;border-top:1px solid var(--line)}\
 thead th{border-top:0;padding-top:0}th:first-child,td:first-child{padding-left:0}\
 tbody th,.words{text-align:left}tbody th{color:var(--text);font-size:14px;font-family:ui-monospace,monospace}\
 td,tbody th{white-space:nowrap}td.words{white-space:normal;color:var(--quiet)}\
-.bad{font-weight:600}td.bad{color:var(--bad)}td.warn{color:var(--warn);font-weight:600}td.none{color:var(--quiet)}\
+td.bad{color:var(--bad);font-weight:600}td.warn{color:var(--warn);font-weight:600}td.none{color:var(--quiet)}\
 summary{color:var(--quiet);padding-top:8px}";
 
 /// The drawings.
@@ -40,9 +40,9 @@ figcaption b{color:var(--text);font-weight:600}svg{display:block;width:100%}.cha
 .bar{width:84px;height:8px;display:inline-block}.axis{stroke:var(--line)}\
 .curve{fill:none;stroke:var(--blue);stroke-width:1.6;stroke-linejoin:round}.gap{fill:var(--bad);opacity:.16}\
 .track{fill:var(--line)}.fill{fill:var(--blue)}.least{fill:var(--text)}\
-@media(max-width:720px){h1{font-size:22px}main,header,footer{padding:0 12px}}";
+@media(max-width:720px){h1{font-size:22px}main,header,footer{padding-left:12px;padding-right:12px}}";
 
 /// What a browser may load for an answer: the style, by its hash, and an icon of no bytes.
 pub const POLICY: &str =
-    "default-src 'none'; style-src 'sha256-QkqOVy9nuOZHMCsQ92V2wc+RGfAL8hH0vdeQfBkmh08='; img-src data:; base-uri 'none'; \
+    "default-src 'none'; style-src 'sha256-2mSJ/nlEhcWCyQMc2vujRVfFSwa5sbJxtbObfgiSslY='; img-src data:; base-uri 'none'; \
 form-action 'none'; frame-ancestors 'none'";
