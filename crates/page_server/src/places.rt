@@ -1,5 +1,6 @@
 //! Places for peers, one of which only a near peer may take.
 ghost use Rattle.std.specs.Prelude.{◌≡◌, ◌+◌, ◌≤◌, IsTrue, IsFalse};
+ghost use Rattle.page_server.specs.Places.{has_room};
 
 use std::sync::{Condvar, Mutex, Wait};
 use std::time::{Clock, Duration};
@@ -32,6 +33,7 @@ struct Taken {
 impl Taken {
     /// Takes a place if there is one for such a peer. Whether there was.
     fn take(&mut self, distance: Distance) -> bool
+        ensures room { result ≡ has_room self.old.all self.old.far distance }
         ensures refused { IsFalse result → self.new ≡ self.old }
         ensures taken { IsTrue result → self.new.all ≡ self.old.all + 1 }
     {
