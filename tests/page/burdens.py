@@ -44,35 +44,39 @@ def keeps_pace(usual, now, what):
     held(now >= SLOWEST * usual, f"{what}: {now:.1f} attempts a second, and {usual:.1f} without")
 
 
-def crowd(program):
-    """1,000 connections at once, silent or cut off in mid request: jobs are answered, attempts keep their pace, and the page is back when they leave."""
+def bears(program, what, burdened):
+    """A small farm keeps its pace under a burden, and is well after it. What is measured under the burden is its pace, as it is without."""
     with small_farm(program) as stage:
         usual = stage.pace(stage.ask)
-        with contextlib.ExitStack() as peers:
-            for number in range(1000):
-                peer = peers.enter_context(socket.create_connection((HOST, stage.page.port), PATIENCE))
-                with contextlib.suppress(OSError):
-                    peer.sendall(b"GET / HTTP/1.1\r\nhost: " * (number % 2))
-            crowded = stage.pace(stage.ask)
-        keeps_pace(usual, crowded, "1,000 connections")
+        now = burdened(stage)
+        keeps_pace(usual, now, what)
         stage.page.wait_until_well()
         stage.end(PATIENCE)
-        return f"{usual:.1f} attempts a second, and {crowded:.1f} with the crowd"
+        return f"{usual:.1f} attempts a second, and {now:.1f} with {what}"
+
+
+def pace_in_a_crowd(stage):
+    """The pace of attempts while jobs are answered, and 1,000 peers are connected, silent or in mid request."""
+    with contextlib.ExitStack() as peers:
+        for number in range(1000):
+            peer = peers.enter_context(socket.create_connection((HOST, stage.page.port), PATIENCE))
+            with contextlib.suppress(OSError):
+                peer.sendall(b"GET / HTTP/1.1\r\nhost: " * (number % 2))
+        return stage.pace(stage.ask)
+
+
+def crowd(program):
+    """1,000 connections at once: attempts keep their pace, and the page is back when they leave."""
+    return bears(program, "1,000 connections", pace_in_a_crowd)
 
 
 def broken(program):
     """What is no request, again and again: attempts keep their pace, and nothing drains the farm."""
-    with small_farm(program) as stage:
-        usual = stage.pace(stage.ask)
-        now = stage.pace(stage.page.refuse_broken)
-        keeps_pace(usual, now, "broken requests")
-        stage.page.wait_until_well()
-        stage.end(PATIENCE)
-        return f"{usual:.1f} attempts a second, and {now:.1f} with them"
+    return bears(program, "broken requests", lambda stage: stage.pace(stage.page.refuse_broken))
 
 
 def near_drips(program):
-    """As many clients of this machine as there are places, who drip a byte a second, while a drain is asked for: it waits for one deadline at most."""
+    """As many clients of this machine as there are places drip a byte a second while a drain is asked for: it waits for one deadline at most."""
     with small_farm(program) as stage:
         drips = Drips(HOST, stage.page.port, PLACES, again=False)
         took, tries = stage.end(3 * PEER_SECONDS)
