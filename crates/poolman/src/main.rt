@@ -1,16 +1,11 @@
 //! `poolman`: plans of a pool of Gearman workers, each shown to be best, runs of such a pool, and farms of services that do its jobs.
 #![tactic(auto)]
 
-mod carry_out;
-mod lent;
-mod program;
-
 use command_line::{Command, command_of};
 use devices::{InputSource, OutputSink};
 use fault_detail::{Reader, complain};
-use lent::Lent;
 use plan_commands::Fault;
-use program::program;
+use program::{Lent, program};
 use serve_command::{Edges, FarmSystem, SharedPage, end_with_input, serve_page, write_lines};
 use std::alloc::{AllocError, Global};
 use std::fs::{File, OpenOptions};
@@ -186,6 +181,3 @@ fn main(rt: HostRuntime) -> ExitCode {
     }
     ExitCode::from(status)
 }
-
-#[cfg(test)]
-mod tests;

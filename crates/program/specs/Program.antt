@@ -18,7 +18,7 @@ use Rattle.byte_io.specs.Sides.{Met, Output}
 use Rattle.plan_commands.specs.declared.ending.Exit.{Exit}
 use Rattle.plan_commands.specs.declared.fault.Fault.{Fault}
 use Rattle.plan_commands.specs.declared.fault.Fault.TheVariants.{Memory}
-use Rattle.poolman.specs.Carrying.{CarriesOut}
+use Rattle.program.specs.Carrying.{CarriesOut}
 
 -- what the program writes to
 pub record Streams : Type 0 where

@@ -4,7 +4,7 @@ ghost use Rattle.std.specs.Prelude.{◌≡◌, ◌-◌, ◌^◌, ◌<◌, map, s
 ghost use Rattle.byte_io.specs.Sides.{Meets, Met};
 ghost use Rattle.command_line.specs.Named.{named};
 ghost use Rattle.fault_detail.specs.Detail.{names_of};
-ghost use Rattle.poolman.specs.Program as spec;
+ghost use Rattle.program.specs.Program as spec;
 
 use crate::carry_out::carry_out;
 use crate::lent::Lent;

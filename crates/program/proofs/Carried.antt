@@ -13,7 +13,7 @@ use Rattle.plan_commands.specs.declared.fault.Fault.{Fault}
 use Rattle.plan_commands.specs.Problem.{load_of}
 use Rattle.size_command.specs.CheckSizes.{ChecksSizeText}
 use Rattle.size_command.specs.Sizes.{Sizes}
-use Rattle.poolman.specs.Carrying.{CarriesOut, IsUnreadIn, ServesFiles, ShowsSettings}
+use Rattle.program.specs.Carrying.{CarriesOut, IsUnreadIn, ServesFiles, ShowsSettings}
 
 -- nothing was taken and nothing written
 pub unread : (file : List ℕ → Known) (command : Named) (side : Input) (out : Output) (fault : Fault) (exit : Exit)

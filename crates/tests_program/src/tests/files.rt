@@ -2,14 +2,13 @@
 
 use super::away::Away;
 use super::one_worker::{LIMIT, MEANING, REPORT, SETTINGS, STATUS};
-use crate::carry_out::carry_out;
-use crate::lent::Lent;
 use byte_io::{SliceSource, VecSink};
 use command_line::Command;
 use devices::{Folder, InputError};
 use fault_detail::Reader;
 use plan_commands::{Exit, Fault, Mistake, NamedFile};
 use pool_settings::{Place, SettingsError};
+use program::{Lent, carry_out};
 use serve_command::FarmHost;
 use std::alloc::{AllocError, Global};
 use std::io;

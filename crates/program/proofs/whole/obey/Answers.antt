@@ -5,7 +5,7 @@ use Rattle.command_line.specs.Named.{IsOfKinds}
 use Rattle.command_line.specs.Words.{faults_in}
 use Rattle.command_line.specs.declared.command.CommandError.{CommandError}
 use Rattle.plan_commands.proofs.Posing.{meets_nothing, nothing_from}
-use Rattle.poolman.proofs.program.obey.Goals as goal
+use Rattle.program.proofs.whole.obey.Goals as goal
 
 -- kinds among which one is are some
 filled : (k : ErrorKind) (kinds : Kinds) → IsAmong k kinds → kinds ≢ []

@@ -1,7 +1,7 @@
 use Rattle.std.proofs.Common.{◌≡◌, List, ℕ, Ok, Err, map, refl, subst, sym, string_bytes}
 use Rattle.plan_commands.proofs.Posing.{meets_nothing, nothing_from}
-use Rattle.poolman.specs.Program.{Obeys, Program, Streams, words_in}
-use Rattle.poolman.proofs.program.program.Goals as goal
+use Rattle.program.specs.Program.{Obeys, Program, Streams, words_in}
+use Rattle.program.proofs.whole.program.Goals as goal
 
 pub returns-in-Ok : goal.returns-in-Ok
 returns-in-Ok g c =

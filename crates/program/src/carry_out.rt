@@ -4,7 +4,7 @@ ghost use Rattle.std.specs.Prelude.{◌-◌, ◌^◌, ◌<◌, IfErr, IfOk, opti
 ghost use Rattle.command_line.specs.Named.{named};
 ghost use Rattle.devices.specs.Folder.{IsReadFile};
 ghost use Rattle.byte_io.specs.Sides.{Meets, Met};
-ghost use Rattle.poolman.specs.Carrying.{CarriesOut, IsUnreadBoth, IsUnreadBy, ServesFiles, ShowsSettings};
+ghost use Rattle.program.specs.Carrying.{CarriesOut, IsUnreadBoth, IsUnreadBy, ServesFiles, ShowsSettings};
 
 use crate::lent::Lent;
 use byte_io::{Sink, Source};
