@@ -1,3 +1,1 @@
-pub mod Words
 pub mod Named
-pub mod Required

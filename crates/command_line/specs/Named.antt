@@ -4,8 +4,8 @@ use Rattle.std.specs.Int.NonZero.{non_zero_u32_get}
 use Rattle.clap.specs.Words.{IsAmong, Kinds, kind_of}
 use Rattle.clap.specs.declared.error.Error.{Error}
 use Rattle.clap.specs.declared.error.kind.ErrorKind.TheVariants.{OutOfMemory}
-use Rattle.command_line.specs.Words.{Named, plan, check, size, check_size, replay, show_settings, run, serve}
-use Rattle.command_line.specs.Words.{least_rounds, most_rounds}
+use Rattle.command_words.specs.Words.{Named, plan, check, size, check_size, replay, show_settings, run, serve}
+use Rattle.command_words.specs.Words.{least_rounds, most_rounds}
 use Rattle.command_line.specs.declared.command.Command.{Command}
 use Rattle.command_line.specs.declared.command.Command.TheVariants.{Plan, Check, Size, CheckSize, Replay, Settings, Run, Serve}
 use Rattle.command_line.specs.declared.command.CommandError.{CommandError}

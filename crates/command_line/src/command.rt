@@ -4,14 +4,14 @@ ghost use Rattle.std.specs.Prelude.{◌≡◌, ◌≤◌, IfErr, IfOk, Some, [],
 ghost use Rattle.clap.specs.Simple.{matches_of};
 ghost use Rattle.clap.specs.Words.{fault_of};
 ghost use Rattle.command_line.specs.Named.{HasRoundsInRange, IsOfKinds, Tells, named};
-ghost use Rattle.command_line.specs.Words as spec;
+ghost use Rattle.command_words.specs.Words as spec;
 
-use crate::operands::{
+use clap::Error;
+use clap::error::ErrorKind;
+use command_words::{
     check_size_words, check_words, overview, plan_words, replay_words, run_words, serve_words,
     settings_words, size_words,
 };
-use clap::Error;
-use clap::error::ErrorKind;
 use std::alloc::{AllocError, Global};
 use std::convert::AsStr;
 use std::num::NonZeroU32;

@@ -2,7 +2,5 @@
 #![tactic(auto)]
 
 mod command;
-mod help;
-mod operands;
 
 pub use command::{Command, CommandError, command_of};

@@ -1,7 +1,7 @@
 -- Commands by their files.
 use Rattle.std.specs.Prelude.{Option}
 use Rattle.std.proofs.Common.{◌≡◌, ℕ, Bool, List, inl, inr, refl}
-use Rattle.command_line.specs.Words.{Named, plan, serve, show_settings, size, check_size}
+use Rattle.command_words.specs.Words.{Named, plan, serve, show_settings, size, check_size}
 use Rattle.devices.specs.Folder.{IsReadFile, Known}
 use Rattle.devices.specs.Whole.{IsUntouched}
 use Rattle.byte_io.specs.Sides.{Input, Meets, Met, Output}

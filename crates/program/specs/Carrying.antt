@@ -1,6 +1,6 @@
 -- What a command does, by the files that it names.
 use Rattle.std.specs.Prelude.{◌≡◌, ◌⊎◌, ℕ, List, None, Option, Some}
-use Rattle.command_line.specs.Words.{Named, plan, check, size, check_size, replay, show_settings, run, serve}
+use Rattle.command_words.specs.Words.{Named, plan, check, size, check_size, replay, show_settings, run, serve}
 use Rattle.devices.specs.Folder.{IsReadFile, IsUnreadFile, Known}
 use Rattle.devices.specs.Whole.{IsUntouched}
 use Rattle.devices.specs.declared.error.InputError.{InputError}

@@ -8,7 +8,7 @@ use Rattle.std.specs.Result.{result_map_both}
 use Rattle.std.specs.declared.io.ErrorKind.{ErrorKind}
 use Rattle.std.specs.declared.io.ErrorKind.TheVariants.{OutOfMemory}
 use Rattle.clap.specs.Words.{Kinds}
-use Rattle.command_line.specs.Words.{Named, plan, check, size, check_size, replay, show_settings, run, serve, command_in, faults_in}
+use Rattle.command_words.specs.Words.{Named, plan, check, size, check_size, replay, show_settings, run, serve, command_in, faults_in}
 use Rattle.fault_detail.specs.Complaint.{Complains, SaysLine, Tells}
 use Rattle.fault_detail.specs.Detail.{Names}
 use Rattle.fault_detail.specs.declared.complaint.Reader.{Reader}

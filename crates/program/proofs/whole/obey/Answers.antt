@@ -2,7 +2,7 @@ use Rattle.std.proofs.Common.{◌≡◌, ◌≢◌, [], ◌∷◌, inl, inr, map
 use Rattle.clap.specs.Words.{IsAmong, Kinds, kind_of}
 use Rattle.clap.specs.declared.error.kind.ErrorKind.{ErrorKind}
 use Rattle.command_line.specs.Named.{IsOfKinds}
-use Rattle.command_line.specs.Words.{faults_in}
+use Rattle.command_words.specs.Words.{faults_in}
 use Rattle.command_line.specs.declared.command.CommandError.{CommandError}
 use Rattle.plan_commands.proofs.Posing.{meets_nothing, nothing_from}
 use Rattle.program.proofs.whole.obey.Goals as goal

@@ -1,8 +1,0 @@
-use Rattle.std.proofs.Common.{ap, codes, refl, arith}
-use Rattle.command_line.proofs.Chain.{fits}
-use Rattle.command_line.proofs.operands.services.Goals as goal
-
-pub returns-clause-fits : goal.returns-clause-fits
-returns-clause-fits c =
-    fits c.operand.result 83 (codes "SERVICES") c.operand.ensures.plain c.operand.ensures.local (ap (λ x. x.now) c.operand.ensures.id) refl
-    ((λ e. absurd (omega arith)), (λ e. absurd (omega arith))) (omega arith)

@@ -1,0 +1,31 @@
+use Rattle.std.proofs.Common.{refl}
+use Rattle.command_words.specs.Words as spec
+use Rattle.command_words.proofs.Chain.{differ}
+use Rattle.command_words.proofs.Required.{first_of_three, second_of_three}
+use Rattle.command_words.proofs.operands.size.Goals as goal
+
+pub returns-clause-settings : goal.returns-clause-settings
+returns-clause-settings c =
+    let bare = c.command.ensures in
+    let s = c.settings in
+    let t = c.backlog in
+    let l = c.lost in
+    first_of_three c.command.result (bare.arguments, bare.groups, bare.local, bare.negates) c.in_ok-arg.field-0 c.in_ok-arg-2.field-0
+    s.result t.result l.result spec.settings c.in_ok-arg.ensures c.in_ok-arg-2.ensures s.ensures.fits t.ensures.fits l.ensures.fits
+    (differ s.result t.result spec.settings spec.backlog s.ensures.id t.ensures.id refl refl)
+    (differ s.result l.result spec.settings spec.lost s.ensures.id l.ensures.id refl refl)
+    (differ t.result l.result spec.backlog spec.lost t.ensures.id l.ensures.id refl refl)
+    c.arg-3.result c.arg-3.ensures s.ensures.value s.ensures.id
+
+pub returns-clause-backlog : goal.returns-clause-backlog
+returns-clause-backlog c =
+    let bare = c.command.ensures in
+    let s = c.settings in
+    let t = c.backlog in
+    let l = c.lost in
+    second_of_three c.command.result (bare.arguments, bare.groups, bare.local, bare.negates) c.in_ok-arg.field-0 c.in_ok-arg-2.field-0
+    s.result t.result l.result spec.backlog c.in_ok-arg.ensures c.in_ok-arg-2.ensures s.ensures.fits t.ensures.fits l.ensures.fits
+    (differ s.result t.result spec.settings spec.backlog s.ensures.id t.ensures.id refl refl)
+    (differ s.result l.result spec.settings spec.lost s.ensures.id l.ensures.id refl refl)
+    (differ t.result l.result spec.backlog spec.lost t.ensures.id l.ensures.id refl refl)
+    c.arg-3.result c.arg-3.ensures t.ensures.value t.ensures.id

@@ -1,0 +1,41 @@
+use Rattle.std.proofs.Common.{◌≡◌, [], Option, Some, None, map, option_map, refl, ap, sym, subst, ◌∙◌, true}
+use Rattle.std.specs.Int.NonZero.{non_zero_u32_get}
+use Rattle.std.proofs.lemmas.Result.{err_from_is_err_and}
+use Rattle.clap.specs.Simple.{HasMatchesOf, matches_of}
+use Rattle.clap.specs.Words.{HasKind, fault_of, is_simple_and_free}
+use Rattle.clap.specs.Walk.{first_of}
+use Rattle.command_words.specs.Words as spec
+use Rattle.command_words.proofs.Chain.{in_first}
+use Rattle.command_words.proofs.Levels.{level_right, level_told, level_wrong}
+use Rattle.command_words.proofs.operands.size_words.Goals as goal
+
+pub returns-in_err-matches-clause-kinds : goal.returns-in_err-matches-clause-kinds
+returns-in_err-matches-clause-kinds g c =
+    let p = err_from_is_err_and c.from_residual-in_err-matches.result c.from_residual-in_err-matches.ensures.1 in
+    rw (p.1, p.2)
+    (in_first (fault_of spec.size_app (map g.W.AsStr.text c.args.words.now)) _ c.in_err-matches.field-0.0
+    (subst (λ a. is_simple_and_free a ≡ true → HasKind (fault_of a (map g.W.AsStr.text c.args.words.now)) c.in_err-matches.field-0.0)
+    c.in_ok-command.ensures.app c.in_err-matches.ensures.kinds refl))
+
+pub returns-in-Some-clause-kinds : goal.returns-in-Some-clause-kinds
+returns-in-Some-clause-kinds g c =
+    let words = map g.W.AsStr.text c.args.words.now in
+    let has = subst (λ a. HasMatchesOf a words c.in_ok-matches.matches) c.in_ok-command.ensures.app c.in_ok-matches.ensures.matches in
+    let rows = has refl in
+    let word : first_of spec.backlog (matches_of spec.size_app words) ≡ Some c.text_of-backlog.result.now =
+    ap (first_of spec.backlog) (sym rows.0) ∙ c.text_of-backlog.ensures in
+    let level = level_told spec.size_app words c.text_of-backlog.result.now word ∙ sym c.level_of.ensures in
+    let free = subst (λ a. is_simple_and_free a ≡ true → fault_of a words ≡ []) c.in_ok-command.ensures.app c.in_ok-matches.ensures.kinds refl in
+    level_right spec.size_app words (option_map non_zero_u32_get c.in-Some.level) free (level ∙ ap (option_map (option_map non_zero_u32_get)) c.in-Some.is)
+
+pub returns-clause-kinds : goal.returns-clause-kinds
+returns-clause-kinds g c =
+    let words = map g.W.AsStr.text c.args.words.now in
+    let has = subst (λ a. HasMatchesOf a words c.in_ok-matches.matches) c.in_ok-command.ensures.app c.in_ok-matches.ensures.matches in
+    let rows = has refl in
+    let word : first_of spec.backlog (matches_of spec.size_app words) ≡ Some c.text_of-backlog.result.now =
+    ap (first_of spec.backlog) (sym rows.0) ∙ c.text_of-backlog.ensures in
+    let level = level_told spec.size_app words c.text_of-backlog.result.now word ∙ sym c.level_of.ensures in
+    let free = subst (λ a. is_simple_and_free a ≡ true → fault_of a words ≡ []) c.in_ok-command.ensures.app c.in_ok-matches.ensures.kinds refl in
+    level_wrong spec.size_app words c.in_ok-no_level-in-None.field-0 free (level ∙ ap (option_map (option_map non_zero_u32_get)) c.in-None.is)
+    c.in_ok-no_level-in-None.ensures

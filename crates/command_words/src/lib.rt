@@ -1,0 +1,10 @@
+//! The words of each command, as a command line of `clap` of its own: the texts that they give, or what is wrong with them.
+#![tactic(auto)]
+
+mod help;
+mod operands;
+
+pub use operands::{
+    check_size_words, check_words, overview, plan_words, replay_words, run_words, serve_words,
+    settings_words, size_words,
+};
