@@ -6,7 +6,7 @@ ghost use Rattle.command_line.specs.Named.{named};
 ghost use Rattle.fault_detail.specs.Detail.{names_of};
 ghost use Rattle.program.specs.Program as spec;
 
-use crate::carry_out::carry_out;
+use crate::carrying::carry_out;
 use crate::lent::Lent;
 use byte_io::{Sink, Source};
 use clap::Error;

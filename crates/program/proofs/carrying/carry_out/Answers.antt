@@ -10,7 +10,7 @@ use Rattle.size_command.specs.CheckSizes.{ChecksSizeText}
 use Rattle.size_command.specs.Sizes.{Sizes}
 use Rattle.program.specs.Carrying.{CarriesOut}
 use Rattle.program.proofs.Carried.{planned, served, shown, sized, size_checked, unread}
-use Rattle.program.proofs.carry_out.carry_out.Goals as goal
+use Rattle.program.proofs.carrying.carry_out.Goals as goal
 
 pub returns-in-Err : goal.returns-in-Err
 returns-in-Err g c = record {
