@@ -1,4 +1,4 @@
--- The request of a job can always be sent.
+-- A request that HTTP allows is never refused, and that of a job is one.
 use Rattle.std.proofs.Common.{◌≡◌, ℕ, ◌+◌, ◌-◌, ◌^◌, ◌<◌, Bool, true, false, not, cond, ltb, eqb, min, ◌&&◌, ◌||◌, List, [], ◌∷◌, ◌++◌, length, length-append, codes, Some, None, Result, Ok, Err, sym, refl, ap, ◌∙◌, subst, arith, count_by, filter, string_bytes, eq-eqb, eqb-true, le-ltb, lt-ltb, zero, suc}
 use Rattle.std.specs.List.{AllByRecursion, list_all}
 use Rattle.std.specs.Char.{is_ascii_graphic}
@@ -35,8 +35,9 @@ use Rattle.gear_packets.specs.Response.{AssignedJob}
 use Rattle.http_jobs.specs.declared.service.Service.{Service}
 use Rattle.http_jobs.specs.declared.request.TheConstants.{UNRESERVED}
 use Rattle.http_jobs.specs.Request.{sent_header, headers_of, target_of}
+use Rattle.http_jobs.specs.Post.{AreOrdinary, CanBeSent}
 use Rattle.http_jobs.specs.Values.{is_sent, is_visible}
-use Rattle.http_jobs.proofs.Asking.{AreOrdinary, POST, absent, adds_length, no_codings, length_is_no_coding, ordinary_headers}
+use Rattle.http_jobs.proofs.Asking.{POST, absent, adds_length, no_codings, length_is_no_coding, ordinary_headers}
 
 -- one more that counts, and one more that does not
 counts : (p : Header → Bool) (h : Header) (hs : List Header) → p h ≡ true → count_by p (h ∷ hs) ≡ 1 + count_by p hs
@@ -126,27 +127,24 @@ host_is_host : (value : List ℕ) → is_named (codes "host") (codes "host", val
 unfolding eq_ignore_case
 host_is_host value = refl
 
--- the headers after the host, and the length
-abbrev pub further_of : Service → AssignedJob → ℕ → List Header
-further_of s j n =
+-- the headers after the host
+abbrev pub further_of : Service → AssignedJob → List Header
+further_of s j =
     (((codes "content-type", codes "application/octet-stream") ∷ [] ++ sent_header (codes "gearman-handle") j.handle)
     ++ sent_header (codes "gearman-unique") j.unique
     ++ sent_header (codes "poolman-worker") (string_bytes s.worker))
-    ++ length_header n ∷ []
 
-further_headers : (s : Service) (j : AssignedJob) (n : ℕ) → AreFurther (further_of s j n)
-further_headers s j n =
+further_headers : (s : Service) (j : AssignedJob) → AreFurther (further_of s j)
+further_headers s j =
     let octets = codes "application/octet-stream" in
     let worker = string_bytes s.worker in
     let one : List Header = (codes "content-type", octets) ∷ [] in
     let two = one ++ sent_header (codes "gearman-handle") j.handle in
     let three = two ++ sent_header (codes "gearman-unique") j.unique in
     let kind : AreFurther one = (record { host = type_is_no_host octets; valid = and_from (is_token (codes "content-type")) (is_trimmed_value octets) type_token refl }, tt) in
-    let size : AreFurther (length_header n ∷ []) = (record { host = length_is_no_host (numeral 10 n); valid = and_from (is_token (codes "content-length")) (is_trimmed_value (numeral 10 n)) length_token (decimal_is_trimmed n) }, tt) in
     let with_handle = further_both one (sent_header (codes "gearman-handle") j.handle) kind (further_sent (codes "gearman-handle") j.handle (handle_is_no_host j.handle) handle_token) in
     let with_unique = further_both two (sent_header (codes "gearman-unique") j.unique) with_handle (further_sent (codes "gearman-unique") j.unique (unique_is_no_host j.unique) unique_token) in
-    let with_worker = further_both three (sent_header (codes "poolman-worker") worker) with_unique (further_sent (codes "poolman-worker") worker (worker_is_no_host worker) worker_token) in
-    further_both (three ++ sent_header (codes "poolman-worker") worker) (length_header n ∷ []) with_worker size
+    further_both three (sent_header (codes "poolman-worker") worker) with_unique (further_sent (codes "poolman-worker") worker (worker_is_no_host worker) worker_token)
 
 no_hosts : (hs : List Header) → AreFurther hs → count_by (is_named (codes "host")) hs ≡ 0
 no_hosts [] o = refl
@@ -156,21 +154,26 @@ all_valid : (hs : List Header) → AreFurther hs → list_all is_header hs ≡ t
 all_valid [] o = refl
 all_valid (h ∷ hs) o = and_from _ _ o.0.valid (all_valid hs o.1)
 
-abbrev pub all_of : Service → AssignedJob → ℕ → List Header
-all_of s j n = headers_of s j ++ length_header n ∷ []
+-- the length is one more header, which names no host and may be sent
+counted_more : (p : Header → Bool) (h : Header) (hs more : List Header) (t : Bool) → p h ≡ t → count_by p (hs ++ more) ≡ count_by p hs
+    → count_by p (h ∷ (hs ++ more)) ≡ count_by p (h ∷ hs)
+counted_more p h hs more true e rest = counts p h (hs ++ more) e ∙ ap (λ (k : ℕ). 1 + k) rest ∙ sym (counts p h hs e)
+counted_more p h hs more false e rest = counts_not p h (hs ++ more) e ∙ rest ∙ sym (counts_not p h hs e)
 
-one_host : (s : Service) (j : AssignedJob) (n : ℕ) → (known_fields (all_of s j n)).hosts ≡ 1
+counted_host : (hs : List Header) (n : ℕ) → count_by (is_named (codes "host")) (hs ++ length_header n ∷ []) ≡ count_by (is_named (codes "host")) hs
+counted_host [] n = counts_not (is_named (codes "host")) (length_header n) [] (length_is_no_host (numeral 10 n))
+counted_host (h ∷ hs) n = counted_more (is_named (codes "host")) h hs (length_header n ∷ []) (is_named (codes "host") h) refl (counted_host hs n)
+
+one_host : (hs : List Header) (n : ℕ) → count_by (is_named (codes "host")) hs ≡ 1 → (known_fields (hs ++ length_header n ∷ [])).hosts ≡ 1
 unfolding known_fields
-one_host s j n =
-    let p = is_named (codes "host") in
-    let rest = no_hosts (further_of s j n) (further_headers s j n) in
-    let host : Header = (codes "host", string_bytes s.host) in
-    let count : count_by p (host ∷ further_of s j n) ≡ 1 = counts p host (further_of s j n) (host_is_host (string_bytes s.host)) ∙ ap (λ (k : ℕ). 1 + k) rest in
-    ap (λ (k : ℕ). min k 2) count
+one_host hs n one = ap (λ (k : ℕ). min k 2) (counted_host hs n ∙ one)
 
-valid_headers : (s : Service) (j : AssignedJob) (n : ℕ) → is_sent (string_bytes s.host) ≡ true → are_headers (all_of s j n) ≡ true
+length_valid : (n : ℕ) → is_header (length_header n) ≡ true
+length_valid n = and_from (is_token (codes "content-length")) (is_trimmed_value (numeral 10 n)) length_token (decimal_is_trimmed n)
+
+valid_headers : (hs : List Header) (n : ℕ) → list_all is_header hs ≡ true → are_headers (hs ++ length_header n ∷ []) ≡ true
 unfolding are_headers
-valid_headers s j n hosted = and_from _ _ (and_from _ _ host_token (both_true _ _ hosted).1) (all_valid (further_of s j n) (further_headers s j n))
+valid_headers hs n valid = list_all-append is_header hs (length_header n ∷ []) ∙ and_from _ _ valid (and_from _ _ (length_valid n) refl)
 
 -- ---- the framing
 
@@ -281,41 +284,55 @@ post_token : is_token POST ≡ true
 unfolding is_token_byte
 post_token = refl
 
+-- the request of a job can be sent
+pub job_can_be_sent : (s : Service) (j : AssignedJob) → is_sent (string_bytes s.host) ≡ true → is_visible (string_bytes s.path) ≡ true → CanBeSent (target_of s j) (headers_of s j)
+job_can_be_sent s j hosted visible =
+    let p = is_named (codes "host") in
+    let host : Header = (codes "host", string_bytes s.host) in
+    let more = further_of s j in
+    let further = further_headers s j in
+    record {
+      aimed = visible_target s j visible;
+      valid = and_from _ _ (and_from _ _ host_token (both_true _ _ hosted).1) (all_valid more further);
+      hosted = counts p host more (host_is_host (string_bytes s.host)) ∙ ap (λ (k : ℕ). 1 + k) (no_hosts more further);
+      ordinary = ordinary_headers s j;
+    }
+
 -- ---- nothing is refused
 
-module _ (limits : Limits) (s : Service) (j : AssignedJob) (n : ℕ) (small : n < 2 ^ 64) (hosted : is_sent (string_bytes s.host) ≡ true) (visible : is_visible (string_bytes s.path) ≡ true) where
+module _ (limits : Limits) (target : List ℕ) (hs : List Header) (n : ℕ) (small : n < 2 ^ 64) (can : CanBeSent target hs) where
   abbrev the_plan : Plan
-  the_plan = record { extra = length_header n ∷ []; framing = Framed.Length n; keep_alive = not (known_fields (headers_of s j ++ length_header n ∷ [])).close }
+  the_plan = record { extra = length_header n ∷ []; framing = Framed.Length n; keep_alive = not (known_fields (hs ++ length_header n ∷ [])).close }
 
   abbrev plan_by : List Header → Result Plan WriteError
-  plan_by extra = let k = known_fields (headers_of s j ++ extra) in cond (eqb k.hosts 1) (plan_framed (Known n) extra k (request_framing Method.Other 1 k)) (Err Refusal.Host)
+  plan_by extra = let k = known_fields (hs ++ extra) in cond (eqb k.hosts 1) (plan_framed (Known n) extra k (request_framing Method.Other 1 k)) (Err Refusal.Host)
 
-  pub plan_is : request_plan (new_client limits) POST (Known n) (headers_of s j) ≡ Ok the_plan
+  pub plan_is : request_plan (new_client limits) POST (Known n) hs ≡ Ok the_plan
   unfolding plan_fields
   plan_is =
-      let o = ordinary_headers s j in
-      let k = known_fields (headers_of s j ++ length_header n ∷ []) in
+      let o = can.ordinary in
+      let k = known_fields (hs ++ length_header n ∷ []) in
       let extra = length_header n ∷ [] in
-      ap plan_by (adds_length (headers_of s j) n o)
-      ∙ ap (λ (h : ℕ). cond (eqb h 1) (plan_framed (Known n) extra k (request_framing Method.Other 1 k)) (Err Refusal.Host)) (one_host s j n)
-      ∙ ap (λ (f : Result Framing FramingError). plan_framed (Known n) extra k f) (framed_by_length (headers_of s j) n small o)
+      ap plan_by (adds_length hs n o)
+      ∙ ap (λ (h : ℕ). cond (eqb h 1) (plan_framed (Known n) extra k (request_framing Method.Other 1 k)) (Err Refusal.Host)) (one_host hs n can.hosted)
+      ∙ ap (λ (f : Result Framing FramingError). plan_framed (Known n) extra k f) (framed_by_length hs n small o)
       ∙ ap (λ (b : Bool). cond (not b) (Err Refusal.BodySize) (cond (not (is_plain k)) (Err Refusal.UnusualFraming) (Ok the_plan))) (eq-eqb n n refl)
-      ∙ ap (λ (b : Bool). cond (not b) (Err Refusal.UnusualFraming) (Ok the_plan)) (plain_request (headers_of s j) n small o)
+      ∙ ap (λ (b : Bool). cond (not b) (Err Refusal.UnusualFraming) (Ok the_plan)) (plain_request hs n small o)
 
-  pub head_accepted : request_refusal (new_client limits) POST (target_of s j) (Known n) (headers_of s j) ≡ None
+  pub head_accepted : request_refusal (new_client limits) POST target (Known n) hs ≡ None
   head_accepted =
-      let line : is_request_line POST (target_of s j) 1 ≡ true = and_from _ _ post_token (and_from _ _ (visible_target s j visible) refl) in
-      ap (λ (r : Result Plan WriteError). plan_refusal r (is_request_line POST (target_of s j) 1) (headers_of s j)) plan_is
-      ∙ ap (λ (b : Bool). head_refusal b (headers_of s j ++ length_header n ∷ [])) line
-      ∙ ap (λ (b : Bool). cond b None (Some Refusal.InvalidHeader)) (valid_headers s j n hosted)
+      let line : is_request_line POST target 1 ≡ true = and_from _ _ post_token (and_from _ _ can.aimed refl) in
+      ap (λ (r : Result Plan WriteError). plan_refusal r (is_request_line POST target 1) hs) plan_is
+      ∙ ap (λ (b : Bool). head_refusal b (hs ++ length_header n ∷ [])) line
+      ∙ ap (λ (b : Bool). cond b None (Some Refusal.InvalidHeader)) (valid_headers hs n can.valid)
 
-  pub data_accepted : data_refusal (writing (after_request (new_client limits) POST (Known n) (headers_of s j))) n ≡ None
+  pub data_accepted : data_refusal (writing (after_request (new_client limits) POST (Known n) hs)) n ≡ None
   data_accepted =
-      ap (λ (r : Result Plan WriteError). data_refusal (writing (requesting (new_client limits) POST (headers_of s j) r)) n) plan_is
+      ap (λ (r : Result Plan WriteError). data_refusal (writing (requesting (new_client limits) POST hs r)) n) plan_is
       ∙ ap (λ (b : Bool). cond b (Some Refusal.BodyTooLong) None) (le-ltb n n (omega arith))
 
-  pub end_accepted : finish_refusal (after_data (writing (after_request (new_client limits) POST (Known n) (headers_of s j))) n) [] ≡ None
+  pub end_accepted : finish_refusal (after_data (writing (after_request (new_client limits) POST (Known n) hs)) n) [] ≡ None
   end_accepted =
       let zero_left : ltb 0 (n - n) ≡ false = le-ltb 0 (n - n) (omega arith) in
-      ap (λ (r : Result Plan WriteError). finish_refusal (after_data (writing (requesting (new_client limits) POST (headers_of s j) r)) n) []) plan_is
+      ap (λ (r : Result Plan WriteError). finish_refusal (after_data (writing (requesting (new_client limits) POST hs r)) n) []) plan_is
       ∙ ap (λ (b : Bool). cond b (Some Refusal.BodyTooShort) None) zero_left

@@ -2,7 +2,7 @@
 use Rattle.std.proofs.Common.{◌≡◌, ℕ, min, Bool, true, false, not, cond, ltb, eqb, ◌&&◌, ◌||◌, List, [], ◌∷◌, ◌++◌, length, codes, Option, Some, None, Result, Ok, Err, sym, refl, ap, ◌∙◌, subst, subst₂, append_assoc, count_by, string_bytes}
 use Rattle.std.specs.Prelude.{IsOk, MatchOption}
 use Rattle.http1.specs.declared.encode.Frame.{Frame}
-use Rattle.std.specs.List.{AllByRecursion, list_any}
+use Rattle.std.specs.List.{list_any}
 use Rattle.std.proofs.lemmas.List.{append-nil}
 use Rattle.std.proofs.lemmas.List.Folds.{list_any-append}
 use Rattle.http1.specs.declared.framing.FramingError.TheVariants.{InvalidTransferEncoding}
@@ -31,16 +31,9 @@ use Rattle.http1.proofs.MessageRoundTrip.{request_plan_framed}
 use Rattle.http_jobs.specs.declared.service.Service.{Service}
 use Rattle.gear_packets.specs.Response.{AssignedJob}
 use Rattle.http_jobs.specs.Values.{is_sent}
+use Rattle.http_jobs.specs.Post.{AreOrdinary, IsOrdinary}
 use Rattle.http_jobs.specs.Request.{sent_header, headers_of}
 use Rattle.http_jobs.specs.Reading.{HasAsked}
-
--- a header that neither frames the body nor asks for another protocol
-pub record IsOrdinary (h : Header) : Type 0 where
-  pub framing : is_framing_field h ≡ false
-  pub upgrade : is_named (codes "upgrade") h ≡ false
-
-abbrev pub AreOrdinary : List Header → Type 0
-AreOrdinary hs = AllByRecursion IsOrdinary hs
 
 ordinary_both : (xs ys : List Header) → AreOrdinary xs → AreOrdinary ys → AreOrdinary (xs ++ ys)
 ordinary_both [] ys a b = b

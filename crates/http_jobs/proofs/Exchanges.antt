@@ -6,14 +6,14 @@ use Rattle.std.specs.Prelude.{IfErr}
 use Rattle.byte_io.specs.Sides.{Input, Output, and_then, counted}
 use Rattle.byte_io.proofs.Devices.{told_twice, counted_twice, counted_nothing, told_nothing}
 use Rattle.job_runner.specs.Run.{Link}
-use Rattle.http_jobs.specs.declared.exchanging.Done.{Done}
+use Rattle.http_jobs.specs.declared.answers.Received.{Received}
 use Rattle.http_jobs.specs.declared.fault.NotDone.{NotDone}
 use Rattle.http_jobs.specs.declared.fault.NotDone.TheVariants.{Unserved as Not, Memory}
 use Rattle.http_jobs.specs.declared.fault.Unserved.TheVariants as why
 use Rattle.http_jobs.specs.Clock.{shown_then, is_past, InTime, IsLate}
 use Rattle.http_jobs.specs.Reasons.{Seen, NotReceived, NotSent}
 use Rattle.http_jobs.specs.Reading.{StepFails, FillFails}
-use Rattle.http_jobs.specs.Exchange.{Sees, IsDone, Explains}
+use Rattle.http_jobs.specs.Exchange.{Sees, IsReceived, Explains}
 use Rattle.http_jobs.specs.Response.{head_limits}
 
 pub has_status : {status : Option ℕ} {code : ℕ} → status ≡ Some code → IsSome status
@@ -153,13 +153,12 @@ not_sent deadline times old new (Not (why.Status status)) h = absurd h
 not_sent deadline times old new (Not why.Endless) h = absurd h
 not_sent deadline times old new Memory h = absurd h
 
--- the result of a receive is that of an exchange
-pub received : (deadline : Option ℕ) (times : List (Option ℕ)) (max : ℕ) (seen : Seen) (old mid new : Link) (r : Result Done NotDone) → InTime deadline times → mid.input ≡ old.input → MatchResult r (IsDone head_limits max seen.read) (NotReceived head_limits deadline seen mid.input new.input) → MatchResult r (IsDone head_limits max seen.read) (Explains deadline (before_it times seen) old new)
+-- the result of a receive is that of the whole call
+pub received : (deadline : Option ℕ) (times : List (Option ℕ)) (max : ℕ) (seen : Seen) (old mid new : Link) (r : Result Received NotDone) → InTime deadline times → mid.input ≡ old.input → MatchResult r (IsReceived head_limits max seen.read) (NotReceived head_limits deadline seen mid.input new.input) → MatchResult r (IsReceived head_limits max seen.read) (Explains deadline (before_it times seen) old new)
 received deadline times max seen old mid new (Ok done) before same h = h
 received deadline times max seen old mid new (Err e) before same h = not_received deadline times seen old mid new e before same h
 
--- the limits of the client and the bound of the body are those of the job
-pub received_at : (limits now : Limits) (bound max : ℕ) (deadline : Option ℕ) (seen : Seen) (old new : Input) (r : Result Done NotDone) → limits ≡ now → bound ≡ max → MatchResult r (IsDone limits bound seen.read) (NotReceived limits deadline seen old new) → MatchResult r (IsDone now max seen.read) (NotReceived now deadline seen old new)
-received_at limits now bound max deadline seen old new r same size h =
-    subst (λ (l : Limits). MatchResult r (IsDone l max seen.read) (NotReceived l deadline seen old new)) same
-    (subst (λ (n : ℕ). MatchResult r (IsDone limits n seen.read) (NotReceived limits deadline seen old new)) size h)
+-- the limits are those of the client
+pub received_at : (limits now : Limits) (max : ℕ) (deadline : Option ℕ) (seen : Seen) (old new : Input) (r : Result Received NotDone) → limits ≡ now → MatchResult r (IsReceived limits max seen.read) (NotReceived limits deadline seen old new) → MatchResult r (IsReceived now max seen.read) (NotReceived now deadline seen old new)
+received_at limits now max deadline seen old new r same h =
+    subst (λ (l : Limits). MatchResult r (IsReceived l max seen.read) (NotReceived l deadline seen old new)) same h

@@ -1,22 +1,43 @@
 -- A whole exchange: one request, and one response.
 use Rattle.std.specs.Prelude.{◌≡◌, ℕ, ◌+◌, ◌-◌, ◌^◌, ◌≤◌, ◌⊎◌, List, [], length, Option, Bool, true, false, IsTrue}
-use Rattle.httparse.specs.Grammar.{ResponseHead}
+use Rattle.httparse.specs.Grammar.{ResponseHead, status_code}
+use Rattle.http1.specs.Message.{Response}
 use Rattle.http1.specs.declared.conn.Limits.{Limits}
 use Rattle.byte_io.specs.Sides.{Input, and_then, counted}
 use Rattle.job_runner.specs.Run.{Link}
 use Rattle.job_runner.specs.Told.{Told, told_of}
+use Rattle.http_jobs.specs.declared.answers.Answer.{Answer}
+use Rattle.http_jobs.specs.declared.answers.Received.{Received}
+use Rattle.http_jobs.specs.declared.answers.Received.TheVariants as received
 use Rattle.http_jobs.specs.declared.exchanging.Done.{Done}
 use Rattle.http_jobs.specs.declared.fault.NotDone.{NotDone}
 use Rattle.http_jobs.specs.declared.fault.NotDone.TheVariants.{Unserved as Not, Memory}
 use Rattle.http_jobs.specs.declared.fault.Unserved.TheVariants as why
 use Rattle.http_jobs.specs.Clock.{IsLate, shown_then}
 use Rattle.http_jobs.specs.Reasons.{Seen, HasStatus}
-use Rattle.http_jobs.specs.Response.{Reports, OnlyLarger, HoldsNoAnswer, NeverAnswers, failed_with, keeps_connection, head_limits}
+use Rattle.http_jobs.specs.Response.{Answers, Reports, OnlyLarger, HoldsNoAnswer, NeverAnswers, failed_with, is_unserved, head_limits}
+use Rattle.http_jobs.specs.Response.{ends_with_connection, keeps_connection}
 
 -- the source gave what was seen, and the clock showed it
 abbrev pub Sees : Input → Option (List (Option ℕ)) → Seen → Input → Option (List (Option ℕ)) → Type 0
 Sees old shown seen new shown_now =
     (new.given ≡ and_then old.given seen.read) × (new.lulls ≡ counted old.lulls seen.lulls) × (shown_now ≡ shown_then shown seen.times)
+
+-- What was read holds this response, whole. The connection is kept only if the head allows it and nothing came behind the response.
+pub record IsAnswerIn (limits : Limits) (read : List ℕ) (answer : Answer) : Type 0 where
+  pub response : Response
+  pub rest : List ℕ
+  pub answers : Answers limits read response rest
+  pub served : is_unserved (status_code response.head) ≡ false
+  pub status : answer.status ≡ status_code response.head
+  pub body : answer.body.items ≡ response.body.bytes
+  pub ends : answer.is_unbounded ≡ ends_with_connection response.head
+  pub kept : answer.is_kept ≡ true → IsTrue (keeps_connection response.head) × (rest ≡ [])
+
+-- what was read holds a response, whole, or each that begins so has a larger body
+abbrev pub IsReceived : Limits → ℕ → List ℕ → Received → Type 0
+IsReceived limits max read (received.Whole answer) = IsAnswerIn limits read answer
+IsReceived limits max read received.TooLarge = OnlyLarger limits max read
 
 -- What was read answers the job, which reports this. Either it is what the response reports: then the connection is kept only if the head
 -- allows it and nothing came behind the response. Or the body was too large, and the job failed.

@@ -1,6 +1,7 @@
 pub mod Values
 pub mod Service
 pub mod Clock
+pub mod Post
 pub mod Request
 pub mod Response
 pub mod Reasons

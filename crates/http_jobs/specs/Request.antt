@@ -5,8 +5,7 @@ use Rattle.percent_encoding.specs.Percent.{percent_encode}
 use Rattle.gear_packets.specs.Frame.{body_limit}
 use Rattle.gear_packets.specs.Response.{AssignedJob}
 use Rattle.http1.specs.Fields.{Header}
-use Rattle.http1.specs.Head.{request_text}
-use Rattle.http1.specs.Conn.{length_header}
+use Rattle.http_jobs.specs.Post.{post_text}
 use Rattle.http_jobs.specs.Values.{is_sent}
 use Rattle.http_jobs.specs.declared.service.Service.{Service}
 use Rattle.http_jobs.specs.declared.request.TheConstants.{UNRESERVED}
@@ -33,8 +32,7 @@ headers_of s j =
 
 -- the request, head and body
 abbrev pub request_of : Service → AssignedJob → List ℕ
-request_of s j =
-    request_text (codes "POST") (target_of s j) 1 (headers_of s j ++ length_header (length j.payload) ∷ []) ++ j.payload
+request_of s j = post_text (target_of s j) (headers_of s j) j.payload
 
 -- the most bytes of a body that a packet can hold beside the job's handle and the NUL that ends it
 abbrev pub most_body : AssignedJob → ℕ

@@ -1,10 +1,12 @@
 //! Jobs that a service behind HTTP does: one request and one response for each, over a connection that is kept.
 #![tactic(auto)]
 
+mod answers;
 mod clock;
 mod exchanging;
 mod fault;
 mod outcome;
+mod posts;
 mod reader;
 mod request;
 mod sending;
@@ -13,9 +15,11 @@ mod service_jobs;
 mod tcp;
 mod values;
 
+pub use answers::{Answer, Bounds, Received, ask};
 pub use clock::Clock;
 pub use exchanging::{Done, exchange};
 pub use fault::{NotDone, Unserved};
+pub use posts::Post;
 pub use service::{Service, ServiceError};
 pub use service_jobs::{Dial, Look, ServiceJobs};
 pub use tcp::{CallTimes, SystemClock, TcpDial};

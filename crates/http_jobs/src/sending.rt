@@ -7,7 +7,7 @@ ghost use Rattle.http_jobs.specs.Reasons.{NotSent};
 
 use crate::clock::{Clock, is_late};
 use crate::fault::{NotDone, Unserved};
-use crate::request::EncodedRequest;
+use crate::posts::EncodedRequest;
 use byte_io::Sink;
 
 /// Writes all the bytes, in as many writes as the sink needs. Before each write it looks at the clock. If a write fails or the deadline

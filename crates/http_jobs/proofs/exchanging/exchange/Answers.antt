@@ -1,32 +1,35 @@
-use Rattle.std.proofs.Common.{◌≡◌, ◌∙◌, ap}
+use Rattle.std.proofs.Common.{◌≡◌, ◌∙◌, ℕ, ap, sym, subst, subst₂}
 use Rattle.std.proofs.lemmas.Result.{err_from_is_err_and}
-use Rattle.http1.specs.declared.client.Client.{Client}
+use Rattle.http1.specs.Head.{pairs}
 use Rattle.gear_packets.specs.Reading.{job_of}
-use Rattle.job_runner.specs.Run.{seen_link}
-use Rattle.http_jobs.specs.Request.{most_body}
+use Rattle.http_jobs.specs.Exchange.{IsDone}
+use Rattle.http_jobs.specs.Post.{CanBeSent}
+use Rattle.http_jobs.specs.Request.{headers_of, target_of}
 use Rattle.http_jobs.specs.Response.{head_limits}
-use Rattle.http_jobs.proofs.Exchanges.{in_time_behind, sees_nothing, sees_times, sees_before, nothing, only_times, before_it, not_sent, received, received_at}
+use Rattle.http_jobs.proofs.Accepted.{job_can_be_sent}
+use Rattle.http_jobs.proofs.Exchanges.{sees_nothing, nothing}
 use Rattle.http_jobs.proofs.exchanging.exchange.Goals as goal
 
-pub returns-in_err-request-clause-exchanged : goal.returns-in_err-request-clause-exchanged
-returns-in_err-request-clause-exchanged g c =
+pub returns-in_err-target-clause-exchanged : goal.returns-in_err-target-clause-exchanged
+returns-in_err-target-clause-exchanged g c =
     let p = err_from_is_err_and c.from_residual.result c.from_residual.ensures.1 in
     (nothing, sees_nothing (g.L.Device.input c.args.link.now) (g.C.Clock.shown c.args.clock.now), rw p.1 tt, rw (p.1, p.2) tt)
 
-pub returns-in_err-send_request-clause-exchanged : goal.returns-in_err-send_request-clause-exchanged
-returns-in_err-send_request-clause-exchanged g c =
-    let seen = seen_link g.L.Device.input g.L.Device.output in
-    let why = c.in_err-send_request.ensures.why in
-    let p = err_from_is_err_and c.from_residual-in_err-send_request.result c.from_residual-in_err-send_request.ensures.1 in
-    (only_times why.0, sees_times (g.L.Device.input c.args.link.now) (g.L.Device.input c.send_request.new.link) (g.C.Clock.shown c.args.clock.now) (g.C.Clock.shown c.send_request.new.clock) why.0 c.send_request.ensures.input why.1, rw p.1 tt, rw (p.1, p.2) (not_sent c.args.deadline why.0 (seen c.args.link.now) (seen c.send_request.new.link) c.in_err-send_request.field-0.0 why.3))
+pub returns-in_err-headers-clause-exchanged : goal.returns-in_err-headers-clause-exchanged
+returns-in_err-headers-clause-exchanged g c =
+    let p = err_from_is_err_and c.from_residual-in_err-headers.result c.from_residual-in_err-headers.ensures.1 in
+    (nothing, sees_nothing (g.L.Device.input c.args.link.now) (g.C.Clock.shown c.args.clock.now), rw p.1 tt, rw (p.1, p.2) tt)
+
+pub ask-requires-clause-sendable : goal.ask-requires-clause-sendable
+ask-requires-clause-sendable g c =
+    let service = c.args.service.now in
+    let job = job_of c.args.job.now in
+    let same_target : c.as_bytes.result.now ≡ target_of service job = c.as_bytes.ensures.value ∙ c.in_ok-target.ensures in
+    let same_headers : pairs c.as_slice.result.now ≡ headers_of service job = ap pairs c.as_slice.ensures.value ∙ c.in_ok-headers.ensures in
+    subst₂ CanBeSent (sym same_target) (sym same_headers) (job_can_be_sent service job service.hosted service.visible)
 
 pub returns-clause-exchanged : goal.returns-clause-exchanged
 returns-clause-exchanged g c =
-    let seen = seen_link g.L.Device.input g.L.Device.output in
-    let job = job_of c.args.job.now in
-    let why = c.in_ok-send_request.ensures.why in
-    let got = c.receive.ensures.received in
-    let fresh : c.encode_request.new.client.limits ≡ head_limits = c.in_ok-request.ensures.asked.limited ∙ ap (λ (x : Client). x.limits) c.new-client.ensures in
-    let result = received c.args.deadline why.0 (most_body job) got.0 (seen c.args.link.now) (seen c.send_request.new.link) (seen c.receive.new.link) c.receive.result why.2 c.send_request.ensures.input
-    (received_at c.encode_request.new.client.limits head_limits _ (most_body job) c.args.deadline got.0 (g.L.Device.input c.send_request.new.link) (g.L.Device.input c.receive.new.link) c.receive.result fresh c.most_body.ensures got.3) in
-    (before_it why.0 got.0, sees_before (g.L.Device.input c.args.link.now) (g.L.Device.input c.send_request.new.link) (g.L.Device.input c.receive.new.link) (g.C.Clock.shown c.args.clock.now) (g.C.Clock.shown c.send_request.new.clock) (g.C.Clock.shown c.receive.new.clock) why.0 got.0 c.send_request.ensures.input why.1 got.1, in_time_behind c.args.deadline why.0 got.0.times c.receive.result why.2 got.2, result)
+    let got = c.in_ok-received.ensures.answered in
+    let most = c.most_body.result in
+    (got.0, got.1, got.2, subst (λ (n : ℕ). IsDone head_limits n got.0.read c.in_ok-done_of.field-0) c.most_body.ensures (c.in_ok-done_of.ensures head_limits most got.0.read got.3))

@@ -1,8 +1,7 @@
-use Rattle.std.proofs.Common.{◌∙◌, ◌≤◌, ℕ, ◌++◌, length, length-append, sym, refl, subst, inr, arith}
-use Rattle.std.proofs.lemmas.Result.{err_from_is_err_and}
+use Rattle.std.proofs.Common.{◌∙◌, ◌≤◌, ℕ, ◌++◌, length, length-append, sym, refl, subst, arith}
 use Rattle.http_jobs.proofs.Coming.{starts_reader}
 use Rattle.http_jobs.proofs.Exchanges.{in_time_more, has_status, nothing, sees_nothing, sees_time, sees_read, after_look, after_read, step_fails, fill_fails}
-use Rattle.http_jobs.proofs.exchanging.receive.Goals as goal
+use Rattle.http_jobs.proofs.answers.receive.Goals as goal
 
 pub conclude-requires-clause-head : goal.conclude-requires-clause-head
 conclude-requires-clause-head g c =
@@ -11,24 +10,18 @@ conclude-requires-clause-head g c =
     let whole = steps c.args.client.limits so_far.0.read so_far.2 in
     has_status whole.is
 
-pub returns-in_err-conclude-in-Ok-Whole-clause-received : goal.returns-in_err-conclude-in-Ok-Whole-clause-received
-returns-in_err-conclude-in-Ok-Whole-clause-received g c =
-    let so_far = c.loop-turn.invariant.partway in
-    let p = err_from_is_err_and c.from_residual.result c.from_residual.ensures.1 in
-    (so_far.0, so_far.1, rw p.1 tt, rw (p.1, p.2) tt)
-
 pub returns-in-Ok-Whole-clause-received : goal.returns-in-Ok-Whole-clause-received
 returns-in-Ok-Whole-clause-received g c =
     let so_far = c.loop-turn.invariant.partway in
     let steps = rw c.in-Ok-Whole.field-0-is at c.in-Ok-Whole.ensures.steps in
     let whole = steps c.args.client.limits so_far.0.read so_far.2 in
-    (so_far.0, so_far.1, so_far.4, c.in_ok-conclude-in-Ok-Whole.ensures c.args.bounds.max_body c.args.client.limits so_far.0.read whole)
+    (so_far.0, so_far.1, so_far.4, c.conclude.ensures c.args.client.limits so_far.0.read whole)
 
 pub returns-in-Ok-TooLarge-clause-received : goal.returns-in-Ok-TooLarge-clause-received
 returns-in-Ok-TooLarge-clause-received g c =
     let so_far = c.loop-turn.invariant.partway in
     let steps = rw c.in-Ok-TooLarge.field-0-is at c.in-Ok-TooLarge.ensures.steps in
-    (so_far.0, so_far.1, so_far.4, inr (steps c.args.client.limits so_far.0.read so_far.2, c.give_up.ensures.told, c.give_up.ensures.closed))
+    (so_far.0, so_far.1, so_far.4, steps c.args.client.limits so_far.0.read so_far.2)
 
 pub returns-in-Err-clause-received : goal.returns-in-Err-clause-received
 returns-in-Err-clause-received g c =
@@ -51,14 +44,6 @@ conclude-requires-in-Ok-Ended-clause-head g c =
     let whole = fills.5 c.args.client.limits so_far.0.read both.0 both.1 in
     has_status whole.is
 
-pub returns-in_err-conclude-in-Ok-Ended-clause-received : goal.returns-in_err-conclude-in-Ok-Ended-clause-received
-returns-in_err-conclude-in-Ok-Ended-clause-received g c =
-    let so_far = c.loop-turn.invariant.partway in
-    let look = c.is_late.ensures in
-    let fills = c.fill.ensures.fills in
-    let p = err_from_is_err_and c.from_residual-in_err-conclude-in-Ok-Ended.result c.from_residual-in_err-conclude-in-Ok-Ended.ensures.1 in
-    (after_read (after_look so_far.0 look.0) fills.0 fills.1, sees_read (g.L.Device.input c.args.link.now) (g.L.Device.input c.loop-turn.link) (g.L.Device.input c.fill.new.link) (g.C.Clock.shown c.args.clock.now) (g.C.Clock.shown c.is_late.new.clock) (after_look so_far.0 look.0) fills.0 fills.1 (sees_time (g.L.Device.input c.args.link.now) (g.L.Device.input c.loop-turn.link) (g.C.Clock.shown c.args.clock.now) (g.C.Clock.shown c.loop-turn.clock) (g.C.Clock.shown c.is_late.new.clock) so_far.0 look.0 so_far.1 look.1) fills.2 fills.3, rw p.1 tt, rw (p.1, p.2) tt)
-
 pub returns-in-Ok-Ended-clause-received : goal.returns-in-Ok-Ended-clause-received
 returns-in-Ok-Ended-clause-received g c =
     let limits = c.args.client.limits in
@@ -71,7 +56,7 @@ returns-in-Ok-Ended-clause-received g c =
       after_read (after_look so_far.0 look.0) fills.0 fills.1,
       sees_read (g.L.Device.input c.args.link.now) (g.L.Device.input c.loop-turn.link) (g.L.Device.input c.fill.new.link) (g.C.Clock.shown c.args.clock.now) (g.C.Clock.shown c.is_late.new.clock) (after_look so_far.0 look.0) fills.0 fills.1 (sees_time (g.L.Device.input c.args.link.now) (g.L.Device.input c.loop-turn.link) (g.C.Clock.shown c.args.clock.now) (g.C.Clock.shown c.loop-turn.clock) (g.C.Clock.shown c.is_late.new.clock) so_far.0 look.0 so_far.1 look.1) fills.2 fills.3,
       in_time_more c.args.bounds.deadline so_far.0.times look.0 so_far.4 (sym look.2 ∙ c.if-is_late.false),
-      c.in_ok-conclude-in-Ok-Ended.ensures c.args.bounds.max_body limits (so_far.0.read ++ fills.0) whole,
+      c.conclude-in-Ok-Ended.ensures limits (so_far.0.read ++ fills.0) whole,
     )
 
 pub returns-in-Err-fill-clause-received : goal.returns-in-Err-fill-clause-received

@@ -3,7 +3,7 @@ use Rattle.http_jobs.specs.Clock.{InTime}
 use Rattle.http_jobs.specs.Exchange.{Sees}
 use Rattle.http_jobs.specs.Reasons.{Seen}
 use Rattle.http_jobs.specs.Reading.{IsPartway}
-use Rattle.http_jobs.proofs.exchanging.receive.Given as goal
+use Rattle.http_jobs.proofs.answers.receive.Given as goal
 
 abbrev pub invariant-loop-turn : goal.invariant-loop-turn
 invariant-loop-turn g l = record {
