@@ -32,7 +32,7 @@ services_name names = unwrap_or names.services (codes "the services file")
 abbrev pub status_name : Names → List ℕ
 status_name names = unwrap_or names.status (codes "standard input")
 
--- what a fault is about: a file by its name, a lost worker by its name, or a standard stream
+-- what a fault is about: a file by its name, a lost worker by its name, a standard stream, or the page of a farm
 abbrev pub subject : Names → Fault → List ℕ
 subject names (fault.Settings mistake) = names.settings
 subject names (fault.File file.Settings why) = names.settings
@@ -42,6 +42,7 @@ subject names (fault.Status why) = status_name names
 subject names (fault.File file.Status why) = status_name names
 subject names (fault.UnknownWorker place) = get_or names.lost place []
 subject names fault.WriteFault = codes "standard output"
+subject names (fault.Page why) = codes "the page"
 subject names fault.Memory = codes "memory"
 subject names other = codes "standard input"
 

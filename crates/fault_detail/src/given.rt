@@ -19,7 +19,7 @@ pub struct Given<'a> {
 }
 
 impl<'a> Given<'a> {
-    /// What the fault is about: a file by its name, a lost worker by its name, or a standard stream.
+    /// What the fault is about: a file by its name, a lost worker by its name, a standard stream, or the page of a farm.
     pub fn subject(&self, fault: &Fault) -> &'a str
         ensures { result.now ≡ spec.subject (spec.names_of self.now) fault.now }
     {
@@ -29,6 +29,7 @@ impl<'a> Given<'a> {
             Fault::Status(_) | Fault::File(NamedFile::Status, _) => self.status_name(),
             Fault::UnknownWorker(place) => self.lost_name(*place),
             Fault::WriteFault => "standard output",
+            Fault::Page(_) => "the page",
             Fault::Memory => "memory",
             Fault::Report(_) | Fault::BadCommand(_) | Fault::TooLong | Fault::ReadFault => {
                 "standard input"

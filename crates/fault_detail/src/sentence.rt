@@ -37,6 +37,7 @@ pub fn sentence(alloc: Global, fault: &Fault) -> Result<String, AllocError> {
         Fault::TooLong => format!(in alloc; "{}", InputError::TooLong),
         Fault::ReadFault => format!(in alloc; "{}", InputError::ReadFault),
         Fault::WriteFault => String::from_str(alloc, "a write failed"),
+        Fault::Page(error) => format!(in alloc; "{error}"),
         Fault::Memory => String::from_str(alloc, "out of memory"),
     }
 }

@@ -57,6 +57,7 @@ judged_at p met whole (Err (fault.Status e)) judges = absurd judges
 judged_at p met whole (Err fault.TooLong) judges = absurd judges
 judged_at p met whole (Err fault.ReadFault) judges = absurd judges
 judged_at p met whole (Err fault.WriteFault) judges = absurd judges
+judged_at p met whole (Err (fault.Page e)) judges = absurd judges
 judged_at p met whole (Err (fault.File file e)) judges = absurd judges
 
 -- a problem and a report

@@ -33,6 +33,7 @@ settings_refused text lost side (fault.BadCommand n) reads = absurd reads
 settings_refused text lost side (fault.UnknownWorker place) reads = absurd reads
 settings_refused text lost side fault.TooLong reads = absurd reads
 settings_refused text lost side fault.WriteFault reads = absurd reads
+settings_refused text lost side (fault.Page e) reads = absurd reads
 settings_refused text lost side (fault.File file e) reads = absurd reads
 settings_refused text lost side (fault.Status e) reads = absurd reads
 settings_refused text lost side (fault.Report e) reads = absurd reads
@@ -48,6 +49,7 @@ lost_refused text lost side p fault.ReadFault good due = (let other = (due (λ q
 lost_refused text lost side p (fault.BadCommand n) good due = (let other = (due (λ q. cc)).0 in cc)
 lost_refused text lost side p fault.TooLong good due = (let other = (due (λ q. cc)).0 in cc)
 lost_refused text lost side p fault.WriteFault good due = (let other = (due (λ q. cc)).0 in cc)
+lost_refused text lost side p (fault.Page e) good due = (let other = (due (λ q. cc)).0 in cc)
 lost_refused text lost side p (fault.File file e) good due = (let other = (due (λ q. cc)).0 in cc)
 lost_refused text lost side p (fault.Services e) good due = (let other = (due (λ q. cc)).0 in cc)
 lost_refused text lost side p (fault.Settings e) good due = (let other = (due (λ q. cc)).0 in cc)
@@ -60,6 +62,7 @@ pub load_refused : (text : List ℕ) (lost : List (List ℕ)) (met : Met) (p : S
 load_refused text lost met p fault.Memory good workers told = (Ok p, good, inr told)
 load_refused text lost met p fault.ReadFault good workers told = (Ok p, good, ((p, refl, workers), told))
 load_refused text lost met p fault.WriteFault good workers told = absurd told
+load_refused text lost met p (fault.Page e) good workers told = (Ok p, good, (rw (workers, told.0) refl, told.1))
 load_refused text lost met p (fault.UnknownWorker place) good workers told = (Ok p, good, (rw (workers, told.0) refl, told.1))
 load_refused text lost met p (fault.BadCommand n) good workers told = (Ok p, good, (rw (workers, told.0) refl, told.1))
 load_refused text lost met p fault.TooLong good workers told = (Ok p, good, (rw (workers, told.0) refl, told.1))

@@ -18,6 +18,8 @@ use Rattle.plan_commands.specs.declared.ending.Exit.{Exit}
 use Rattle.plan_commands.specs.declared.fault.Fault.{Fault}
 use Rattle.plan_commands.specs.declared.fault.NamedFile.{NamedFile}
 use Rattle.plan_commands.specs.declared.fault.Fault.TheVariants as fault
+use Rattle.plan_commands.specs.declared.fault.PageError.{PageError}
+use Rattle.plan_commands.specs.declared.fault.PageError.TheVariants as page
 
 -- 3 if input is refused, 4 if memory or a device failed
 abbrev pub input_status : InputError → ℕ
@@ -28,6 +30,7 @@ abbrev pub status_of : Fault → ℕ
 status_of (fault.File file e) = input_status e
 status_of fault.ReadFault = 4
 status_of fault.WriteFault = 4
+status_of (fault.Page e) = 4
 status_of fault.Memory = 4
 status_of _ = 3
 
@@ -44,6 +47,12 @@ input_words input.ReadFault = codes "device 1 ReadFault"
 input_words input.TooLong = codes "input 1 TooLong"
 input_words input.Memory = codes "memory"
 
+-- why the page of a farm told no totals
+abbrev pub page_words : PageError → List ℕ
+page_words page.Unreached = codes "page 1 Unreached"
+page_words page.Unanswered = codes "page 2 Unanswered"
+page_words (page.Refused status) = codes "page 3 Refused status " ++ decimal status
+
 -- The fault as one line for a person and a script: a word for what is at fault, a number, a name, and the line.
 abbrev pub fault_line : Fault → List ℕ
 fault_line (fault.Settings mistake) = codes "settings " ++ label_words (settings_label mistake.error)
@@ -56,6 +65,7 @@ fault_line (fault.File file e) = input_words e
 fault_line fault.TooLong = input_words input.TooLong
 fault_line fault.ReadFault = input_words input.ReadFault
 fault_line fault.WriteFault = codes "device 2 WriteFault"
+fault_line (fault.Page e) = page_words e
 fault_line fault.Memory = codes "memory"
 
 -- Out of memory is one fault, whoever meets it.

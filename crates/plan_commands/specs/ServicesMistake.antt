@@ -9,7 +9,8 @@ use Rattle.pool_settings.specs.declared.error.SettingsError.TheVariants as setti
 use Rattle.service_settings.specs.Fault.{fault_of}
 use Rattle.service_settings.specs.Place.{place_view}
 use Rattle.service_settings.specs.Reading as services
-use Rattle.service_settings.specs.Services.{Services}
+use Rattle.service_settings.specs.Services.{Page, Services}
+use Rattle.service_settings.specs.declared.error.ServicesError.TheVariants.{Text}
 use Rattle.service_settings.specs.declared.fault.ServicesFault.{ServicesFault}
 use Rattle.service_settings.specs.declared.place.ServicesPlace.{ServicesPlace}
 use Rattle.service_settings.specs.declared.place.ServicesPlace.TheVariants as place
@@ -45,3 +46,17 @@ ReadsServices p services_text (Ok read) = services.reading p services_text ≡ O
 ReadsServices p services_text (Err (fault.Services mistake)) = IsServicesMistakeOf p services_text mistake
 ReadsServices p services_text (Err fault.Memory) = Unit {0}
 ReadsServices p services_text (Err other) = ⊥
+
+-- The mistake is the first of the file as it is read for its page, at a place where it is, as above.
+pub record IsPageMistakeOf (services_text : List ℕ) (mistake : ServicesMistake) : Type 0 where
+  pub in_tree : (tree : Members) → settings.tree_of services_text ≡ Some tree → services.page_reading tree ≡ Err (mistake_view mistake)
+  pub in_text : settings.tree_of services_text ≡ None → (mistake.error ≡ Text)
+      × ((at : settings.Where) × (kept_view mistake.place ≡ place.At at) × IsFoundIn services_text (settings_error.Text, at))
+
+-- What reading a services file for its page comes to: the page, or the first mistake of the file. Or memory is refused.
+abbrev pub ReadsPage : List ℕ → Result Page Fault → Type 0
+ReadsPage services_text (Ok page) =
+    (tree : Members) × (settings.tree_of services_text ≡ Some tree) × (services.page_reading tree ≡ Ok page)
+ReadsPage services_text (Err (fault.Services mistake)) = IsPageMistakeOf services_text mistake
+ReadsPage services_text (Err fault.Memory) = Unit {0}
+ReadsPage services_text (Err other) = ⊥

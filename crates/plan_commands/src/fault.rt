@@ -12,6 +12,7 @@ use pool_report::{ReadError, WriteError};
 use refusal::Labelled;
 use std::alloc::AllocError;
 use std::fmt;
+use thiserror::Error;
 
 /// A file that a command names, by what it holds.
 #[derive(Clone, Copy, Debug, PartialEq, Eq)]
@@ -22,6 +23,20 @@ pub enum NamedFile {
     Services,
     /// A status text.
     Status,
+}
+
+/// Why the page of a farm told no totals.
+#[derive(Clone, Copy, Debug, PartialEq, Eq, Error)]
+pub enum PageError {
+    /// No connection was opened: no farm has its page at this address.
+    #[error("nobody answers at its address")]
+    Unreached,
+    /// Connections were opened, and over none of them a whole answer came.
+    #[error("it gave no whole answer")]
+    Unanswered,
+    /// It answered with this status.
+    #[error("it answered with status {0}")]
+    Refused(u16),
 }
 
 /// Why a command ends without an answer. Each is displayed as its fault line, which is meant for a
@@ -50,6 +65,8 @@ pub enum Fault {
     ReadFault,
     /// A device that is written to failed.
     WriteFault,
+    /// The page of a farm told no totals.
+    Page(PageError),
     /// An allocation was refused.
     Memory,
 }
@@ -66,7 +83,7 @@ impl Fault {
     }
 
     /// The exit status of a command that ends with this fault: 3 if input is refused, and 4 if
-    /// memory or a device failed.
+    /// memory, a device or a page failed.
     pub fn status(&self) -> u8
         ensures { result ≡ spec.status_of self.now }
     {
@@ -79,7 +96,11 @@ impl Fault {
             | Fault::BadCommand(_)
             | Fault::File(_, InputError::TooLong)
             | Fault::TooLong => 3,
-            Fault::File(_, _) | Fault::ReadFault | Fault::WriteFault | Fault::Memory => 4,
+            Fault::File(_, _)
+            | Fault::ReadFault
+            | Fault::WriteFault
+            | Fault::Page(_)
+            | Fault::Memory => 4,
         }
     }
 }
@@ -113,6 +134,11 @@ impl fmt::Display for Fault {
             Fault::TooLong => f.write_str(input_words(InputError::TooLong)),
             Fault::ReadFault => f.write_str(input_words(InputError::ReadFault)),
             Fault::WriteFault => f.write_str("device 2 WriteFault"),
+            Fault::Page(PageError::Unreached) => f.write_str("page 1 Unreached"),
+            Fault::Page(PageError::Unanswered) => f.write_str("page 2 Unanswered"),
+            Fault::Page(PageError::Refused(status)) => {
+                write!(f, "page 3 Refused status {status}")
+            }
             Fault::Memory => f.write_str("memory"),
         }
     }
@@ -198,6 +224,17 @@ impl From<InputError> for Fault {
             InputError::TooLong => Fault::TooLong,
             InputError::Memory => Fault::Memory,
         }
+    }
+}
+
+impl From<PageError> for Fault {
+    ghost use Rattle.std.specs.Prelude.{◌≡◌};
+    ghost use Rattle.plan_commands.specs.declared.fault.Fault.TheVariants.{Page};
+
+    ghost from_gives = { λ error fault. fault ≡ Page error };
+
+    fn from(error: PageError) -> Fault {
+        Fault::Page(error)
     }
 }
 

@@ -15,11 +15,12 @@ mod services_mistake;
 
 pub use check::{Verdict, check_text};
 pub use ending::{Exit, deliver};
-pub use fault::{Fault, NamedFile};
+pub use fault::{Fault, NamedFile, PageError};
 pub use mistake::Mistake;
 pub use plan::plan_text;
 pub use problem::{Problem, pose, pose_text};
 pub use reading::{
-    read_services, read_services_file, read_settings, read_settings_file, services_in, settings_in,
+    read_page, read_services, read_services_file, read_settings, read_settings_file, services_in,
+    settings_in,
 };
 pub use services_mistake::ServicesMistake;

@@ -5,13 +5,13 @@ ghost use Rattle.toml.specs.View.{table_view};
 ghost use Rattle.pool_settings.specs.Reading.{tree_of};
 ghost use Rattle.pool_settings.specs.Settings as meant;
 ghost use Rattle.plan_commands.specs.Mistake as spec;
-ghost use Rattle.plan_commands.specs.ServicesMistake.{KeepsServices, ReadsServices};
+ghost use Rattle.plan_commands.specs.ServicesMistake.{KeepsServices, ReadsPage, ReadsServices};
 
 use crate::fault::Fault;
 use crate::mistake::Mistake;
 use crate::services_mistake::ServicesMistake;
 use pool_settings::{Settings, SettingsFault, SettingsFile};
-use service_settings::{Services, ServicesFault, ServicesFile};
+use service_settings::{Page, Services, ServicesFault, ServicesFile};
 use std::alloc::Global;
 
 impl Fault {
@@ -97,6 +97,7 @@ pub fn read_settings(alloc: Global, settings_text: &[u8]) -> Result<Settings, Fa
 pub fn read_services_file(alloc: Global, services_text: &[u8]) -> Result<ServicesFile, Fault>
     ensures ok { IfOk result (λ file. tree_of services_text.now ≡ Some (table_view file.tree)) }
     ensures refused { IfErr result (λ fault. (p : meant.Settings) → ReadsServices p services_text.now (Err fault)) }
+    ensures page { IfErr result (λ fault. ReadsPage services_text.now (Err fault)) }
 {
     match ServicesFile::read(alloc, services_text) {
         Ok(file) => Ok(file),
@@ -132,4 +133,16 @@ pub fn read_services(
 {
     let file = read_services_file(alloc, services_text)?;
     services_in(alloc, &file, settings)
+}
+
+/// The page that a services file writes, whatever the settings are. The fault is the first mistake that shows without them, with its place,
+/// also that there is no page, or `Memory`.
+pub fn read_page(alloc: Global, services_text: &[u8]) -> Result<Page, Fault>
+    ensures { ReadsPage services_text.now result }
+{
+    let file = read_services_file(alloc, services_text)?;
+    match file.page(alloc) {
+        Ok(page) => Ok(page),
+        Err(fault) => Err(Fault::of_services(alloc, &fault)),
+    }
 }

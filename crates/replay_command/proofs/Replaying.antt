@@ -23,6 +23,7 @@ refused_by text side (fault.BadCommand n) reads = absurd reads
 refused_by text side (fault.UnknownWorker place) reads = absurd reads
 refused_by text side fault.TooLong reads = absurd reads
 refused_by text side fault.WriteFault reads = absurd reads
+refused_by text side (fault.Page e) reads = absurd reads
 refused_by text side (fault.File file e) reads = absurd reads
 refused_by text side (fault.Status e) reads = absurd reads
 refused_by text side (fault.Report e) reads = absurd reads

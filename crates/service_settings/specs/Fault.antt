@@ -42,3 +42,8 @@ abbrev pub RefusesTree : Settings → Members → ServicesFault → Type 0
 RefusesTree settings tree (fault.At e at) =
     (e ≢ error.Memory) × (reading.first_fault settings tree ≡ Some (e, place_view (λ t. t.now) at))
 RefusesTree settings tree fault.Memory = reading.first_fault settings tree ≡ None
+
+-- A tree that is read for its page is refused by this fault, or memory is.
+abbrev pub RefusesPage : Members → ServicesFault → Type 0
+RefusesPage tree (fault.At e at) = reading.page_reading tree ≡ Err (e, place_view (λ t. t.now) at)
+RefusesPage tree fault.Memory = Unit {0}

@@ -283,12 +283,17 @@ Fault = ServicesError × Where
 abbrev pub fault_at : ServicesError → Option Where → Option Fault
 fault_at error found = option_map (λ at. (error, at)) found
 
-abbrev pub first_fault : Settings → Members → Option Fault
-first_fault settings tree = first_of (
+-- the first of the checks that need no settings
+abbrev pub first_fault_alone : Members → Option Fault
+first_fault_alone tree = first_of (
     fault_at fault.Version (bad_version tree)
     ∷ fault_at fault.UnknownKey (unknown_key tree)
     ∷ fault_at fault.MissingKey (missing_key tree)
-    ∷ fault_at fault.BadValue (bad_value tree)
+    ∷ fault_at fault.BadValue (bad_value tree) ∷ [])
+
+abbrev pub first_fault : Settings → Members → Option Fault
+first_fault settings tree = first_of (
+    first_fault_alone tree
     ∷ fault_at fault.UnknownMachine (unknown_name section.Machines settings tree)
     ∷ fault_at fault.UnknownFunction (unknown_name section.Functions settings tree)
     ∷ fault_at fault.Https (wrong_url rule.NoHttps tree)
@@ -298,6 +303,11 @@ first_fault settings tree = first_of (
 
 abbrev pub read_tree : Settings → Members → Result Services ServicesError
 read_tree settings tree = option_map_or (λ f. Err f.0) (first_fault settings tree) (Ok (services_of settings tree))
+
+-- What a file means that is read for its page: the page, if the checks that need no settings pass and there is one.
+abbrev pub page_reading : Members → Result Page Fault
+page_reading tree = option_map_or Err (first_fault_alone tree)
+    (option_map_or Ok (page_in tree) (Err (fault.MissingKey, at_key page_key)))
 
 -- what a services file means beside the settings, or its refusal
 abbrev pub reading : Settings → List ℕ → Result Services ServicesError

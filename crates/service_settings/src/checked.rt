@@ -13,11 +13,10 @@ use crate::values::bad_value;
 use pool_settings::{Section, Settings};
 use toml::Table;
 
-/// The first check that a tree fails beside the settings, with its place.
-pub fn checked<'f>(settings: &'f Settings, tree: &'f Table) -> Result<(), ServicesFault<'f>>
-    ensures first { fault_in result ≡ spec.first_fault settings.now (table_view tree.now) }
+/// The first check of versions, keys and values that a tree fails, with its place.
+pub fn checked_alone(tree: &Table) -> Result<(), ServicesFault<'_>>
+    ensures first { fault_in result ≡ spec.first_fault_alone (table_view tree.now) }
     ensures refusal { IfErr result (λ f. error_of f ≢ ServicesError.Memory) }
-    ensures urls { OnOk result (spec.no_url settings.now (table_view tree.now) ≡ None) }
 {
     if let Some(place) = bad_version(tree) {
         return Err(ServicesFault::At(ServicesError::Version, place));
@@ -28,8 +27,20 @@ pub fn checked<'f>(settings: &'f Settings, tree: &'f Table) -> Result<(), Servic
     if let Some(place) = missing_key(tree) {
         return Err(ServicesFault::At(ServicesError::MissingKey, place));
     }
-    if let Some(place) = bad_value(tree) {
-        return Err(ServicesFault::At(ServicesError::BadValue, place));
+    match bad_value(tree) {
+        Some(place) => Err(ServicesFault::At(ServicesError::BadValue, place)),
+        None => Ok(()),
+    }
+}
+
+/// The first check that a tree fails beside the settings, with its place.
+pub fn checked<'f>(settings: &'f Settings, tree: &'f Table) -> Result<(), ServicesFault<'f>>
+    ensures first { fault_in result ≡ spec.first_fault settings.now (table_view tree.now) }
+    ensures refusal { IfErr result (λ f. error_of f ≢ ServicesError.Memory) }
+    ensures urls { OnOk result (spec.no_url settings.now (table_view tree.now) ≡ None) }
+{
+    if let Err(fault) = checked_alone(tree) {
+        return Err(fault);
     }
     if let Some(place) = unknown_name(Section::Machines, settings, tree) {
         return Err(ServicesFault::At(ServicesError::UnknownMachine, place));

@@ -3,16 +3,17 @@
 ghost use Rattle.std.specs.Prelude.{◌≡◌, IfErr, IfOk, Ok, Some, length};
 ghost use Rattle.toml.specs.View.{table_view};
 ghost use Rattle.pool_settings.specs.Reading.{has_key, tree_of};
-ghost use Rattle.service_settings.specs.Fault.{RefusesText, RefusesTree};
+ghost use Rattle.service_settings.specs.Fault.{RefusesPage, RefusesText, RefusesTree};
 ghost use Rattle.service_settings.specs.Reading as spec;
 
 use crate::ServicesError;
-use crate::checked::checked;
+use crate::checked::{checked, checked_alone};
 use crate::fault::ServicesFault;
+use crate::page::Page;
 use crate::place::ServicesPlace;
 use crate::services::{Services, services_of};
 use crate::tree::{entry_table, value_at};
-use pool_settings::{Section, Settings, SettingsFault, SettingsFile};
+use pool_settings::{Place, Section, Settings, SettingsFault, SettingsFile};
 use std::alloc::Global;
 use toml::Table;
 
@@ -56,6 +57,22 @@ impl ServicesFile {
         checked(settings, &self.tree)?;
         let services = services_of(alloc, settings, &self.tree)?;
         Ok(services)
+    }
+
+    /// The page that the file writes, whatever the settings are. The first of the checks of versions, keys and values that the file fails
+    /// is its fault; if it fails none and has no page, that is `MissingKey` at `page`. Else only memory may be refused.
+    pub fn page(&self, alloc: Global) -> Result<Page, ServicesFault<'_>>
+        ensures ok { IfOk result (λ page. spec.page_reading (table_view self.now.tree) ≡ Ok page) }
+        ensures refused { IfErr result (RefusesPage (table_view self.now.tree)) }
+    {
+        checked_alone(&self.tree)?;
+        match Page::read(alloc, &self.tree)? {
+            Some(page) => Ok(page),
+            None => Err(ServicesFault::At(
+                ServicesError::MissingKey,
+                ServicesPlace::At(Place::Key("page")),
+            )),
+        }
     }
 
     /// Whether the top table has a key.
