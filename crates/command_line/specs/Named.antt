@@ -4,10 +4,10 @@ use Rattle.std.specs.Int.NonZero.{non_zero_u32_get}
 use Rattle.clap.specs.Words.{IsAmong, Kinds, kind_of}
 use Rattle.clap.specs.declared.error.Error.{Error}
 use Rattle.clap.specs.declared.error.kind.ErrorKind.TheVariants.{OutOfMemory}
-use Rattle.command_words.specs.Words.{Named, plan, check, size, check_size, replay, show_settings, run, serve}
+use Rattle.command_words.specs.Words.{Named, plan, check, size, check_size, replay, show_settings, run, serve, drain}
 use Rattle.command_words.specs.Words.{least_rounds, most_rounds}
 use Rattle.command_line.specs.declared.command.Command.{Command}
-use Rattle.command_line.specs.declared.command.Command.TheVariants.{Plan, Check, Size, CheckSize, Replay, Settings, Run, Serve}
+use Rattle.command_line.specs.declared.command.Command.TheVariants.{Plan, Check, Size, CheckSize, Replay, Settings, Run, Serve, Drain}
 use Rattle.command_line.specs.declared.command.CommandError.{CommandError}
 use Rattle.command_line.specs.declared.command.CommandError.TheVariants.{Usage, Memory}
 
@@ -21,6 +21,7 @@ named (Replay settings) = replay settings.now
 named (Settings settings services) = show_settings settings.now (option_map (λ t. t.now) services)
 named (Run settings rounds) = run settings.now rounds
 named (Serve settings services until_input) = serve settings.now services.now until_input
+named (Drain services) = drain services.now
 
 -- the rounds of a run, if the command is one, are neither too few nor too many
 abbrev pub HasRoundsInRange : Command → Type 0

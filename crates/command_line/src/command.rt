@@ -9,8 +9,8 @@ ghost use Rattle.command_words.specs.Words as spec;
 use clap::Error;
 use clap::error::ErrorKind;
 use command_words::{
-    check_size_words, check_words, overview, plan_words, replay_words, run_words, serve_words,
-    settings_words, size_words,
+    check_size_words, check_words, drain_words, overview, plan_words, replay_words, run_words,
+    serve_words, settings_words, size_words,
 };
 use std::alloc::{AllocError, Global};
 use std::convert::AsStr;
@@ -64,6 +64,10 @@ pub enum Command<'a> {
         settings: &'a str,
         services: &'a str,
         until_input: bool,
+    },
+    /// `drain SERVICES`: ends the running farm that has this services file, and tells what it came to.
+    Drain {
+        services: &'a str,
     },
 }
 
@@ -204,6 +208,17 @@ fn serve_of<'a, W: AsStr>(alloc: Global, words: &'a [W]) -> Result<Command<'a>, 
     }
 }
 
+fn drain_of<'a, W: AsStr>(alloc: Global, words: &'a [W]) -> Result<Command<'a>, CommandError>
+    ensures ok { IfOk result (λ c. spec.drain_in (matches_of spec.drain_app (map W.text words.now)) ≡ Some (named c)) }
+    ensures taken { IfOk result (λ _. fault_of spec.drain_app (map W.text words.now) ≡ []) }
+    ensures usage { IfErr result (IsOfKinds (fault_of spec.drain_app (map W.text words.now))) }
+{
+    match drain_words(alloc, words) {
+        Ok(services) => Ok(Command::Drain { services }),
+        Err(error) => Err(refused(error)),
+    }
+}
+
 /// The command of this name, from words of which it is the second, if it is one that takes no text from standard input.
 fn command_without_input<'a, W: AsStr>(
     alloc: Global,
@@ -222,6 +237,8 @@ fn command_without_input<'a, W: AsStr>(
         run_of(alloc, &words[1..])
     } else if name == "serve" {
         serve_of(alloc, &words[1..])
+    } else if name == "drain" {
+        drain_of(alloc, &words[1..])
     } else {
         Err(refused(overview(alloc, words)?))
     }

@@ -103,6 +103,10 @@ run_app = with_rules (new_app (codes "run")) (operand settings ∷ number rounds
 abbrev pub serve_app : App
 serve_app = with_rules (new_app (codes "serve")) (operand settings ∷ operand services ∷ flag until_input ∷ [])
 
+-- `drain SERVICES`
+abbrev pub drain_app : App
+drain_app = with_rules (new_app (codes "drain")) (operand services ∷ [])
+
 -- a command with its texts, a size with the level that is asked for, a run with its number of rounds, and `serve` with its flag
 pub data Named : Type 0 where
   plan : Text → List Text → Named
@@ -113,6 +117,7 @@ pub data Named : Type 0 where
   show_settings : Text → Option Text → Named
   run : Text → ℕ → Named
   serve : Text → Text → Bool → Named
+  drain : Text → Named
 
 abbrev pub lost_in : List Row → List Text
 lost_in rows = unwrap_or (all_of lost rows) []
@@ -186,13 +191,17 @@ serve_of rows s = option_map (λ t. serve s t (is_set until_input rows)) (first_
 abbrev pub serve_in : List Row → Option Named
 serve_in rows = option_and_then (serve_of rows) (first_of settings rows)
 
+abbrev pub drain_in : List Row → Option Named
+drain_in rows = option_map drain (first_of services rows)
+
 -- the command of a name that takes no text from standard input, from its own words, of which the name is the first
 abbrev pub named_without_input : Text → List Text → Option Named
 named_without_input name words =
     if bytes_eq name (codes "settings") then settings_in (matches_of settings_app words)
     else (if bytes_eq name (codes "run") then run_in (matches_of run_app words)
     else (if bytes_eq name (codes "serve") then serve_in (matches_of serve_app words)
-    else None))
+    else (if bytes_eq name (codes "drain") then drain_in (matches_of drain_app words)
+    else None)))
 
 -- the same of a command about sizes too
 abbrev pub named_of_sizes : Text → List Text → Option Named
@@ -217,12 +226,13 @@ command_in words = option_and_then (λ name. command_named name (drop 1 words)) 
 abbrev pub bare_app : App
 bare_app = on_top (λ top. record top { subcommand_required = true; has_version = true }) (new_app (codes "poolman"))
 
--- the command line that wants one of eight commands, each with its operands, by which words that name none are answered
+-- the command line that wants one of nine commands, each with its operands, by which words that name none are answered
 abbrev pub overview_app : App
 overview_app =
     with_subcommand (with_subcommand (with_subcommand (with_subcommand (with_subcommand (with_subcommand (with_subcommand (with_subcommand
-    bare_app
-    plan_app.top) check_app.top) size_app.top) check_size_app.top) replay_app.top) settings_app.top) run_app.top) serve_app.top
+    (with_subcommand bare_app
+    plan_app.top) check_app.top) size_app.top) check_size_app.top) replay_app.top) settings_app.top) run_app.top) serve_app.top)
+    drain_app.top
 
 -- what is wrong with words that name no command: the kinds of `clap`'s first fault, and else that a command is missing
 abbrev pub overview_faults : List Text → Kinds
@@ -234,7 +244,8 @@ faults_without_input words name =
     if bytes_eq name (codes "settings") then fault_of settings_app (drop 1 words)
     else (if bytes_eq name (codes "run") then fault_of run_app (drop 1 words)
     else (if bytes_eq name (codes "serve") then fault_of serve_app (drop 1 words)
-    else overview_faults words))
+    else (if bytes_eq name (codes "drain") then fault_of drain_app (drop 1 words)
+    else overview_faults words)))
 
 -- The same of a command about sizes too.
 abbrev pub faults_of_sizes : List Text → Text → Kinds

@@ -56,6 +56,12 @@ pub const SERVE: Help = Help {
     example: "Example: poolman serve settings.toml services.toml",
 };
 
+pub const DRAIN: Help = Help {
+    about: "Ends a running farm by its page, waits until it has ended, and prints its totals",
+    usage: "poolman drain SERVICES",
+    example: "Example: poolman drain services.toml",
+};
+
 pub const PROGRAM: Help = Help {
     about: "Plans which worker of a Gearman pool serves which function, and shows that no plan is better",
     usage: "poolman COMMAND ...",

@@ -5,6 +5,6 @@ mod help;
 mod operands;
 
 pub use operands::{
-    check_size_words, check_words, overview, plan_words, replay_words, run_words, serve_words,
-    settings_words, size_words,
+    check_size_words, check_words, drain_words, overview, plan_words, replay_words, run_words,
+    serve_words, settings_words, size_words,
 };

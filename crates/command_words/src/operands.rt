@@ -13,7 +13,9 @@ ghost use Rattle.clap.specs.declared.error.kind.ErrorKind.TheVariants.{ValueVali
 ghost use Rattle.command_words.specs.Required.{Requires, RequiresNumber};
 ghost use Rattle.command_words.specs.Words as spec;
 
-use crate::help::{CHECK, CHECK_SIZE, Help, PLAN, PROGRAM, REPLAY, RUN, SERVE, SETTINGS, SIZE};
+use crate::help::{
+    CHECK, CHECK_SIZE, DRAIN, Help, PLAN, PROGRAM, REPLAY, RUN, SERVE, SETTINGS, SIZE,
+};
 use clap::error::ErrorKind;
 use clap::{Arg, ArgAction, ArgMatches, Command, Error, value_parser};
 use std::alloc::{AllocError, Global};
@@ -102,7 +104,7 @@ fn services<'a>(alloc: Global) -> Arg<'a>
     operand(
         alloc,
         "SERVICES",
-        "The services file: where the jobs of each machine go",
+        "The services file: where the jobs of each machine go, and the page",
     )
 }
 
@@ -298,6 +300,15 @@ fn serve<'a>(alloc: Global) -> Result<Command<'a>, AllocError>
         .arg(until_input(alloc))
 }
 
+/// `drain` with its operand.
+fn drain<'a>(alloc: Global) -> Result<Command<'a>, AllocError>
+    ensures app { IfOk result (λ c. app_of c ≡ spec.drain_app) }
+    ensures local { IfOk result (λ c. (fields_of c).has_globals ≡ false) }
+    ensures services { IfOk result (Requires spec.services) }
+{
+    command(alloc, "drain", DRAIN).arg(services(alloc))
+}
+
 /// The word of an operand that has to be there.
 fn text_of<'a>(matches: &ArgMatches<'a>, id: &str) -> &'a str
     requires { is_some (first_value (found_of matches.now) id.now) ≡ true }
@@ -472,6 +483,16 @@ pub fn serve_words<'a, W: AsStr>(
     Ok((settings, services, until_input))
 }
 
+/// The text of the word of `drain`: its services.
+pub fn drain_words<'a, W: AsStr>(alloc: Global, words: &'a [W]) -> Result<&'a str, Error>
+    ensures services { IfOk result (λ m. first_of spec.services (matches_of spec.drain_app (map W.text words.now)) ≡ Some m.now) }
+    ensures kinds { FailsBy (fault_of spec.drain_app (map W.text words.now)) result }
+{
+    let command = drain(alloc)?;
+    let matches = command.try_get_matches_from(words)?;
+    Ok(text_of(&matches, "SERVICES"))
+}
+
 /// What the words of `run` give: its settings and its rounds.
 pub fn run_words<'a, W: AsStr>(alloc: Global, words: &'a [W]) -> Result<(&'a str, u32), Error>
     ensures settings { IfOk result (λ m. first_of spec.settings (matches_of spec.run_app (map W.text words.now)) ≡ Some m.0.now) }
@@ -508,7 +529,8 @@ fn program<'a>(alloc: Global) -> Result<Command<'a>, AllocError>
         .subcommand(replay(alloc)?)?
         .subcommand(show_settings(alloc)?)?
         .subcommand(run(alloc)?)?
-        .subcommand(serve(alloc)?)
+        .subcommand(serve(alloc)?)?
+        .subcommand(drain(alloc)?)
 }
 
 /// What to print if the words name no command: the help that they ask for, or what is wrong.

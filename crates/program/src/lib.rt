@@ -3,6 +3,7 @@
 
 mod carrying;
 mod lent;
+mod page_calls;
 mod whole;
 
 pub use carrying::carry_out;

@@ -24,6 +24,7 @@ fn texts_of<'a>(alloc: Global, words: &'a [&'a str]) -> Option<(&'a str, Option<
         } => Some((settings, Some(status), lost.len())),
         Command::Replay { settings } => Some((settings, None, 0)),
         Command::Settings { settings, services } => Some((settings, services, 0)),
+        Command::Drain { services } => Some(("", Some(services), 0)),
         Command::Run { .. } | Command::Serve { .. } => None,
     }
 }
@@ -92,6 +93,8 @@ fn commands_of_words(rt: HostRuntime) {
     assert!(rt; texts_of(alloc, &settings) == Some(("s.toml", None, 0)));
     let both = ["poolman", "settings", "s.toml", "v.toml"];
     assert!(rt; texts_of(alloc, &both) == Some(("s.toml", Some("v.toml"), 0)));
+    let drain = ["poolman", "drain", "v.toml"];
+    assert!(rt; texts_of(alloc, &drain) == Some(("", Some("v.toml"), 0)));
 }
 
 #[test]
@@ -250,6 +253,7 @@ fn help_lists_the_operands_either_way(rt: HostRuntime) {
     let serve = ["<SETTINGS>  ", "<SERVICES>  ", "--until-input  "];
     assert!(rt; helps(alloc, &["poolman", "serve", "--help"], &serve));
     assert!(rt; helps(alloc, &["poolman", "help", "serve"], &serve));
+    assert!(rt; helps(alloc, &["poolman", "drain", "--help"], &["<SERVICES>  "]));
     for name in ["replay", "settings"] {
         assert!(rt; helps(alloc, &["poolman", name, "--help"], &["<SETTINGS>  "]));
         assert!(rt; helps(alloc, &["poolman", "help", name], &["<SETTINGS>  "]));

@@ -17,7 +17,9 @@ returns c =
     let six = app_with_subcommand c.in_ok-subcommand-5.field-0 c.in_ok-show_settings.field-0 c.in_ok-subcommand-6.field-0 c.in_ok-subcommand-6.ensures
     c.in_ok-show_settings.ensures.local five c.in_ok-show_settings.ensures.app in
     let seven = app_with_subcommand c.in_ok-subcommand-6.field-0 c.in_ok-run.field-0 c.in_ok-subcommand-7.field-0 c.in_ok-subcommand-7.ensures
-    c.in_ok-run.ensures.local six c.in_ok-run.ensures.app in record {
-      app = app_if_subcommand c.in_ok-subcommand-7.field-0 c.in_ok-serve.field-0 c.subcommand-8.result c.subcommand-8.ensures
-          c.in_ok-serve.ensures.local seven c.in_ok-serve.ensures.app;
+    c.in_ok-run.ensures.local six c.in_ok-run.ensures.app in
+    let eight = app_with_subcommand c.in_ok-subcommand-7.field-0 c.in_ok-serve.field-0 c.in_ok-subcommand-8.field-0 c.in_ok-subcommand-8.ensures
+    c.in_ok-serve.ensures.local seven c.in_ok-serve.ensures.app in record {
+      app = app_if_subcommand c.in_ok-subcommand-8.field-0 c.in_ok-drain.field-0 c.subcommand-9.result c.subcommand-9.ensures
+          c.in_ok-drain.ensures.local eight c.in_ok-drain.ensures.app;
     }
