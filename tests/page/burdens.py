@@ -51,7 +51,7 @@ def bears(program, what, burdened):
         now = burdened(stage)
         keeps_pace(usual, now, what)
         stage.page.wait_until_well()
-        stage.end(PATIENCE)
+        stage.end()
         return f"{usual:.1f} attempts a second, and {now:.1f} with {what}"
 
 
@@ -79,10 +79,10 @@ def near_drips(program):
     """As many clients of this machine as there are places drip a byte a second while a drain is asked for: it waits for one deadline at most."""
     with small_farm(program) as stage:
         drips = Drips(HOST, stage.page.port, PLACES, again=False)
-        took, tries = stage.end(3 * PEER_SECONDS)
+        took = stage.end()
         drips.stop()
         held(took < PEER_SECONDS + 5, f"the drain took {took:.1f} seconds")
-        return f"a drain after {took:.1f} seconds, in {tries} tries"
+        return f"a drain after {took:.1f} seconds"
 
 
 def far_drips(program):
@@ -95,11 +95,11 @@ def far_drips(program):
         dripping = stage.pace(stage.ask)
         keeps_pace(usual, dripping, "clients that drip")
         wait_until(lambda: drips.cut >= PLACES - 1, 3 * PEER_SECONDS, "each client that had a place was cut off")
-        took, tries = stage.end(PEER_SECONDS)
+        took = stage.end()
         cut = drips.cut
         drips.stop()
         held(took < 5, f"the drain took {took:.1f} seconds")
-        return f"{cut} were cut off, a drain after {took:.1f} seconds, in {tries} tries; {usual:.1f} attempts a second, and {dripping:.1f}"
+        return f"{cut} were cut off, a drain after {took:.1f} seconds; {usual:.1f} attempts a second, and {dripping:.1f}"
 
 
 def formats(program):
@@ -115,7 +115,7 @@ def formats(program):
             if path == "metrics":
                 done = subprocess.run(["promtool", "check", "metrics"], input=said, capture_output=True, timeout=PATIENCE)
                 held(done.returncode == 0, f"promtool: {done.stdout + done.stderr}")
-        stage.end(PATIENCE)
+        stage.end()
         return "promtool and curl are content"
 
 
@@ -231,7 +231,7 @@ def speed(program):
             for how in [*found][:: 1 if turn % 2 == 0 else -1]:
                 with Reader(stage.page, 20) if how == "read" else contextlib.nullcontext():
                     found[how].append(rate(folder, stage, jobs))
-        stage.end(PATIENCE)
+        stage.end()
     alone, read = (statistics.median(found[how]) for how in ("alone", "read"))
     change = 100 * (read / alone - 1)
     said = f"{alone:,.0f} jobs a second, {read:,.0f} while the page is read: {change:+.1f} %, under load {os.getloadavg()[0]:.1f}"

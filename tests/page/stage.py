@@ -1,6 +1,5 @@
 """A farm with a page: a job server, services and `poolman serve`, each a process of its own."""
 
-import http.client
 import json
 import os
 import re
@@ -17,7 +16,7 @@ sys.path[1:1] = [f"{TOP}/tests/gearmand", f"{TOP}/tests/serve"]
 from asking import ask_rightly, mixed_jobs
 from farm import HOST, Gearmand, held, wait_until
 from page import Page
-from trial import Processes, listens, ports
+from trial import Processes, drain, listens, ports
 
 # After so many seconds a wait is given up.
 PATIENCE = 60
@@ -112,21 +111,12 @@ class Stage:
         self.asked += 1
         ask_rightly(self.server.port, mixed_jobs(f"job-{self.asked}", 200), PATIENCE)
 
-    def drain(self, patience):
-        """Asks for the end of the farm until somebody answers. Gives how many seconds that took, and how often it was asked for."""
-        start, tries = time.monotonic(), 0
-        while True:
-            tries += 1
-            try:
-                self.page.drain()
-                return time.monotonic() - start, tries
-            except (OSError, http.client.HTTPException):
-                held(time.monotonic() < start + patience, f"no drain within {patience} seconds, in {tries} tries")
-                time.sleep(0.05)
-
-    def end(self, patience):
-        """Drains the farm, and waits for its end."""
-        took = self.drain(patience)
+    def end(self):
+        """Drains the farm, and waits for its end. Gives how many seconds the drain took."""
+        start = time.monotonic()
+        status, told, said = drain(self.program, self.folder)
+        took = time.monotonic() - start
+        held((status, said) == (0, "") and told, f"the drain: {status} {told} {said}")
         status = self.poolman.wait(PATIENCE)
         held(status in (0, 1), f"poolman ended with status {status}")
         return took

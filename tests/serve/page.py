@@ -7,7 +7,7 @@ import shutil
 import socket
 import subprocess
 
-from farm import HOST, TOTALS, held, wait_until
+from farm import HOST, held, wait_until
 
 # A page serves so many peers at once.
 PLACES = 64
@@ -129,9 +129,3 @@ class Page:
         for what, (text, wanted) in BROKEN.items():
             status = self.say(text)
             held(status in wanted, f"{what}: {status} in place of {wanted}")
-
-    def drain(self):
-        """Ends the farm, and waits for what it came to."""
-        status, _, body = self.ask("POST", "/drain", poolman="drain")
-        held(status == 200, f"the drain: {status} {body}")
-        held(any(TOTALS.fullmatch(line) for line in body.decode().splitlines()), f"the drain says {body}")

@@ -68,6 +68,13 @@ def services(places, page):
     return "\n".join([*lines, ""])
 
 
+def drain(program, folder):
+    """How a drain of the farm in this folder ends, and what it prints."""
+    words = [program, "drain", f"{folder}/services.toml"]
+    done = subprocess.run(words, stdin=subprocess.DEVNULL, capture_output=True, text=True, timeout=PATIENCE)
+    return done.returncode, done.stdout, done.stderr
+
+
 class Processes:
     """What is started here. Whatever still runs at the end is killed."""
 
@@ -205,9 +212,14 @@ class Farm:
         self.page.crowd()
         self.page.check(self.program, self.processes.folder)
 
+    def drain(self):
+        """Ends poolman by its page, and holds that the totals are told."""
+        status, told, said = drain(self.program, self.processes.folder)
+        held((status, said) == (0, "") and any(TOTALS.fullmatch(line) for line in told.splitlines()), f"the drain: {status} {told} {said}")
+
     def end(self):
         """Ends poolman by a drain, and holds its totals to what was answered."""
-        self.page.drain()
+        self.drain()
         status = self.poolman.wait(PATIENCE)
         held(status in (0, 1), f"poolman ended with status {status}")
         lines = self.lines()
@@ -254,18 +266,29 @@ def a_refused_file(program, processes):
             held(False, "the job server was dialled before the files were read")
 
 
-def a_service_of_systemd(program, processes):
-    """SIGTERM ends it as the end of its input does: with the totals, and the status of a farm that never had a plan, as its page says."""
+def ends_as_service(program, processes, stop):
+    """Starts the script that systemd starts, and stops it so: it ends with the totals, and the status of a farm that never had a plan, as its
+    page says. A drain then reaches nobody."""
     farm = Farm(program, processes)
     script = farm.start_as_service(services(farm.places, farm.page.port))
     wait_until(farm.page.is_unwell, PATIENCE, "the page says that the farm is not well")
-    script.terminate()
+    stop(farm, script)
     status = script.wait(PATIENCE)
     held(status == 5 and TOTALS.fullmatch(farm.lines()[-1]), f"the script ended with status {status}, and {farm.lines()[-1]}")
+    said = drain(program, processes.folder)
+    held(said == (4, "", "poolman: page 1 Unreached\n"), f"a drain of a farm that has ended: {said}")
+
+
+def a_service_by_signal(program, processes):
+    ends_as_service(program, processes, lambda farm, script: script.terminate())
+
+
+def a_service_by_drain(program, processes):
+    ends_as_service(program, processes, lambda farm, script: farm.drain())
 
 
 def main(program, folder):
-    for part in (a_refused_file, a_service_of_systemd, a_farm):
+    for part in (a_refused_file, a_service_by_signal, a_service_by_drain, a_farm):
         os.mkdir(f"{folder}/{part.__name__}")
         with Processes(f"{folder}/{part.__name__}") as processes:
             part(program, processes)

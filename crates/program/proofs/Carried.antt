@@ -1,7 +1,7 @@
 -- Commands by their files.
 use Rattle.std.specs.Prelude.{Option}
 use Rattle.std.proofs.Common.{◌≡◌, ℕ, Bool, List, inl, inr, refl}
-use Rattle.command_words.specs.Words.{Named, plan, serve, show_settings, size, check_size}
+use Rattle.command_words.specs.Words.{Named, drain, plan, serve, show_settings, size, check_size}
 use Rattle.devices.specs.Folder.{IsReadFile, Known}
 use Rattle.devices.specs.Whole.{IsUntouched}
 use Rattle.byte_io.specs.Sides.{Input, Meets, Met, Output}
@@ -13,7 +13,7 @@ use Rattle.plan_commands.specs.declared.fault.Fault.{Fault}
 use Rattle.plan_commands.specs.Problem.{load_of}
 use Rattle.size_command.specs.CheckSizes.{ChecksSizeText}
 use Rattle.size_command.specs.Sizes.{Sizes}
-use Rattle.program.specs.Carrying.{CarriesOut, IsUnreadIn, ServesFiles, ShowsSettings}
+use Rattle.program.specs.Carrying.{CarriesOut, DrainsFile, IsUnreadIn, ServesFiles, ShowsSettings}
 
 -- nothing was taken and nothing written
 pub unread : (file : List ℕ → Known) (command : Named) (side : Input) (out : Output) (fault : Fault) (exit : Exit)
@@ -49,3 +49,9 @@ pub served : (file : List ℕ → Known) (s v : List ℕ) (until_input : Bool) (
     → ServesFiles file s v exit → CarriesOut file (serve s v until_input) met out out exit
 served file s v until_input met out exit untouched (inl runs) = inl (untouched, refl, runs)
 served file s v until_input met out exit untouched (inr (fault, not_read, ends)) = inr (fault, not_read, untouched, (refl, ends))
+
+-- the services file of a drain was read or not, and nothing was taken
+pub drained : (file : List ℕ → Known) (v : List ℕ) (met : Met) (old new : Output) (exit : Exit) → IsUntouched met
+    → DrainsFile file v old new exit → CarriesOut file (drain v) met old new exit
+drained file v met old new exit untouched (inl drains) = inl (untouched, drains)
+drained file v met old new exit untouched (inr (fault, not_read, stops)) = inr (fault, not_read, untouched, stops)

@@ -1,9 +1,10 @@
 -- What a command does, by the files that it names.
 use Rattle.std.specs.Prelude.{◌≡◌, ◌⊎◌, ℕ, List, None, Option, Some}
-use Rattle.command_words.specs.Words.{Named, plan, check, size, check_size, replay, show_settings, run, serve}
+use Rattle.command_words.specs.Words.{Named, plan, check, size, check_size, replay, show_settings, run, serve, drain}
 use Rattle.devices.specs.Folder.{IsReadFile, IsUnreadFile, Known}
 use Rattle.devices.specs.Whole.{IsUntouched}
 use Rattle.devices.specs.declared.error.InputError.{InputError}
+use Rattle.drain_command.specs.Drain.{Drains}
 use Rattle.byte_io.specs.Sides.{Met, Output}
 use Rattle.plan_commands.specs.Check.{ChecksText}
 use Rattle.plan_commands.specs.Ending.{Stops}
@@ -47,6 +48,7 @@ IsUnreadIn file (replay s) fault = IsUnreadBy Settings (file s) fault
 IsUnreadIn file (show_settings s services) fault = IsUnreadFarm file s services fault
 IsUnreadIn file (run s rounds) fault = IsUnreadBy Settings (file s) fault
 IsUnreadIn file (serve s v until_input) fault = IsUnreadBoth file s Services v fault
+IsUnreadIn file (drain v) fault = IsUnreadBy Services (file v) fault
 
 -- The settings file was read, or both files were, and what they mean is written.
 abbrev pub TellsFiles : (List ℕ → Known) → List ℕ → Option (List ℕ) → Output → Output → Exit → Type 0
@@ -72,8 +74,17 @@ RunsFarm file s v exit =
 abbrev pub ServesFiles : (List ℕ → Known) → List ℕ → List ℕ → Exit → Type 0
 ServesFiles file s v exit = RunsFarm file s v exit ⊎ ((fault : Fault) × IsUnreadBoth file s Services v fault × (exit ≡ refused fault))
 
--- The files of the command were read, and it does with their bytes what its call says. `settings`, a run and a farm take nothing from the
--- input.
+-- The services file was read, and its farm is drained.
+abbrev pub DrainsFarm : (List ℕ → Known) → List ℕ → Output → Output → Exit → Type 0
+DrainsFarm file v old new exit = (services_text : List ℕ) × IsReadFile (file v) services_text × Drains services_text old new exit
+
+-- The services file was read, and its farm is drained. Or it was not, and nothing is written.
+abbrev pub DrainsFile : (List ℕ → Known) → List ℕ → Output → Output → Exit → Type 0
+DrainsFile file v old new exit =
+    DrainsFarm file v old new exit ⊎ ((fault : Fault) × IsUnreadBy Services (file v) fault × Stops fault old new exit)
+
+-- The files of the command were read, and it does with their bytes what its call says. `settings`, a run, a farm and a drain take nothing
+-- from the input.
 abbrev pub ActsOnFiles : (List ℕ → Known) → Named → Met → Output → Output → Exit → Type 0
 ActsOnFiles file (plan s lost) met old new exit =
     (settings_text : List ℕ) × IsReadFile (file s) settings_text × Plans settings_text lost met old new exit
@@ -91,6 +102,7 @@ ActsOnFiles file (show_settings s services) met old new exit = IsUntouched met �
 ActsOnFiles file (run s rounds) met old new exit =
     (settings_text : List ℕ) × IsReadFile (file s) settings_text × IsUntouched met × Supervises settings_text rounds old new exit
 ActsOnFiles file (serve s v until_input) met old new exit = IsUntouched met × (new ≡ old) × RunsFarm file s v exit
+ActsOnFiles file (drain v) met old new exit = IsUntouched met × DrainsFarm file v old new exit
 
 -- The command ran. Or one of its files was not read, and nothing is taken from the input and nothing written.
 abbrev pub CarriesOut : (List ℕ → Known) → Named → Met → Output → Output → Exit → Type 0

@@ -8,7 +8,7 @@ use Rattle.std.specs.Result.{result_map_both}
 use Rattle.std.specs.declared.io.ErrorKind.{ErrorKind}
 use Rattle.std.specs.declared.io.ErrorKind.TheVariants.{OutOfMemory}
 use Rattle.clap.specs.Words.{Kinds}
-use Rattle.command_words.specs.Words.{Named, plan, check, size, check_size, replay, show_settings, run, serve, command_in, faults_in}
+use Rattle.command_words.specs.Words.{Named, plan, check, size, check_size, replay, show_settings, run, serve, drain, command_in, faults_in}
 use Rattle.fault_detail.specs.Complaint.{Complains, SaysLine, Tells}
 use Rattle.fault_detail.specs.Detail.{Names}
 use Rattle.fault_detail.specs.declared.complaint.Reader.{Reader}
@@ -34,6 +34,7 @@ names_in (check_size s t level lost) = record { settings = s; services = None; s
 names_in (replay s) = record { settings = s; services = None; status = None; lost = [] }
 names_in (show_settings s services) = record { settings = s; services = services; status = None; lost = [] }
 names_in (serve s v until_input) = record { settings = s; services = Some v; status = None; lost = [] }
+names_in (drain v) = record { settings = []; services = Some v; status = None; lost = [] }
 names_in (run s rounds) = record { settings = s; services = None; status = None; lost = [] }
 
 -- Error output has what is said of the fault of a command, if there is one.

@@ -4,12 +4,14 @@ ghost use Rattle.std.specs.Prelude.{◌-◌, ◌^◌, ◌<◌, IfErr, IfOk, opti
 ghost use Rattle.command_line.specs.Named.{named};
 ghost use Rattle.devices.specs.Folder.{IsReadFile};
 ghost use Rattle.byte_io.specs.Sides.{Meets, Met};
-ghost use Rattle.program.specs.Carrying.{CarriesOut, IsUnreadBoth, IsUnreadBy, ServesFiles, ShowsSettings};
+ghost use Rattle.program.specs.Carrying.{CarriesOut, DrainsFile, IsUnreadBoth, IsUnreadBy, ServesFiles, ShowsSettings};
 
 use crate::lent::Lent;
+use crate::page_calls::PageCalls;
 use byte_io::{Sink, Source};
 use command_line::Command;
 use devices::{Folder, read_file};
+use drain_command::drain_farm;
 use plan_commands::{Exit, Fault, NamedFile, check_text, plan_text};
 use replay_command::run_commands;
 use run_command::run_rounds;
@@ -19,9 +21,9 @@ use size_command::{Asked, check_size_text, size_of_texts};
 use std::alloc::Global;
 
 /// Carries out a command: reads its files, and then does what `plan_text`, `check_text`, `size_of_texts`, `check_size_text`,
-/// `run_commands`, `settings_text`, `farm_text`, `run_rounds` or `serve_farm` says of them. A file that cannot be read is reported before
-/// any fault of a text, and nothing is taken from the source or written then. `settings`, a run and a farm take nothing from the source.
-/// A farm writes nothing to the sink: its host is told its lines.
+/// `run_commands`, `settings_text`, `farm_text`, `run_rounds`, `serve_farm` or `drain_farm` says of them. A file that cannot be read is
+/// reported before any fault of a text, and nothing is taken from the source or written then. `settings`, a run, a farm and a drain take
+/// nothing from the source. A farm writes nothing to the sink: its host is told its lines.
 pub fn carry_out<F: Folder, H: FarmHost, R: Source, S: Sink>(
     lent: Lent<'_, F, H>,
     command: &Command<'_>,
@@ -63,6 +65,7 @@ pub fn carry_out<F: Folder, H: FarmHost, R: Source, S: Sink>(
             services,
             until_input: _until_input,
         } => serve(lent, settings, services),
+        Command::Drain { services } => drain(lent, services, sink),
         Command::Size {
             settings,
             level,
@@ -127,6 +130,21 @@ fn serve<F: Folder, H: FarmHost>(lent: Lent<'_, F, H>, settings: &str, services:
             serve_farm(lent.host, lent.alloc, texts)
         }
         Err(fault) => Exit::refused(fault),
+    }
+}
+
+/// Ends the farm of this services file.
+fn drain<F: Folder, H: FarmHost, S: Sink>(
+    lent: Lent<'_, F, H>,
+    services: &str,
+    sink: &mut S,
+) -> Exit
+    requires { (S.output sink.old).failures < 2 ^ 64 - 1 }
+    ensures drains { DrainsFile (F.file lent.entry.files.now) services.now (S.output sink.old) (S.output sink.new) result }
+{
+    match read_file(lent.files, lent.alloc, services) {
+        Ok(text) => drain_farm(&PageCalls { host: lent.host }, lent.alloc, &text, sink),
+        Err(error) => Exit::refused(Fault::of_file(NamedFile::Services, error)),
     }
 }
 

@@ -9,7 +9,7 @@ use Rattle.plan_commands.specs.Problem.{load_of}
 use Rattle.size_command.specs.CheckSizes.{ChecksSizeText}
 use Rattle.size_command.specs.Sizes.{Sizes}
 use Rattle.program.specs.Carrying.{CarriesOut}
-use Rattle.program.proofs.Carried.{planned, served, shown, sized, size_checked, unread}
+use Rattle.program.proofs.Carried.{drained, planned, served, shown, sized, size_checked, unread}
 use Rattle.program.proofs.carrying.carry_out.Goals as goal
 
 pub returns-in-Err : goal.returns-in-Err
@@ -188,5 +188,19 @@ returns-in-Serve g c =
         meets_nothing side,
         rw c.in-Serve.is (served file c.in-Serve.settings.now c.in-Serve.services.now c.in-Serve._until_input (nothing_from side) out c.serve.result (refl, refl, refl)
             c.serve.ensures.serves),
+      );
+    }
+
+-- nothing was taken
+pub returns-in-Drain : goal.returns-in-Drain
+returns-in-Drain g c =
+    let side = g.R.Device.input c.args.source.now in
+    let file = g.F.Folder.file c.args.lent.files.now in
+    let old = g.S.Device.output c.args.sink.now in
+    let new = g.S.Device.output c.drain.new.sink in record {
+      carries_out = (
+        nothing_from side,
+        meets_nothing side,
+        rw c.in-Drain.is (drained file c.in-Drain.services.now (nothing_from side) old new c.drain.result (refl, refl, refl) c.drain.ensures.drains),
       );
     }
