@@ -17,6 +17,8 @@ TOP = os.path.join(os.path.dirname(os.path.abspath(__file__)), "../..")
 # A sample of the text format of Prometheus.
 SAMPLE = re.compile(r'[a-z_]+(\{[a-z_]+="(?:[^"\\\n]|\\.)*"\})? \d+')
 
+# The row of a job that failed or was lost, up to its time.
+FAILURE = re.compile(r'<tr><th scope="row">H:[^<]*</th><td class="words">\d{4}-\d\d-\d\dT\d\d:\d\d:\d\dZ</td>')
 
 DRAIN = b"POST /drain HTTP/1.1\r\nhost: localhost\r\npoolman: drain\r\n"
 
@@ -73,9 +75,10 @@ class Page:
         return body.decode()
 
     def look(self, functions):
-        """The page names each function, and has no script; the metrics have their form."""
+        """The page names each function, and jobs that failed or were lost, and has no script; the metrics have their form."""
         page = self.text("/")
         held(all(name in page for name in functions), "the page leaves a function out")
+        held(FAILURE.search(page), "the page leaves out which jobs failed or were lost")
         held("<script" not in page and "http-equiv" in page, "the page has a script, or is not asked for again")
         held("http-equiv" not in self.text("/?still"), "the page that stays is asked for again")
         for line in self.text("/metrics").splitlines():

@@ -6,8 +6,8 @@ ghost use Rattle.pool_supervisor.specs.Steps.{IsMadeOf};
 use crate::found::Found;
 use crate::tally::FunctionJobs;
 use farm_page::{
-    Backlogs, EndView, Evidence, FarmView, FunctionView, HostView, Outcome, QueueView, Shortage,
-    Workers,
+    Backlogs, EndView, Evidence, Failures, FarmView, FunctionView, HostView, Outcome, QueueView,
+    Shortage, Workers,
 };
 use job_runner::EndCause;
 use plan_model::{Certified, FuncId, MachineId};
@@ -24,6 +24,8 @@ pub struct Known<'a> {
     pub unreached: &'a [Option<&'static str>],
     /// By function, its jobs.
     pub jobs: &'a [FunctionJobs],
+    /// The last jobs that were not completed.
+    pub failures: &'a Failures,
 }
 
 /// What is kept.
@@ -255,6 +257,7 @@ impl Kept {
             functions: self.functions(alloc, settings, known)?,
             hosts: self.hosts(alloc, settings, known)?,
             ends: self.ends(alloc)?,
+            failures: known.failures.copy()?,
             evidence,
             backlogs: self.backlogs.copy()?,
         })

@@ -1,6 +1,6 @@
-//! What became of the jobs of a farm, by function.
+//! What became of the jobs of a farm.
 
-use farm_page::JobEnds;
+use farm_page::{FailureView, Failures, JobEnds};
 use plan_model::FuncId;
 use std::alloc::{AllocError, Global};
 use std::sync::{Mutex, Wait};
@@ -50,11 +50,12 @@ impl FunctionJobs {
     }
 }
 
-/// The jobs of each function of a farm since it began. A count stays at the greatest number that it can hold. Jobs of no function of the
-/// farm are not counted.
+/// The jobs of each function of a farm since it began, and the last that were not completed. A count stays at the greatest number that it
+/// can hold. Jobs of no function of the farm are not counted.
 #[derive(Drop)]
 pub struct Tally {
     jobs: Mutex<Vec<FunctionJobs>>,
+    failures: Mutex<Failures>,
 }
 
 /// The jobs of a function, if it is one of the farm.
@@ -69,6 +70,7 @@ impl Tally {
         jobs.resize(functions as usize, FunctionJobs::none())?;
         Ok(Tally {
             jobs: Mutex::new(jobs),
+            failures: Mutex::new(Failures::new(alloc)),
         })
     }
 
@@ -86,6 +88,18 @@ impl Tally {
         if let Some(jobs) = jobs_of(&mut held, function) {
             jobs.end(end);
         }
+    }
+
+    /// A job was not completed, if there is one here. If there is no memory to keep that, it is not shown.
+    pub fn note<R: Wait>(&self, rt: &R, failure: Option<FailureView>) {
+        if let Some(failure) = failure {
+            let _ = self.failures.lock(rt).add(failure);
+        }
+    }
+
+    /// The last jobs that were not completed. The only error is out of memory.
+    pub fn failures<R: Wait>(&self, rt: &R) -> Result<Failures, AllocError> {
+        self.failures.lock(rt).copy()
     }
 
     /// The jobs by function. The only error is out of memory.

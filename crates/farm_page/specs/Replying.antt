@@ -5,7 +5,7 @@ use Rattle.farm_page.specs.Evidence.{evidence_text, lost_text}
 use Rattle.farm_page.specs.Health.{health_text, is_healthy}
 use Rattle.farm_page.specs.Markup.{IsPageOf}
 use Rattle.farm_page.specs.Metrics.{metrics_text}
-use Rattle.farm_page.specs.Sections.{Holds, end_rows, function_rows, headline, host_rows}
+use Rattle.farm_page.specs.Sections.{Holds, end_rows, failures_part, function_rows, headline, host_rows}
 use Rattle.farm_page.specs.Told.{Told}
 use Rattle.farm_page.specs.declared.answer.Allowed.{Allowed}
 use Rattle.farm_page.specs.declared.answer.Allowed.TheVariants.{Posts, Reads}
@@ -78,7 +78,7 @@ health_answer seen =
     text_of (if is_healthy seen.farm.now seen.moment then status.Ok else status.Unavailable) (health_text seen.farm.now seen.moment)
 
 -- a page without a tag that is not its own, which asks for itself again or does not, with the sentence of the farm and a row for each
--- function, host and cause
+-- function, host, cause and job that was not completed
 pub record IsPage (farm : FarmView) (refresh : Refresh) (answer : Told) : Type 0 where
   pub found : answer.status ≡ status.Ok
   pub shown : answer.content ≡ content.Page
@@ -90,6 +90,7 @@ pub record IsPage (farm : FarmView) (refresh : Refresh) (answer : Told) : Type 0
   pub quiet : Holds answer.body (function_rows Quiet farm.workers.all farm.functions.items)
   pub hosts : Holds answer.body (host_rows farm.hosts.items)
   pub ends : Holds answer.body (end_rows farm.ends.items)
+  pub failures : Holds answer.body (failures_part farm.failures)
 
 -- ---- all together
 

@@ -1,7 +1,9 @@
 -- The rows of a page's tables.
-use Rattle.std.specs.Prelude.{ℕ, ◌*◌, ◌/◌, ◌==◌, List, ◌++◌, Option, min, nat_lt}
-use Rattle.std.specs.Prelude.{codes, if◌then◌else◌, string_bytes}
+use Rattle.std.specs.Prelude.{ℕ, ◌*◌, ◌/◌, ◌==◌, List, [], ◌++◌, Option, None, min, nat_lt}
+use Rattle.std.specs.Prelude.{codes, if◌then◌else◌, option_map, string_bytes}
 use Rattle.std.specs.Fmt.{decimal}
+use Rattle.std.specs.Int.{div_ceil}
+use Rattle.std.specs.List.{flat_map}
 use Rattle.std.specs.Option.{option_map_or}
 use Rattle.farm_page.specs.Escaping.{page_text}
 use Rattle.farm_page.specs.Metric.{function_value}
@@ -12,6 +14,9 @@ use Rattle.farm_page.specs.declared.cells.Mark.TheVariants.{Bad, Plain, Warn}
 use Rattle.farm_page.specs.declared.metric.Metric.TheVariants.{FunctionCompleted, FunctionFailed, FunctionLost}
 use Rattle.farm_page.specs.declared.metric.Metric.TheVariants.{FunctionMost, FunctionRunning, FunctionWaiting}
 use Rattle.farm_page.specs.declared.view.EndView.{EndView}
+use Rattle.farm_page.specs.declared.view.FailureEnd.{FailureEnd}
+use Rattle.farm_page.specs.declared.view.FailureEnd.TheVariants.{Failed, Lost, Said}
+use Rattle.farm_page.specs.declared.view.FailureView.{FailureView}
 use Rattle.farm_page.specs.declared.view.FunctionView.{FunctionView}
 use Rattle.farm_page.specs.declared.view.HostView.{HostView}
 use Rattle.farm_page.specs.declared.view.Workers.{Workers}
@@ -40,6 +45,10 @@ fault number = cell (if number == 0 then Plain else Warn) number
 abbrev pub fault_cell : Option ℕ → List ℕ
 fault_cell number = option_map_or fault number (gap_cell Unknown)
 
+-- words behind some of the program's own
+abbrev pub words_cell : List ℕ → List ℕ → List ℕ
+words_cell lead words = codes "<td class=\"words\">" ++ lead ++ page_text words ++ codes "</td>"
+
 abbrev pub row_name : List ℕ → List ℕ
 row_name name = codes "<tr><th scope=\"row\">" ++ page_text name ++ codes "</th>"
 
@@ -58,11 +67,17 @@ bar workers least =
 abbrev pub workers_mark : FunctionView → Mark
 workers_mark f = if nat_lt f.workers f.least then Bad else Plain
 
+-- the jobs that wait for each worker, rounded up; the greatest number that a function has is the backlog
+abbrev pub waiting_per_worker : FunctionView → Option ℕ
+waiting_per_worker f =
+    if f.workers == 0 then None else option_map (λ queue. div_ceil queue.waiting f.workers) f.queue
+
 -- what waits, what runs, and the workers
 abbrev pub workers_cells : FunctionView → ℕ → List ℕ
 workers_cells f all =
-    cell_if (function_value f FunctionWaiting) Unknown ++ cell_if (function_value f FunctionRunning) Unknown
-    ++ cell (workers_mark f) f.workers ++ bar (record { alive = f.workers; all = all }) f.least
+    cell_if (function_value f FunctionWaiting) Unknown ++ cell_if (waiting_per_worker f) Unknown
+    ++ cell_if (function_value f FunctionRunning) Unknown ++ cell (workers_mark f) f.workers
+    ++ bar (record { alive = f.workers; all = all }) f.least
 
 -- what became of the jobs
 abbrev pub jobs_cells : FunctionView → List ℕ
@@ -89,3 +104,18 @@ host_row h =
 
 abbrev pub end_row : EndView → List ℕ
 end_row end = row_name (string_bytes end.cause) ++ cell Plain end.count ++ codes "</tr>\n"
+
+-- ---- jobs that were not completed
+
+abbrev pub failure_end_cell : FailureEnd → List ℕ
+failure_end_cell Failed = words_cell (codes "failed") []
+failure_end_cell (Said words) = words_cell (codes "failed: ") (string_bytes words)
+failure_end_cell (Lost why) = words_cell (codes "lost: ") (string_bytes why)
+
+abbrev pub failure_row : FailureView → List ℕ
+failure_row f =
+    row_name (string_bytes f.handle) ++ words_cell [] (string_bytes f.time) ++ words_cell [] (string_bytes f.unique)
+    ++ words_cell [] (string_bytes f.function) ++ words_cell [] (string_bytes f.worker) ++ failure_end_cell f.end ++ codes "</tr>\n"
+
+abbrev pub failure_rows : List FailureView → List ℕ
+failure_rows failures = flat_map failure_row failures

@@ -1,12 +1,13 @@
 -- The parts of a page that say what the farm is.
-use Rattle.std.specs.Prelude.{ℕ, ◌≡◌, List, [], ◌++◌, Bool, false, not, ◌||◌, nat_lt, codes, if◌then◌else◌}
+use Rattle.std.specs.Prelude.{ℕ, ◌≡◌, List, [], ◌∷◌, ◌++◌, Bool, false, not, ◌||◌, nat_lt, codes, if◌then◌else◌}
 use Rattle.std.specs.List.{flat_map}
 use Rattle.std.specs.Option.{option_map_or}
 use Rattle.farm_page.specs.Escaping.{page_text}
-use Rattle.farm_page.specs.Rows.{end_row, function_row, host_row}
+use Rattle.farm_page.specs.Rows.{end_row, failure_rows, function_row, host_row}
 use Rattle.farm_page.specs.declared.sections.Share.{Share}
 use Rattle.farm_page.specs.declared.sections.Share.TheVariants.{Busy, Quiet}
 use Rattle.farm_page.specs.declared.view.EndView.{EndView}
+use Rattle.farm_page.specs.declared.view.FailureView.{FailureView}
 use Rattle.farm_page.specs.declared.view.FunctionView.{FunctionView}
 use Rattle.farm_page.specs.declared.view.HostView.{HostView}
 use Rattle.farm_page.specs.declared.view.JobEnds.{JobEnds}
@@ -45,3 +46,8 @@ host_rows hosts = flat_map host_row hosts
 
 abbrev pub end_rows : List EndView → List ℕ
 end_rows ends = flat_map end_row ends
+
+-- a row for each job that was not completed, or that there is none
+abbrev pub failures_part : List FailureView → List ℕ
+failures_part [] = codes "<p>No job has failed or been lost.</p>"
+failures_part (newest ∷ older) = failure_rows (newest ∷ older)

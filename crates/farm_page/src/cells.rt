@@ -1,6 +1,7 @@
 //! The cells of a page's tables.
 
-ghost use Rattle.std.specs.Prelude.{◌≡◌, ◌++◌, OnOk};
+ghost use Rattle.std.specs.Prelude.{◌≡◌, ◌++◌, IsTrue, OnOk};
+ghost use Rattle.farm_page.specs.Markup.{is_markup};
 ghost use Rattle.farm_page.specs.Rows as spec;
 
 use crate::markup::Markup;
@@ -88,6 +89,17 @@ pub fn put_row_name(out: &mut Markup, name: &str) -> Result<(), AllocError>
     out.put_tags("<tr><th scope=\"row\">")?;
     out.put_text(name.as_bytes())?;
     out.put_tags("</th>")
+}
+
+/// Adds the cell of words, with some of the program's own before them.
+pub fn put_words(out: &mut Markup, lead: &str, words: &str) -> Result<(), AllocError>
+    requires { IsTrue (is_markup lead.now) }
+    ensures { OnOk result (out.new ≡ out.old ++ spec.words_cell lead.now words.now) }
+{
+    out.put_tags("<td class=\"words\">")?;
+    out.put_tags(lead)?;
+    out.put_text(words.as_bytes())?;
+    out.put_tags("</td>")
 }
 
 /// How much of a bar some of all workers fill.

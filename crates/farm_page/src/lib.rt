@@ -21,6 +21,7 @@ mod cells;
 mod condition;
 mod drawing;
 mod evidence;
+mod failures;
 mod headers;
 mod health;
 mod markup;
@@ -39,6 +40,7 @@ pub use answer::{Allowed, Answer, Content, Status};
 pub use backlogs::{Backlogs, DRAWN};
 pub use condition::{Condition, condition_of, sentence, shortage_words};
 pub use evidence::{evidence_text, lost_text};
+pub use failures::Failures;
 pub use headers::{Header, headers_of};
 pub use health::{Moment, health_text, is_healthy};
 pub use markup::{Markup, escaped};
@@ -49,6 +51,6 @@ pub use replying::{Reply, Seen, reply_to};
 pub use request::{Asked, Method, Place, Refusal, Site, place_asked};
 pub use style::POLICY;
 pub use view::{
-    EndView, Evidence, FarmView, FunctionView, HostView, JobEnds, Outcome, QueueView, Shortage,
-    Workers,
+    EndView, Evidence, FailureEnd, FailureView, FarmView, FunctionView, HostView, JobEnds, Outcome,
+    QueueView, Shortage, Workers,
 };

@@ -3,12 +3,14 @@
 ghost use Rattle.std.specs.Prelude.{◌≡◌, ◌++◌, IfOk, OnOk};
 ghost use Rattle.farm_page.specs.Condition.{sentence};
 ghost use Rattle.farm_page.specs.Markup.{IsPageOf, opening};
-ghost use Rattle.farm_page.specs.Sections.{Holds, end_rows, function_rows, headline, host_rows};
+ghost use Rattle.farm_page.specs.Sections.{Holds, end_rows, failures_part, function_rows, headline, host_rows};
 
 use crate::condition::{Condition, condition_of, sentence, shortage_words};
 use crate::drawing::drawing;
 use crate::markup::Markup;
-use crate::sections::{Share, ends_section, functions_section, headline, hosts_section};
+use crate::sections::{
+    Share, ends_section, failures_section, functions_section, headline, hosts_section,
+};
 use crate::style::{DAY, DRAWINGS, FRAME, NIGHT, TABLES};
 use crate::view::FarmView;
 use crate::writing::{put_bytes, put_text};
@@ -120,6 +122,7 @@ fn rest_of(alloc: Global, view: &FarmView, refresh: Refresh) -> Result<Markup, A
     ensures quiet { IfOk result (λ rest. Holds rest (function_rows Share.Quiet view.now.workers.all view.now.functions.items)) }
     ensures hosts { IfOk result (λ rest. Holds rest (host_rows view.now.hosts.items)) }
     ensures ends { IfOk result (λ rest. Holds rest (end_rows view.now.ends.items)) }
+    ensures failures { IfOk result (λ rest. Holds rest (failures_part view.now.failures)) }
 {
     let words = sentence(alloc, view)?;
     let mut out = head(alloc, view, words.as_str())?;
@@ -129,19 +132,21 @@ fn rest_of(alloc: Global, view: &FarmView, refresh: Refresh) -> Result<Markup, A
     let functions = functions_section(alloc, view)?;
     let hosts = hosts_section(alloc, view)?;
     let ends = ends_section(alloc, view)?;
+    let failures = failures_section(alloc, view)?;
     out.put(&headline)?;
     out.put(&state)?;
     out.put(&drawing)?;
     out.put(&functions)?;
     out.put(&hosts)?;
     out.put(&ends)?;
+    out.put(&failures)?;
     out.put_tags(FOOT)?;
     Ok(out)
 }
 
 /// The page of a farm, in HTML: how the farm is in one sentence, what shows it, the last backlogs as a drawing, and the tables of the
-/// functions, the hosts and the causes for which workers ended. It has no script, and no file from elsewhere. Whatever names it shows,
-/// each `<` in it begins a tag of the program's own. The only error is out of memory.
+/// functions, the hosts, the causes for which workers ended, and the last jobs that were not completed. It has no script, and no file from
+/// elsewhere. Whatever names it shows, each `<` in it begins a tag of the program's own. The only error is out of memory.
 pub fn page_text(alloc: Global, view: &FarmView, refresh: Refresh) -> Result<Vec<u8>, AllocError>
     ensures own { IfOk result (λ page. IsPageOf refresh page.items) }
     ensures sentence { IfOk result (λ page. Holds page.items (headline (sentence view.now))) }
@@ -149,6 +154,7 @@ pub fn page_text(alloc: Global, view: &FarmView, refresh: Refresh) -> Result<Vec
     ensures quiet { IfOk result (λ page. Holds page.items (function_rows Share.Quiet view.now.workers.all view.now.functions.items)) }
     ensures hosts { IfOk result (λ page. Holds page.items (host_rows view.now.hosts.items)) }
     ensures ends { IfOk result (λ page. Holds page.items (end_rows view.now.ends.items)) }
+    ensures failures { IfOk result (λ page. Holds page.items (failures_part view.now.failures)) }
 {
     let rest = rest_of(alloc, view, refresh)?.into_bytes();
     let mut page = Vec::new(alloc);

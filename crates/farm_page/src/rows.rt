@@ -3,10 +3,12 @@
 ghost use Rattle.std.specs.Prelude.{◌≡◌, ◌++◌, OnOk};
 ghost use Rattle.farm_page.specs.Rows as spec;
 
-use crate::cells::{Gap, Mark, put_bar, put_cell, put_cell_if, put_fault_cell, put_row_name};
+use crate::cells::{
+    Gap, Mark, put_bar, put_cell, put_cell_if, put_fault_cell, put_row_name, put_words,
+};
 use crate::markup::Markup;
 use crate::metric::{Metric, function_value};
-use crate::view::{EndView, FunctionView, HostView, Workers};
+use crate::view::{EndView, FailureEnd, FailureView, FunctionView, HostView, Workers};
 use std::alloc::AllocError;
 
 /// How the number of a function's workers is shown: it is wrong below the least number.
@@ -20,6 +22,17 @@ fn workers_mark(function: &FunctionView) -> Mark
     }
 }
 
+/// How many jobs wait for each worker of a function, rounded up. None if that is not known, or if there is no worker.
+fn waiting_per_worker(function: &FunctionView) -> Option<u64>
+    ensures { result ≡ spec.waiting_per_worker function.now }
+{
+    let queue = function.queue?;
+    if function.workers == 0 {
+        return None;
+    }
+    Some(u64::from(queue.waiting.div_ceil(function.workers)))
+}
+
 /// Adds the numbers of a function's queue and of its workers, of `all` workers of the farm.
 fn put_workers(out: &mut Markup, function: &FunctionView, all: u32) -> Result<(), AllocError>
     ensures { OnOk result (out.new ≡ out.old ++ spec.workers_cells function.now all) }
@@ -28,6 +41,7 @@ fn put_workers(out: &mut Markup, function: &FunctionView, all: u32) -> Result<()
     let waiting = function_value(function, Metric::FunctionWaiting);
     let running = function_value(function, Metric::FunctionRunning);
     put_cell_if(out, waiting, Gap::Unknown)?;
+    put_cell_if(out, waiting_per_worker(function), Gap::Unknown)?;
     put_cell_if(out, running, Gap::Unknown)?;
     put_cell(out, workers_mark(function), u64::from(alive))?;
     put_bar(out, Workers { alive, all }, function.least)
@@ -86,6 +100,30 @@ pub fn put_host(out: &mut Markup, host: &HostView) -> Result<(), AllocError>
     put_cell(out, Mark::Plain, u64::from(host.workers.all))?;
     put_bar(out, host.workers, host.workers.all)?;
     put_reached(out, host)?;
+    out.put_tags("</tr>\n")
+}
+
+/// Adds how a job ended.
+fn put_failure_end(out: &mut Markup, end: &FailureEnd) -> Result<(), AllocError>
+    ensures { OnOk result (out.new ≡ out.old ++ spec.failure_end_cell end.now) }
+{
+    match end {
+        FailureEnd::Failed => put_words(out, "failed", ""),
+        FailureEnd::Said(words) => put_words(out, "failed: ", words.as_str()),
+        FailureEnd::Lost(why) => put_words(out, "lost: ", why.as_str()),
+    }
+}
+
+/// Adds the row of a job that was not completed.
+pub fn put_failure(out: &mut Markup, failure: &FailureView) -> Result<(), AllocError>
+    ensures { OnOk result (out.new ≡ out.old ++ spec.failure_row failure.now) }
+{
+    put_row_name(out, failure.handle.as_str())?;
+    put_words(out, "", failure.time.as_str())?;
+    put_words(out, "", failure.unique.as_str())?;
+    put_words(out, "", failure.function.as_str())?;
+    put_words(out, "", failure.worker.as_str())?;
+    put_failure_end(out, &failure.end)?;
     out.put_tags("</tr>\n")
 }
 

@@ -1,11 +1,12 @@
 //! The parts of a page that say what the farm is: its sentence, and its tables.
 
 ghost use Rattle.std.specs.Prelude.{◌≡◌, ◌++◌, IfOk, OnOk};
+ghost use Rattle.farm_page.specs.Rows.{failure_rows};
 ghost use Rattle.farm_page.specs.Sections as spec;
 
 use crate::markup::Markup;
-use crate::rows::{put_end, put_function, put_host};
-use crate::view::{EndView, FarmView, FunctionView, HostView, JobEnds};
+use crate::rows::{put_end, put_failure, put_function, put_host};
+use crate::view::{EndView, FailureView, FarmView, FunctionView, HostView, JobEnds};
 use std::alloc::{AllocError, Global};
 
 /// Of how many functions a page shows all in one table.
@@ -113,16 +114,29 @@ fn end_rows(alloc: Global, ends: &[EndView]) -> Result<Markup, AllocError>
     Ok(out)
 }
 
+/// The rows of jobs that were not completed. The only error is out of memory.
+fn failure_rows(alloc: Global, failures: &[FailureView]) -> Result<Markup, AllocError>
+    ensures { IfOk result (λ part. part ≡ failure_rows failures.now) }
+{
+    let mut out = Markup::new(alloc);
+    for failure in failures {
+        put_failure(&mut out, failure)?;
+    }
+    Ok(out)
+}
+
 /// The head of the table of functions.
 const FUNCTIONS: &str = "<section><h2>Functions</h2><div class=\"wide\"><table><thead><tr>\
-<th class=\"words\" scope=\"col\">function</th><th scope=\"col\">waiting</th><th scope=\"col\">running</th>\
+<th class=\"words\" scope=\"col\">function</th><th scope=\"col\">waiting</th>\
+<th scope=\"col\">waiting per worker</th><th scope=\"col\">running</th>\
 <th scope=\"col\">workers</th><th scope=\"col\">of all</th><th scope=\"col\">least</th><th scope=\"col\">most</th>\
 <th scope=\"col\">completed</th><th scope=\"col\">failed</th><th scope=\"col\">lost</th></tr></thead><tbody>\n";
 
 /// What is between the functions to look at and the others, if they are many: these are folded away.
 const FOLD: &str =
     "</tbody></table></div><details><summary>all other functions</summary><div class=\"wide\"><table>\
-<thead><tr><th class=\"words\" scope=\"col\">function</th><th scope=\"col\">waiting</th><th scope=\"col\">running</th>\
+<thead><tr><th class=\"words\" scope=\"col\">function</th><th scope=\"col\">waiting</th>\
+<th scope=\"col\">waiting per worker</th><th scope=\"col\">running</th>\
 <th scope=\"col\">workers</th><th scope=\"col\">of all</th><th scope=\"col\">least</th><th scope=\"col\">most</th>\
 <th scope=\"col\">completed</th><th scope=\"col\">failed</th><th scope=\"col\">lost</th></tr></thead><tbody>\n";
 
@@ -140,6 +154,17 @@ const HOSTS: &str = "<section><h2>Hosts</h2><div class=\"wide\"><table><thead><t
 /// The head of the table of causes.
 const ENDS: &str = "<section><h2>Workers that ended</h2><div class=\"wide\"><table><thead><tr>\
 <th class=\"words\" scope=\"col\">cause</th><th scope=\"col\">workers</th></tr></thead><tbody>\n";
+
+/// The head of the table of jobs that were not completed.
+const FAILURES: &str =
+    "<section><h2>Last failed and lost jobs</h2><div class=\"wide\"><table><thead><tr>\
+<th class=\"words\" scope=\"col\">job</th><th class=\"words\" scope=\"col\">ended</th>\
+<th class=\"words\" scope=\"col\">unique id</th><th class=\"words\" scope=\"col\">function</th>\
+<th class=\"words\" scope=\"col\">worker</th><th class=\"words\" scope=\"col\">how it ended</th></tr></thead><tbody>\n";
+
+/// What stands in place of that table if there is no such job.
+const NO_FAILURE: &str =
+    "<section><h2>Last failed and lost jobs</h2><p>No job has failed or been lost.</p></section>\n";
 
 /// The table of the functions: those to look at first. If there are more than 24, the others are folded away. The only error is out of
 /// memory.
@@ -179,6 +204,23 @@ pub fn ends_section(alloc: Global, view: &FarmView) -> Result<Markup, AllocError
     let rows = end_rows(alloc, &view.ends)?;
     let mut out = Markup::new(alloc);
     out.put_tags(ENDS)?;
+    out.put(&rows)?;
+    out.put_tags(END)?;
+    Ok(out)
+}
+
+/// The table of the last jobs that were not completed, or that there is none. The only error is out of memory.
+pub fn failures_section(alloc: Global, view: &FarmView) -> Result<Markup, AllocError>
+    ensures { IfOk result (λ part. spec.Holds part (spec.failures_part view.now.failures)) }
+{
+    let jobs = view.failures.jobs();
+    let rows = failure_rows(alloc, jobs)?;
+    let mut out = Markup::new(alloc);
+    if jobs.is_empty() {
+        out.put_tags(NO_FAILURE)?;
+        return Ok(out);
+    }
+    out.put_tags(FAILURES)?;
     out.put(&rows)?;
     out.put_tags(END)?;
     Ok(out)

@@ -14,7 +14,7 @@ pub const NIGHT: &str =
 pub const FRAME: &str = "*{box-sizing:border-box}\
 body{margin:0;background:var(--ground);color:var(--text);font:15px/1.45 system-ui,sans-serif}\
 main,header,footer{max-width:1080px;margin:0 auto;padding:0 20px}header{padding-top:22px}\
-header p{margin:0;color:var(--quiet)}h1{font-size:26px;line-height:1.25;font-weight:650;margin:6px 0 4px}\
+header p,section p{margin:0;color:var(--quiet)}h1{font-size:26px;line-height:1.25;font-weight:650;margin:6px 0 4px}\
 .mark{display:inline-block;width:.62em;height:.62em;margin-right:.35em;border-radius:50%;background:var(--good)}\
 .watch .mark{border-radius:0;background:var(--warn)}.bad .mark{border-radius:0;transform:rotate(45deg);background:var(--bad)}\
 h2{font-size:15px;font-weight:650;margin:0 0 8px}\
@@ -44,5 +44,5 @@ figcaption b{color:var(--text);font-weight:600}svg{display:block;width:100%}.cha
 
 /// What a browser may load for an answer: the style, by its hash, and an icon of no bytes.
 pub const POLICY: &str =
-    "default-src 'none'; style-src 'sha256-2mSJ/nlEhcWCyQMc2vujRVfFSwa5sbJxtbObfgiSslY='; img-src data:; base-uri 'none'; \
+    "default-src 'none'; style-src 'sha256-kvhtcJWUXIbwBkhQDZR/jAnEjoe8Gm7Q+bAY2V7h8+0='; img-src data:; base-uri 'none'; \
 form-action 'none'; frame-ancestors 'none'";

@@ -4,6 +4,7 @@ ghost use Rattle.std.specs.Prelude.{◌≡◌};
 ghost use Rattle.farm_page.specs.View.{has_plan};
 
 use crate::backlogs::Backlogs;
+use crate::failures::Failures;
 
 /// What an attempt to plan came to.
 #[derive(Drop)]
@@ -93,6 +94,34 @@ pub struct EndView {
     pub count: u64,
 }
 
+/// How a job ended that was not completed.
+#[derive(Clone, Drop)]
+pub enum FailureEnd {
+    /// The job server was told that it failed.
+    Failed,
+    /// The same, and its service said this of it.
+    Said(String),
+    /// It was not answered, for this reason, and the job server gives it to another worker.
+    Lost(String),
+}
+
+/// A job that was not completed. Its names are shown as they are, so whoever makes one makes words of bytes that are no text.
+#[derive(Clone, Drop)]
+pub struct FailureView {
+    /// When it ended, as RFC 3339 writes it, and `-` if the clock could not be read.
+    pub time: String,
+    /// Its handle.
+    pub handle: String,
+    /// Its unique id.
+    pub unique: String,
+    /// Its function.
+    pub function: String,
+    /// The worker that had it, as `north/0#3`.
+    pub worker: String,
+    /// How it ended.
+    pub end: FailureEnd,
+}
+
 /// Functions that are short of workers: what shows that there is no plan, or none with a smaller backlog.
 #[derive(Drop)]
 pub struct Shortage {
@@ -138,6 +167,8 @@ pub struct FarmView {
     pub hosts: Vec<HostView>,
     /// Why workers ended.
     pub ends: Vec<EndView>,
+    /// The last jobs that were not completed.
+    pub failures: Failures,
     /// The evidence of the last attempt that had any.
     pub evidence: Option<Evidence>,
     /// The backlogs of the last attempts, this one's last.

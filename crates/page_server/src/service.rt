@@ -6,8 +6,8 @@ use crate::places::Distance;
 use crate::shared_page::{PageTimes, SharedPage};
 use bytes::{BufMut, Bytes};
 use farm_page::{
-    Answer, Asked, Backlogs, FarmView, Header, Method, Moment, Outcome, Reply, Seen, Site, Workers,
-    headers_of, reply_to,
+    Answer, Asked, Backlogs, Failures, FarmView, Header, Method, Moment, Outcome, Reply, Seen, Site,
+    Workers, headers_of, reply_to,
 };
 use http::{HeaderName, HeaderValue, Request, StatusCode};
 use http_server::{Response, Service};
@@ -118,6 +118,7 @@ fn before_attempts(alloc: Global) -> Result<FarmView, AllocError> {
         functions: Vec::new(alloc),
         hosts: Vec::new(alloc),
         ends: Vec::new(alloc),
+        failures: Failures::new(alloc),
         evidence: None,
         backlogs: Backlogs::new(alloc),
     })

@@ -3,11 +3,11 @@
 use crate::farm::Farm;
 use crate::host::FarmHost;
 use crate::hosts::{HostNews, Hosts};
-use crate::job_lines::{Failure, job_line};
+use crate::job_lines::{failure_of, line_of};
 use farm_notes::{JobEnd, Tally};
 use gear_packets::Assignment;
 use http_jobs::ServiceJobs;
-use job_runner::{Jobs, NotDone, Outcome};
+use job_runner::{End, Jobs, NotDone, Outcome};
 use plan_model::{MachineId, SlotId};
 use pool_supervisor::JobSource;
 use std::alloc::{AllocError, Global};
@@ -112,12 +112,15 @@ fn is_served(done: &Result<Option<Outcome>, http_jobs::NotDone>) -> Option<bool>
     }
 }
 
-/// How a job ended, by what became of it if it was not completed.
-fn end_of(failure: Option<Failure>) -> JobEnd {
-    match failure {
-        None => JobEnd::Completed,
-        Some(Failure::Failed) => JobEnd::Failed,
-        Some(Failure::Lost(_)) => JobEnd::Lost,
+/// How a job ended.
+fn end_of(done: &Result<Option<Outcome>, http_jobs::NotDone>) -> JobEnd {
+    match done {
+        Ok(Some(outcome)) => match &outcome.end {
+            End::Complete(_) => JobEnd::Completed,
+            End::Fail => JobEnd::Failed,
+        },
+        Ok(None) => JobEnd::Failed,
+        Err(_) => JobEnd::Lost,
     }
 }
 
@@ -178,14 +181,18 @@ impl<'e, H: FarmHost> Jobs for FarmJobs<'e, H> {
             .was_asked(self.host, self.machine, is_served));
         self.host
             .tell_if(host_line(alloc, farm, self.machine, news));
-        let failure = Failure::of(&done);
-        self.tally.end(self.host, function, end_of(failure));
+        self.tally.end(self.host, function, end_of(&done));
         let worker = WorkerName {
             slot: self.slot,
             generation: self.generation,
         };
-        self.host
-            .tell_if(job_line(alloc, farm, worker, &job, failure));
+        let failure = failure_of(alloc, farm, worker, &job, &done);
+        self.host.tell_if(line_of(alloc, &failure));
+        let dated = failure
+            .ok()
+            .flatten()
+            .map(|failure| self.host.dated(failure));
+        self.tally.note(self.host, dated);
         Ok(done?)
     }
 }

@@ -1,7 +1,7 @@
 //! What a farm is lent by the machine that it is run on.
 
 use byte_io::{Sink, Source};
-use farm_page::FarmView;
+use farm_page::{FailureView, FarmView};
 use http_jobs::{CallTimes, Clock, Dial, Look};
 use page_server::PageTimes;
 use run_command::Host;
@@ -31,6 +31,11 @@ pub trait FarmHost: Host {
 
     /// Waits for so many milliseconds, or until the farm has to end.
     fn rest(&self, milliseconds: u32);
+
+    /// The job with the time of now, if the clock can be read.
+    fn dated(&self, failure: FailureView) -> FailureView {
+        failure
+    }
 
     /// Takes a line of what happens, without a line feed, or that there was no memory for one. It does not wait for whoever reads it.
     fn tell(&self, line: Result<String, AllocError>);

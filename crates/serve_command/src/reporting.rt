@@ -102,9 +102,11 @@ impl<'e, H: Wait> Reporting<'e, H> {
         let notes = self.notes.as_ref()?;
         let unreached = self.hosts.unreached(self, self.alloc).ok()?;
         let jobs = self.tally.counts(self).ok()?;
+        let failures = self.tally.failures(self).ok()?;
         let known = Known {
             unreached: &unreached,
             jobs: &jobs,
+            failures: &failures,
         };
         notes.view(self, self.alloc, made, &known).ok()
     }

@@ -3,7 +3,7 @@
 use crate::host::FarmHost;
 use crate::line_queue::LineQueue;
 use devices::TcpLink;
-use farm_page::FarmView;
+use farm_page::{FailureView, FarmView};
 use http_jobs::{CallTimes, SystemClock, TcpDial};
 use page_server::{Door, EndFlag, PageTimes, SharedPage};
 use plan_model::FuncId;
@@ -182,6 +182,14 @@ impl<
 
     fn rest(&self, milliseconds: u32) {
         self.edges.end.rest(&self.rt, milliseconds);
+    }
+
+    fn dated(&self, failure: FailureView) -> FailureView {
+        let mut failure = failure;
+        if let Some(time) = self.time_text() {
+            failure.time = time;
+        }
+        failure
     }
 
     fn tell(&self, line: Result<String, AllocError>) {

@@ -1,7 +1,7 @@
 use Rattle.std.proofs.Common.{◌∙◌, ◌++◌, List, ℕ, ap}
 use Rattle.farm_page.specs.Condition.{sentence}
 use Rattle.farm_page.specs.Markup.{opening}
-use Rattle.farm_page.specs.Sections.{end_rows, function_rows, headline, host_rows}
+use Rattle.farm_page.specs.Sections.{end_rows, failures_part, function_rows, headline, host_rows}
 use Rattle.farm_page.specs.declared.sections.Share.TheVariants.{Busy, Quiet}
 use Rattle.farm_page.proofs.Held.{holds_in}
 use Rattle.farm_page.proofs.page.page_text.Goals as goal
@@ -47,3 +47,9 @@ returns-clause-ends c =
     let begun : List ℕ = c.put_opening.new.out.items in
     let added = c.in_ok-put_bytes.ensures ∙ ap (λ t. begun ++ t) (c.as_slice.ensures.value ∙ c.into_bytes-rest.ensures.all) in
     holds_in begun c.in_ok-rest_of.field-0 (end_rows c.args.view.now.ends.items) c.put_bytes.new.out.items c.in_ok-rest_of.ensures.ends added
+
+pub returns-clause-failures : goal.returns-clause-failures
+returns-clause-failures c =
+    let begun : List ℕ = c.put_opening.new.out.items in
+    let added = c.in_ok-put_bytes.ensures ∙ ap (λ t. begun ++ t) (c.as_slice.ensures.value ∙ c.into_bytes-rest.ensures.all) in
+    holds_in begun c.in_ok-rest_of.field-0 (failures_part c.args.view.now.failures) c.put_bytes.new.out.items c.in_ok-rest_of.ensures.failures added
