@@ -1,12 +1,14 @@
 //! The evidence of an answer, as texts with which anybody can check it.
 
-ghost use Rattle.std.specs.Prelude.{◌≡◌, ◌++◌, IfOk, OnOk, length, string_bytes};
+ghost use Rattle.std.specs.Prelude.{◌≡◌, ◌<◌, ◌++◌, IfOk, OnOk, length, map, string_bytes};
 ghost use Rattle.farm_notes.specs.Evidence as spec;
+ghost use Rattle.plan_model.specs.Planning.{is_live};
 ghost use Rattle.pool_supervisor.specs.Steps.{IsMadeOf};
 ghost use Rattle.pool_report.specs.Answered.{report_text};
+ghost use Rattle.pool_settings.specs.Slots as names;
 
 use farm_page::Evidence;
-use plan_model::{Certified, FuncId, Input, MachineId, SlotId};
+use plan_model::{Certified, FuncId, Input, SlotId};
 use pool_report::report_text;
 use pool_settings::Settings;
 use std::alloc::{AllocError, Global};
@@ -35,16 +37,18 @@ fn push_status_lines(
     Ok(())
 }
 
-/// A status text in which so many jobs wait for each function of the settings, as a job server would write it. The only error is out of
-/// memory.
+/// A status text in which so many jobs wait for each function of the settings, as a job server would write it. Whoever reads it finds so
+/// many. The only error is out of memory.
 pub fn status_text(
     alloc: Global,
     settings: &Settings,
     waiting: &[u32],
 ) -> Result<Vec<u8>, AllocError>
     requires all { length waiting.now ≡ length settings.now.functions }
-    ensures { IfOk result (λ text. text.items ≡ spec.status_text settings.now.functions waiting.now) }
+    ensures text { IfOk result (λ text. text.items ≡ spec.status_text settings.now.functions waiting.now) }
+    ensures read_back { IfOk result (λ text. spec.IsReadAs settings.now waiting.now text.items) }
 {
+    settings.facts();
     let mut out = String::new(alloc);
     push_status_lines(&mut out, settings, waiting)?;
     out.push_str(".\n")?;
@@ -64,19 +68,43 @@ fn report_of(
     Ok(text.into_bytes())
 }
 
+/// Whether the worker of a slot is live in the input.
+fn is_live(input: &Input, slot: SlotId) -> bool
+    ensures { result ≡ is_live input.now slot }
+{
+    input
+        .live()
+        .binary_search_by_key(&slot, |&(live, _)| live)
+        .is_ok()
+}
+
 /// The name of the worker of a slot, as `north/0`.
-fn worker_name(
-    alloc: Global,
-    settings: &Settings,
-    slot: SlotId,
-    machine: MachineId,
-) -> Result<String, AllocError> {
-    if slot.number() >= settings.slots() || machine.number() >= settings.machines() {
-        return Ok(String::new(alloc));
-    }
-    let name = settings.machine_name(machine);
+fn worker_name(alloc: Global, settings: &Settings, slot: SlotId) -> Result<String, AllocError>
+    requires { slot < names.slots settings.now }
+    ensures { IfOk result (λ name. string_bytes name ≡ names.worker_name settings.now slot) }
+{
+    let machine = settings.machine_name(settings.machine_of(slot));
     let number = settings.worker_number(slot);
-    format!(in alloc; "{name}/{number}")
+    format!(in alloc; "{machine}/{number}")
+}
+
+/// Adds the worker of a slot, if it is not live in the input.
+fn push_if_lost(
+    lost: &mut Vec<String>,
+    settings: &Settings,
+    input: &Input,
+    slot: SlotId,
+) -> Result<(), AllocError>
+    requires { slot < names.slots settings.now }
+    ensures { OnOk result (map string_bytes lost.new.items
+        ≡ map string_bytes lost.old.items ++ spec.lost_at settings.now input.now slot) }
+{
+    if is_live(input, slot) {
+        return Ok(());
+    }
+    let name = worker_name(*lost.allocator(), settings, slot)?;
+    lost.push(name)?;
+    Ok(())
 }
 
 /// The workers that are not live in the input, as `north/0`.
@@ -84,15 +112,12 @@ fn lost_workers(
     alloc: Global,
     settings: &Settings,
     input: &Input,
-) -> Result<Vec<String>, AllocError> {
+) -> Result<Vec<String>, AllocError>
+    ensures { IfOk result (λ lost. map string_bytes lost.items ≡ spec.lost_workers settings.now input.now) }
+{
     let mut lost = Vec::new(alloc);
-    let mut live = input.live().iter().peekable();
     for number in 0..settings.slots() {
-        let slot = SlotId::new(number);
-        let is_live = live.next_if(|worker| worker.0 == slot).is_some();
-        if !is_live {
-            lost.push(worker_name(alloc, settings, slot, settings.machine_of(slot))?)?;
-        }
+        push_if_lost(&mut lost, settings, input, SlotId::new(number))?;
     }
     Ok(lost)
 }

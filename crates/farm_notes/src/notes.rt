@@ -1,6 +1,8 @@
 //! What the page of a farm is made of, kept from attempt to attempt.
 
-ghost use Rattle.std.specs.Prelude.{◌<◌, length};
+ghost use Rattle.std.specs.Prelude.{◌≡◌, ◌<◌, IfOk, None, length};
+ghost use Rattle.farm_notes.specs.Evidence.{IsSameEvidence};
+ghost use Rattle.farm_notes.specs.Notes as spec;
 ghost use Rattle.pool_supervisor.specs.Steps.{IsMadeOf};
 
 use crate::found::Found;
@@ -48,7 +50,9 @@ pub struct PageNotes {
 }
 
 /// Whether an attempt led to a round.
-fn is_round(attempt: &Attempt) -> bool {
+fn is_round(attempt: &Attempt) -> bool
+    ensures { result ≡ spec.is_round attempt.now }
+{
     matches!(
         attempt,
         Attempt::Backlog { .. } | Attempt::Unserved { .. } | Attempt::NoPlan { .. }
@@ -90,13 +94,25 @@ fn queue_view(waiting: Option<u32>, jobs: Option<FunctionJobs>) -> Option<QueueV
 }
 
 /// The same evidence again. The only error is out of memory.
-fn copy_evidence(evidence: &Evidence) -> Result<Evidence, AllocError> {
+fn copy_evidence(alloc: Global, evidence: &Evidence) -> Result<Evidence, AllocError>
+    ensures { IfOk result (IsSameEvidence evidence.now) }
+{
     Ok(Evidence {
         attempt: evidence.attempt,
-        report: evidence.report.clone()?,
-        status: evidence.status.clone()?,
+        report: Vec::from_slice(alloc, &evidence.report)?,
+        status: Vec::from_slice(alloc, &evidence.status)?,
         lost: evidence.lost.clone()?,
     })
+}
+
+/// The evidence of what was found, if anything was. The only error is out of memory.
+fn evidence_shown(alloc: Global, found: &Option<Found>) -> Result<Option<Evidence>, AllocError>
+    ensures { IfOk result (spec.ShowsEvidence found.now) }
+{
+    match found {
+        Some(found) => Ok(Some(copy_evidence(alloc, &found.evidence)?)),
+        None => Ok(None),
+    }
 }
 
 /// The same shortage again. The only error is out of memory.
@@ -121,7 +137,11 @@ fn end_view(alloc: Global, cause: EndCause, count: u64) -> Result<EndView, Alloc
 
 impl Kept {
     /// Keeps what an attempt came to. The only error is out of memory.
-    fn note(&mut self, made: &Attempted<'_>) -> Result<(), AllocError> {
+    fn note(&mut self, made: &Attempted<'_>) -> Result<(), AllocError>
+        ensures last { self.new.last
+            ≡ spec.last_found (spec.is_round made.now.attempt.now) made.now.number self.old.found self.old.last }
+        ensures found { self.new.found ≡ None }
+    {
         let found = self.found.take();
         if is_round(made.attempt) {
             if let Some(mut found) = found {
@@ -235,14 +255,14 @@ impl Kept {
         alloc: Global,
         made: &Attempted<'_>,
         known: &Known<'_>,
-    ) -> Result<FarmView, AllocError> {
+    ) -> Result<FarmView, AllocError>
+        ensures { IfOk result (λ view. spec.ShowsEvidence self.now.last view.evidence) }
+    {
         let settings = made.settings;
-        let (shortage, evidence) = match &self.last {
-            Some(found) => (
-                copy_shortage(&found.shortage)?,
-                Some(copy_evidence(&found.evidence)?),
-            ),
-            None => (None, None),
+        let evidence = evidence_shown(alloc, &self.last)?;
+        let shortage = match &self.last {
+            Some(found) => copy_shortage(&found.shortage)?,
+            None => None,
         };
         Ok(FarmView {
             server: String::from_str(alloc, settings.server())?,

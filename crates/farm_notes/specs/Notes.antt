@@ -1,0 +1,34 @@
+-- What is kept of the answers to attempts.
+use Rattle.std.specs.Prelude.{ℕ, Bool, true, false, Option, Some, None, ⊤}
+use Rattle.farm_notes.specs.Evidence.{IsSameEvidence}
+use Rattle.farm_notes.specs.declared.found.Found.{Found}
+use Rattle.farm_page.specs.declared.view.Evidence.{Evidence}
+use Rattle.pool_supervisor.specs.declared.attempt.Attempt.{Attempt}
+use Rattle.pool_supervisor.specs.declared.attempt.Attempt.TheVariants as attempt
+
+-- the attempt led to a round
+abbrev pub is_round : Attempt → Bool
+is_round (attempt.Backlog round backlog) = true
+is_round (attempt.Unserved round waiting) = true
+is_round (attempt.NoPlan round) = true
+is_round attempt.NoLink = false
+is_round (attempt.Status error) = false
+is_round (attempt.Refused refusal) = false
+is_round attempt.Memory = false
+
+-- what was found, as that of an attempt of this number
+abbrev pub numbered : ℕ → Found → Found
+numbered number found = record found { evidence = record found.evidence { attempt = number } }
+
+-- What was found in the last round, after one more attempt: what was found in that, if it led to a round.
+abbrev pub last_found : Bool → ℕ → Option Found → Option Found → Option Found
+last_found true number (Some found) before = Some (numbered number found)
+last_found true number None before = before
+last_found false number found before = before
+
+-- The evidence is that of what was found, if anything was.
+abbrev pub ShowsEvidence : Option Found → Option Evidence → Type 0
+ShowsEvidence None None = ⊤
+ShowsEvidence None (Some shown) = ⊥
+ShowsEvidence (Some found) None = ⊥
+ShowsEvidence (Some found) (Some shown) = IsSameEvidence found.evidence shown
