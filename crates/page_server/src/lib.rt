@@ -1,6 +1,8 @@
 //! The page of a running farm over HTTP, for a bounded number of peers, each for a bounded time.
 #![tactic(auto)]
 
+mod answering;
+mod asking;
 mod end_flag;
 mod end_text;
 mod limited;

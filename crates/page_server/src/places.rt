@@ -1,6 +1,6 @@
 //! Places for peers, one of which only a near peer may take.
 ghost use Rattle.std.specs.Prelude.{◌≡◌, ◌+◌, ◌≤◌, IsTrue, IsFalse};
-ghost use Rattle.page_server.specs.Places.{has_room};
+ghost use Rattle.page_server.specs.Places.{has_room, is_near};
 
 use std::sync::{Condvar, Mutex, Wait};
 use std::time::{Clock, Duration};
@@ -18,6 +18,15 @@ pub enum Distance {
     Near,
     /// Elsewhere.
     Far,
+}
+
+impl Distance {
+    /// Whether it is on this machine.
+    pub fn is_near(self) -> bool
+        ensures { result ≡ is_near self }
+    {
+        matches!(self, Distance::Near)
+    }
 }
 
 /// How many places are taken.

@@ -1,15 +1,20 @@
 //! What a page answers.
-ghost use Rattle.std.specs.Prelude.{◌≡◌};
 
+ghost use Rattle.std.specs.Prelude.{IfOk};
+ghost use Rattle.farm_page.specs.Replying.{Replies};
+ghost use Rattle.farm_page.specs.Request.{place_asked};
+ghost use Rattle.farm_page.specs.declared.replying.Seen.{Seen};
+
+use crate::answering::{put_answer, put_header};
+use crate::asking::asked_by;
 use crate::limited::Limit;
 use crate::places::Distance;
 use crate::shared_page::{PageTimes, SharedPage};
 use bytes::{BufMut, Bytes};
 use farm_page::{
-    Answer, Asked, Backlogs, Failures, FarmView, Header, Method, Moment, Outcome, Reply, Seen, Site,
-    Workers, headers_of, reply_to,
+    Asked, Backlogs, Failures, FarmView, Moment, Outcome, Reply, Seen, Site, Workers, reply_to,
 };
-use http::{HeaderName, HeaderValue, Request, StatusCode};
+use http::{Request, StatusCode};
 use http_server::{Response, Service};
 use std::alloc::{AllocError, Global};
 use std::sync::Wait;
@@ -37,75 +42,6 @@ pub struct PageService<'a, R> {
     pub times: PageTimes,
 }
 
-/// The method of a request.
-fn method_of(request: &Request<Bytes>) -> Method {
-    match request.method().as_str() {
-        "GET" => Method::Get,
-        "HEAD" => Method::Head,
-        "POST" => Method::Post,
-        _ => Method::Other,
-    }
-}
-
-/// The value of a header, if it is there.
-fn header<'r>(request: &'r Request<Bytes>, name: &str) -> Option<&'r [u8]> {
-    match request.headers().get(name) {
-        Some(value) => Some(value.as_bytes()),
-        None => None,
-    }
-}
-
-/// What a request asks, as far as it decides what is answered.
-fn asked_by<'r>(request: &'r Request<Bytes>, distance: Distance) -> Asked<'r> {
-    let uri = request.uri();
-    Asked {
-        method: method_of(request),
-        path: uri.path().as_bytes(),
-        host: header(request, "host"),
-        authority: match uri.authority() {
-            Some(authority) => Some(authority.as_str().as_bytes()),
-            None => None,
-        },
-        is_still: uri.query() == Some("still"),
-        is_near: distance == Distance::Near,
-        asks_drain: header(request, "poolman") == Some(b"drain".as_slice()),
-    }
-}
-
-/// Puts an answer into a response.
-fn put_answer(alloc: Global, answer: Answer, response: &mut Response) -> Result<(), AllocError> {
-    if let Ok(status) = StatusCode::from_u16(answer.status().code()) {
-        response.status = status;
-    }
-    for header in headers_of(alloc, &answer)? {
-        let Header { name, value } = header;
-        let name = HeaderName::from_bytes(alloc, name.as_bytes());
-        let value = HeaderValue::from_string(value);
-        if let (Ok(name), Ok(value)) = (name, value) {
-            response.add_header(name, value)?;
-        }
-    }
-    match Bytes::from_vec(answer.into_body()) {
-        Ok(body) => response.body.push(body),
-        Err(_) => Err(AllocError),
-    }
-}
-
-/// Adds a header whose name and value HTTP allows.
-fn put_header(
-    response: &mut Response,
-    alloc: Global,
-    name: &'static str,
-    value: &'static str,
-) -> Result<(), AllocError> {
-    let name = HeaderName::from_bytes(alloc, name.as_bytes());
-    let value = HeaderValue::from_bytes(alloc, value.as_bytes());
-    match (name, value) {
-        (Ok(name), Ok(value)) => response.add_header(name, value),
-        _ => Err(AllocError),
-    }
-}
-
 /// What a page shows before the first attempt.
 fn before_attempts(alloc: Global) -> Result<FarmView, AllocError> {
     Ok(FarmView {
@@ -126,12 +62,10 @@ fn before_attempts(alloc: Global) -> Result<FarmView, AllocError> {
 
 impl<'a, R: Wait + Clock> PageService<'a, R> {
     /// What is answered of a farm that was seen so many milliseconds ago.
-    fn reply_of(
-        &self,
-        farm: &FarmView,
-        age_ms: u64,
-        asked: &Asked<'_>,
-    ) -> Result<Reply, AllocError> {
+    fn reply_of(&self, farm: &FarmView, age_ms: u64, asked: &Asked<'_>) -> Result<Reply, AllocError>
+        ensures { IfOk result
+            (λ reply. (seen : Seen) × Replies seen asked.now (place_asked self.now.place asked.now) reply) }
+    {
         let moment = Moment {
             age_ms,
             round_ms: self.times.round_ms,
@@ -141,7 +75,10 @@ impl<'a, R: Wait + Clock> PageService<'a, R> {
     }
 
     /// What is answered of the farm as it is shown now.
-    fn reply(&self, asked: &Asked<'_>) -> Result<Reply, AllocError> {
+    fn reply(&self, asked: &Asked<'_>) -> Result<Reply, AllocError>
+        ensures { IfOk result
+            (λ reply. (seen : Seen) × Replies seen asked.now (place_asked self.now.place asked.now) reply) }
+    {
         match self.page.shown.current(self.rt)? {
             Some((view, age_ms)) => self.reply_of(&view, age_ms, asked),
             None => self.reply_of(&before_attempts(self.alloc)?, 0, asked),
@@ -176,7 +113,10 @@ impl<'a, R: Wait + Clock> PageService<'a, R> {
 }
 
 impl<'a, R: Wait + Clock> Service for PageService<'a, R> {
-    ghost answers = { λ old request response new. new ≡ old };
+    ghost use Rattle.std.specs.Prelude.{◌≡◌};
+    ghost use Rattle.page_server.specs.Answers.{IsAnswered};
+
+    ghost answers = { λ old request response new. (new ≡ old) × IsAnswered old.place old.distance request response };
 
     fn call(
         &mut self,
