@@ -1,5 +1,5 @@
 -- What the attempts of a run tell of its pool, and what they post.
-use Rattle.std.specs.Prelude.{◌≡◌, List, [], ◌∷◌, ◌++◌, Bool, true, false}
+use Rattle.std.specs.Prelude.{◌≡◌, List, [], ◌∷◌, ◌++◌, Bool, true, false, filter, map}
 use Rattle.pool_settings.specs.Settings.{Settings}
 use Rattle.order_board.specs.declared.view.Post.{Post}
 use Rattle.pool_core.specs.declared.answer.Ran.{Ran}
@@ -19,6 +19,18 @@ is_round attempt.NoLink = false
 is_round (attempt.Status error) = false
 is_round (attempt.Refused refusal) = false
 is_round attempt.Memory = false
+
+-- the lines that report rounds
+abbrev pub rounds_in : List Attempt → List Attempt
+rounds_in lines = filter is_round lines
+
+-- The lines report just these rounds, in order, each as what it came to.
+abbrev pub AreNoted : List Attempt → List Ran → Type 0
+AreNoted lines rounds = map attempt_of rounds ≡ rounds_in lines
+
+-- the round that the line reports, if it reports one, is the next
+abbrev pub Notes : Attempt → List Ran → List Ran → Type 0
+Notes line before now = map attempt_of now ≡ map attempt_of before ++ rounds_in (line ∷ [])
 
 -- It reports a round of a pool of these settings, and the orders of that round were posted, and nothing else.
 abbrev pub PostsRound : Settings → Attempt → List Post → List Post → Type 0

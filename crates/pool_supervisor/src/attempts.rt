@@ -2,8 +2,7 @@
 ghost use Rattle.std.specs.Prelude.{◌≡◌, ◌+◌, ◌-◌, ◌<◌, ◌≤◌, ◌^◌, ◌∷◌, [], List, not, IfOk, IfSome, OnOk, vec_len, vec_capacity};
 ghost use Rattle.pool_settings.specs.Slots.{slots as slot_count};
 ghost use Rattle.pool_supervisor.specs.Asking.{Tells};
-ghost use Rattle.pool_supervisor.specs.Counted.{CountAHistory};
-ghost use Rattle.pool_supervisor.specs.Rounds.{PostAndStop, Posts, PostSince, StopsAll};
+ghost use Rattle.pool_supervisor.specs.Rounds.{AreNoted, Notes, PostAndStop, Posts, PostSince, StopsAll};
 ghost use Rattle.pool_supervisor.specs.Runs.{IsRun, Keeps, most_kept};
 ghost use Rattle.pool_supervisor.specs.Tries.{Attempts, Fills, FillsOne, IsSeenAs};
 
@@ -12,7 +11,7 @@ use crate::crew::Crew;
 use crate::dial::Dial;
 use crate::jobs::JobSource;
 use crate::news::{Attempted, JoinedWorker, Progress};
-use crate::place::{Place, RunId};
+use crate::place::{Place, RunId, RunRounds};
 use crate::planner::Planner;
 use crate::port::Watch;
 use crate::queue::Queue;
@@ -76,6 +75,8 @@ pub struct Supervisor<'e, N: RunId, L: Source + Sink, Y, P, J: JobSource, C, R> 
     pub crew: Crew<N, L>,
     /// Its seats at the board.
     pub seats: Seats,
+    /// The rounds so far, as it tells them.
+    pub rounds: RunRounds<N>,
     /// The longest queue per worker under the plan of this attempt. None if it has none yet, or if no job waits.
     pub longest: Option<Queue>,
     /// The seats are at the run's board.
@@ -165,6 +166,7 @@ impl<
         requires slot { slot < slot_count N.settings }
         requires link { ((L.output link).failures < 2 ^ 64 - 1) × ((L.input link).failures < 2 ^ 64 - 1) }
         ensures posts { self.new.seats.publisher ≡ self.old.seats.publisher }
+        ensures rounds { self.new.rounds ≡ self.old.rounds }
         ensures dial { self.new.dial ≡ self.old.dial }
     {
         let site = self.site;
@@ -197,6 +199,7 @@ impl<
         L: 's,
         requires slot { slot < slot_count N.settings }
         ensures posts { self.new.seats.publisher ≡ self.old.seats.publisher }
+        ensures rounds { self.new.rounds ≡ self.old.rounds }
         ensures fills { FillsOne N.settings N.allows slot (Y.calls self.old.dial) (Y.calls self.new.dial) }
     {
         if !self.site.is_empty(slot) {
@@ -219,6 +222,7 @@ impl<
         N: 's,
         L: 's,
         ensures posts { self.new.seats.publisher ≡ self.old.seats.publisher }
+        ensures rounds { self.new.rounds ≡ self.old.rounds }
         ensures fills { OnOk result
             (Fills N.settings N.allows (slot_count N.settings) (Y.calls self.old.dial) (Y.calls self.new.dial)) }
     {
@@ -231,6 +235,7 @@ impl<
     /// Posts Stop to the worker of every slot.
     fn stop_all(&mut self)
         ensures stops { StopsAll N.settings self.old.seats.publisher.posts self.new.seats.publisher.posts }
+        ensures rounds { self.new.rounds ≡ self.old.rounds }
         ensures dial { self.new.dial ≡ self.old.dial }
     {
         let site = self.site;
@@ -242,6 +247,7 @@ impl<
     /// What the server says, and then a plan for it.
     fn make_round(&mut self) -> Attempt
         ensures posts { Posts N.settings result self.old.seats.publisher.posts self.new.seats.publisher.posts }
+        ensures notes { Notes result self.old.rounds self.new.rounds }
         ensures tells { Tells N.settings result (Y.calls self.old.dial) (Y.calls self.new.dial) }
     {
         match self.take_load() {
@@ -263,6 +269,7 @@ impl<
         L: 's,
         ensures posts { IfOk result
             (λ line. Posts N.settings line self.old.seats.publisher.posts self.new.seats.publisher.posts) }
+        ensures notes { IfOk result (λ line. Notes line self.old.rounds self.new.rounds) }
         ensures calls { IfOk result
             (λ line. Attempts N.settings N.allows [] (line ∷ []) (Y.calls self.old.dial) (Y.calls self.new.dial)) }
     {
@@ -294,23 +301,25 @@ impl<
     fn attempt_all<'s>(
         &mut self,
         scope: &Scope<'s, &'e ()>,
-        rounds: u32,
+        attempts: u32,
         lines: &mut Lines,
     ) -> Result<(), AllocError>
     where
         'e: 's,
         N: 's,
         L: 's,
-        requires rounds { lines.old.until ≡ Until.Rounds rounds }
+        requires attempts { lines.old.until ≡ Until.Rounds attempts }
+        requires noted { AreNoted lines.old.told.items self.old.rounds }
+        ensures noted { OnOk result (AreNoted lines.new.told.items self.new.rounds) }
         ensures until { lines.new.until ≡ lines.old.until }
-        ensures lines { OnOk result (vec_len lines.new.told ≡ rounds) }
+        ensures lines { OnOk result (vec_len lines.new.told ≡ attempts) }
         ensures posts { OnOk result (PostSince N.settings lines.old.told.items lines.new.told.items
             self.old.seats.publisher.posts self.new.seats.publisher.posts) }
         ensures calls { OnOk result (Attempts N.settings N.allows lines.old.told.items lines.new.told.items
             (Y.calls self.old.dial) (Y.calls self.new.dial)) }
     {
         let site = self.site;
-        while lines.told.len() < rounds as usize {
+        while lines.told.len() < attempts as usize {
             let number = lines.told.len() as u32 + 1;
             let line = self.attempt(scope, number, &mut lines.chapters)?;
             lines.told.push_reserved(line);
@@ -329,9 +338,11 @@ impl<
         'e: 's,
         N: 's,
         L: 's,
+        requires noted { AreNoted [] self.old.rounds }
         ensures attempts { OnOk result ((lines : List Attempt)
             × PostSince N.settings [] lines self.old.seats.publisher.posts self.new.seats.publisher.posts
-            × Attempts N.settings N.allows [] lines (Y.calls self.old.dial) (Y.calls self.new.dial)) }
+            × Attempts N.settings N.allows [] lines (Y.calls self.old.dial) (Y.calls self.new.dial)
+            × AreNoted lines self.new.rounds) }
     {
         let site = self.site;
         let mut number = 0u32;
@@ -356,9 +367,11 @@ impl<
         'e: 's,
         N: 's,
         L: 's,
+        requires noted { AreNoted lines.old.told.items self.old.rounds }
         ensures attempts { OnOk result ((all : List Attempt) × Keeps lines.old.until all lines.new.told.items
             × PostAndStop N.settings lines.old.told.items all self.old.seats.publisher.posts self.new.seats.publisher.posts
-            × Attempts N.settings N.allows lines.old.told.items all (Y.calls self.old.dial) (Y.calls self.new.dial)) }
+            × Attempts N.settings N.allows lines.old.told.items all (Y.calls self.old.dial) (Y.calls self.new.dial)
+            × AreNoted all self.new.rounds) }
     {
         let attempted = match lines.until {
             Until::Rounds(rounds) => self.attempt_all(scope, rounds, lines),
@@ -378,9 +391,9 @@ impl<
         'e: 's,
         N: 's,
         L: 's,
-        ensures runs { IfOk result (λ ended. IsRun N.settings N.allows lines.until lines.told.items ended.0.lines.items
+        requires noted { AreNoted lines.told.items self.rounds }
+        ensures runs { IfOk result (λ ended. IsRun N.settings N.allows lines.until lines.told.items ended.0.lines.items ended.0.totals
             self.entry.seats.publisher.posts (Y.calls self.entry.dial) (Y.calls ended.1)) }
-        ensures counts { IfOk result (λ ended. CountAHistory N.settings ended.0.totals) }
     {
         let attempted = self.attempt_and_stop(scope, &mut lines);
         let Supervisor {
@@ -389,9 +402,10 @@ impl<
             planner: _,
             crew,
             mut seats,
+            rounds,
             longest: _,
         } = self;
-        let ended = crew.join_all(&site, &mut seats.source, &mut dial, lines);
+        let ended = crew.join_all(&site, &mut seats.source, &mut dial, rounds, lines);
         attempted?;
         match ended {
             Some(ended) => Ok((ended, dial)),
@@ -401,17 +415,17 @@ impl<
 
     /// The run, with its sessions as threads of one scope. All that they are lent has one lifetime. What dials is handed back.
     pub fn run(self, lines: Lines) -> Result<(RunEnd, Y), AllocError>
-        ensures runs { IfOk result (λ ended. IsRun N.settings N.allows lines.until lines.told.items ended.0.lines.items
+        requires noted { AreNoted lines.told.items self.rounds }
+        ensures runs { IfOk result (λ ended. IsRun N.settings N.allows lines.until lines.told.items ended.0.lines.items ended.0.totals
             self.entry.seats.publisher.posts (Y.calls self.entry.dial) (Y.calls ended.1)) }
-        ensures counts { IfOk result (λ ended. CountAHistory N.settings ended.0.totals) }
     {
         thread::scope(
             thread::scope_env(),
             self.site.lent.rt,
             |scope| -> Result<(RunEnd, Y), AllocError>
+                requires noted { AreNoted lines.told.items self.rounds }
                 ensures runs { IfOk result (λ ended. IsRun N.settings N.allows lines.until lines.told.items ended.0.lines.items
-                    self.entry.seats.publisher.posts (Y.calls self.entry.dial) (Y.calls ended.1)) }
-                ensures counts { IfOk result (λ ended. CountAHistory N.settings ended.0.totals) }
+                    ended.0.totals self.entry.seats.publisher.posts (Y.calls self.entry.dial) (Y.calls ended.1)) }
             { self.supervise(scope, lines) },
         )
     }

@@ -11,7 +11,7 @@ use crate::ends::EndCounts;
 use crate::job_counts::JobCounts;
 use crate::jobs::JobSource;
 use crate::news::{EndedWorker, Progress};
-use crate::place::{Grabs, Place, Reports, RunId};
+use crate::place::{Grabs, Place, Reports, RunId, RunRounds};
 use crate::port::Watch;
 use crate::run::RunEnd;
 use crate::session::{Enrolled, Papers, Returned, Site, run_worker};
@@ -165,7 +165,7 @@ impl<N: RunId, L: Source + Sink> Crew<N, L> {
         grabs.merge(grab_share);
         reports.merge(report_share);
         // The books bound the shares, and so the sums.
-        let _ = site.shared.hold(site.lent.rt).settle(grabs, reports);
+        let _ = site.shared.hold(site.lent.rt).audit(grabs, reports);
         *grabbed += end.grabbed;
         *reported += end.reported;
         jobs.add(jobs_of_session);
@@ -201,20 +201,21 @@ impl<N: RunId, L: Source + Sink> Crew<N, L> {
         }
     }
 
-    /// Joins all sessions, as each ends, and takes the totals: what the run came to, with these lines. None if a session could not be
-    /// started.
+    /// Joins all sessions, as each ends, and takes the totals: what the run came to, with these lines. The totals are of the history of
+    /// which these rounds were told. None if a session could not be started.
     pub fn join_all<J, C: Progress, R: Threads + Wait, Y: Dial<L>>(
         mut self,
         site: &Site<'_, N, J, C, R>,
         source: &mut SeatSource,
         dial: &mut Y,
+        rounds: RunRounds<N>,
         lines: Lines,
     ) -> Option<RunEnd>
         requires board { source.old.board ≡ N.board }
         ensures joins { Joins (Y.calls dial.old) (Y.calls dial.new) }
         ensures lines { IfSome result (λ ended. vec_len ended.lines ≡ vec_len lines.told) }
         ensures told { IfSome result (λ ended. ended.lines.items ≡ lines.told.items) }
-        ensures counts { IfSome result (λ ended. CountAHistory N.settings ended.totals) }
+        ensures counts { IfSome result (λ ended. CountAHistory N.settings ended.totals rounds) }
     {
         while self.running.len() > 0 {
             let last = self.running.len() - 1;
@@ -238,10 +239,11 @@ impl<N: RunId, L: Source + Sink> Crew<N, L> {
             chapters,
             until: _,
         } = lines;
+        let rt = site.lent.rt;
         let totals = site
             .shared
-            .hold(site.lent.rt)
-            .settle(&mut grabs, &mut reports);
+            .hold(rt)
+            .settle(rt, &mut grabs, &mut reports, rounds);
         Some(RunEnd {
             totals,
             grabbed,

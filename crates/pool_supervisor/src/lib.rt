@@ -35,7 +35,7 @@ pub use ends::EndCounts;
 pub use job_counts::JobCounts;
 pub use jobs::JobSource;
 pub use news::{Attempted, EndedWorker, JoinedWorker, Progress};
-pub use place::{Grabs, Place, Reports, RunBoard, RunId, RunLedger};
+pub use place::{Grabs, Place, Reports, RoundsOf, RunBoard, RunId, RunLedger, RunRounds};
 pub use planner::{ArenaPlanner, Planner};
 pub use port::{SharedPort, Watch};
 pub use posting::{publish, publish_by};

@@ -3,6 +3,7 @@ ghost use Rattle.std.specs.Prelude.{◌≡◌, ◌<◌, ◌≤◌};
 ghost use Rattle.atomic_table.specs.Seated.{TableId};
 ghost use Rattle.pool_settings.specs.Slots.{slots};
 
+use agreed_rounds::{RoundsId, RoundsTold};
 use order_board::{Board, ReaderSeat};
 use pool_core::Pass;
 use pool_settings::Settings;
@@ -11,8 +12,8 @@ use std::marker::{Brand, PhantomData};
 use std::sync::ledger::Ledger;
 use worker_state::WorkerName;
 
-/// The name of a run: its board, the settings of its pool, which slots its source allows, and the ledgers of its grabs and of its
-/// reports. Each call of a program picks it, so that what a thread hands back is known to be of its own run.
+/// The name of a run: its board, the settings of its pool, which slots its source allows, the ledgers of its grabs and of its reports, and
+/// its rounds. Each call of a program picks it, so that what a thread hands back is known to be of its own run.
 pub trait RunId {
     ghost use Rattle.std.specs.Prelude.{ℕ, Bool};
     ghost use Rattle.atomic_table.specs.Seated.{TableId};
@@ -27,6 +28,8 @@ pub trait RunId {
     ghost grabs: { ℕ };
 
     ghost reports: { ℕ };
+
+    ghost rounds: { TableId };
 }
 
 impl RunId for Brand {
@@ -41,13 +44,27 @@ impl RunId for Brand {
     ghost grabs = { 0 };
 
     ghost reports = { 0 };
+
+    ghost rounds = { no_board };
 }
 
-/// A ledger of a run. It knows the settings of the run's pool.
+/// A ledger of a run. It knows the settings of the run's pool, and the name of its rounds.
 pub trait RunLedger: Ledger {
+    ghost use Rattle.atomic_table.specs.Seated.{TableId};
     ghost use Rattle.pool_settings.specs.Settings.{Settings};
 
     ghost settings: { Settings };
+
+    ghost rounds: { TableId };
+}
+
+/// The rounds of a run, by a ledger of it.
+pub struct RoundsOf<G> {
+    of: PhantomData<G>,
+}
+
+impl<G: RunLedger> RoundsId for RoundsOf<G> {
+    ghost rounds = { G.rounds };
 }
 
 /// The ledger of a run's grabs.
@@ -65,7 +82,12 @@ impl<N: RunId> Ledger for Grabs<N> {
 
 impl<N: RunId> RunLedger for Grabs<N> {
     ghost settings = { N.settings };
+
+    ghost rounds = { N.rounds };
 }
+
+/// The rounds of a run, for its supervisor, who tells them.
+pub type RunRounds<N> = RoundsTold<RoundsOf<Grabs<N>>>;
 
 /// The ledger of a run's reports.
 pub struct Reports<N> {

@@ -1,7 +1,7 @@
 //! One round of planning: what the server says, the plan, and its orders.
 ghost use Rattle.std.specs.Prelude.{◌≡◌, Ok, true, false, IfSome, IfNone, IfOk, IfErr, OnOk};
 ghost use Rattle.pool_supervisor.specs.Asking.{Given, IsNotTaken, Takes, Tells, is_planned};
-ghost use Rattle.pool_supervisor.specs.Rounds.{Posts, is_round};
+ghost use Rattle.pool_supervisor.specs.Rounds.{Notes, Posts, is_round};
 ghost use Rattle.pool_supervisor.specs.Steps.{AnswersView, IsMadeOf};
 
 use crate::asking::ask_for_load;
@@ -77,6 +77,7 @@ impl<
         ensures err { IfErr result (λ line. Tells N.settings line (Y.calls self.old.dial) (Y.calls self.new.dial)) }
         ensures no_round { IfErr result (λ line. is_round line ≡ false) }
         ensures posts { self.new.seats.publisher ≡ self.old.seats.publisher }
+        ensures rounds { self.new.rounds ≡ self.old.rounds }
     {
         let load = ask_for_load(self.site.lent.alloc, &mut self.dial)?;
         give_load(&self.site, load)
@@ -86,7 +87,8 @@ impl<
     /// pool has changed meanwhile.
     fn try_round(&mut self) -> Option<Attempt>
         ensures posts { IfSome result (λ line. Posts N.settings line self.old.seats.publisher.posts self.new.seats.publisher.posts) }
-        ensures stale { IfNone result (self.new.seats.publisher ≡ self.old.seats.publisher) }
+        ensures notes { IfSome result (λ line. Notes line self.old.rounds self.new.rounds) }
+        ensures stale { IfNone result ((self.new.seats.publisher ≡ self.old.seats.publisher) × (self.new.rounds ≡ self.old.rounds)) }
         ensures planned { IfSome result (λ line. is_planned line ≡ true) }
         ensures dial { self.new.dial ≡ self.old.dial }
     {
@@ -100,9 +102,13 @@ impl<
         };
         site.lent.watch.planned(site.run.settings, &certified);
         let longest = longest_queue(&certified);
-        let mut held = site.shared.hold(site.lent.rt);
+        let rt = site.lent.rt;
+        let mut held = site.shared.hold(rt);
         let publisher = &mut self.seats.publisher;
-        match site.run.adopt_and_publish(&mut held, publisher, certified) {
+        match site
+            .run
+            .adopt_and_publish(rt, &mut held, publisher, &mut self.rounds, certified)
+        {
             Ok(ran) => {
                 self.longest = longest;
                 Some(Attempt::of_round(&ran))
@@ -115,6 +121,7 @@ impl<
     /// A round for the load that the pool has. If the pool changes while it is planned, it is tried again, three times in all.
     pub fn plan_round(&mut self) -> Attempt
         ensures posts { Posts N.settings result self.old.seats.publisher.posts self.new.seats.publisher.posts }
+        ensures notes { Notes result self.old.rounds self.new.rounds }
         ensures planned { is_planned result ≡ true }
         ensures dial { self.new.dial ≡ self.old.dial }
     {

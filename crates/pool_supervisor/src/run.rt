@@ -2,10 +2,9 @@
 ghost use Rattle.std.specs.Prelude.{◌≡◌, ◌+◌, ◌≤◌, ◌^◌, [], List, IfOk, vec_len};
 ghost use Rattle.pool_settings.specs.Slots.{slots as slot_count};
 ghost use Rattle.pool_core.specs.Book.{totals_of};
-ghost use Rattle.pool_supervisor.specs.Counted.{CountAHistory};
 ghost use Rattle.pool_supervisor.specs.JobCounts.{answered};
 ghost use Rattle.pool_supervisor.specs.Rounds.{TellRun};
-ghost use Rattle.pool_supervisor.specs.Runs.{IsRun};
+ghost use Rattle.pool_supervisor.specs.Runs.{AreOfOneHistory, IsRun};
 ghost use Rattle.pool_supervisor.specs.Tries.{Dials, all_slots};
 
 use crate::attempt::Attempt;
@@ -21,6 +20,7 @@ use crate::planner::Planner;
 use crate::port::Watch;
 use crate::session::{Lent, Site};
 use crate::shared::Shared;
+use agreed_rounds::NoRounds;
 use byte_io::{Sink, Source};
 use job_runner::NamedJobs;
 use order_board::Board;
@@ -65,9 +65,10 @@ struct Made {
     pool: Pool,
     board: Board,
     seats: Seats,
+    rounds: NoRounds,
     lines: Lines,
-    /// Nothing was grabbed yet.
-    ghost is_new: { (totals_of pool).grabbed ≡ 0 },
+    /// Nothing was grabbed yet, and no round was made.
+    ghost is_new: { ((totals_of pool).grabbed ≡ 0) × ((totals_of pool).rounds ≡ 0) },
     /// The seats are at the board, which has a place for each slot.
     ghost can_post: { seats.publisher.board ≡ board.id },
     ghost can_seat: { seats.source.board ≡ board.id },
@@ -88,6 +89,7 @@ struct Tools<'e, L, Y, P> {
 
 impl<'e, L: Source + Sink + Send + Drop, Y: Dial<L> + Drop, P: Planner> Tools<'e, L, Y, P> {
     /// The run of this name.
+    #[tactic(auto, using(crate::proofs::Rounds::none_noted))]
     fn run<
         N: RunId + Send + Sync,
         J: JobSource + Sync,
@@ -104,10 +106,10 @@ impl<'e, L: Source + Sink + Send + Drop, Y: Dial<L> + Drop, P: Planner> Tools<'e
         requires settings { (self.settings.now ≡ N.settings) × (made.pool.settings ≡ N.settings) }
         requires grabbed { (grabbed.name ≡ N.grabs) × (grabbed.parts ≡ 2 ^ 40) }
         requires reported { (reported.name ≡ N.reports) × (reported.parts ≡ 2 ^ 40) }
+        requires rounds { made.rounds ≡ N.rounds }
         requires rule { J.allows lent.jobs.now ≡ N.allows }
-        ensures runs { IfOk result (λ ended. IsRun made.pool.settings N.allows made.lines.until [] ended.0.lines.items []
+        ensures runs { IfOk result (λ ended. IsRun made.pool.settings N.allows made.lines.until [] ended.0.lines.items ended.0.totals []
             (Y.calls self.entry.dial) (Y.calls ended.1)) }
-        ensures counts { IfOk result (λ ended. CountAHistory made.pool.settings ended.0.totals) }
     {
         let Tools {
             settings,
@@ -119,10 +121,11 @@ impl<'e, L: Source + Sink + Send + Drop, Y: Dial<L> + Drop, P: Planner> Tools<'e
             pool,
             board,
             seats,
+            rounds,
             lines,
         } = made;
-        let (shared, (grabs, reports)) = Shared::<Grabs<N>, Reports<N>>::new(
-            pool, grabbed, reported,
+        let (shared, (grabs, reports), told) = Shared::<Grabs<N>, Reports<N>>::new(
+            pool, grabbed, reported, rounds,
         );
         let supervisor = Supervisor {
             site: Site {
@@ -138,6 +141,7 @@ impl<'e, L: Source + Sink + Send + Drop, Y: Dial<L> + Drop, P: Planner> Tools<'e
             planner,
             crew: Crew::<N, L>::new(lent.alloc, grabs, reports),
             seats,
+            rounds: told,
             longest: None,
         };
         supervisor.run(lines)
@@ -149,9 +153,8 @@ impl<'e, L: Source + Sink + Send + Drop, Y: Dial<L> + Drop, P: Planner> Tools<'e
         lent: Lent<'e, J, C, R>,
         until: Until,
     ) -> Result<(RunEnd, Y), AllocError>
-        ensures runs { IfOk result (λ e. IsRun self.entry.settings.now (J.allows lent.entry.jobs.now) until [] e.0.lines.items []
-            (Y.calls self.entry.dial) (Y.calls e.1)) }
-        ensures counts { IfOk result (λ e. CountAHistory self.entry.settings.now e.0.totals) }
+        ensures runs { IfOk result (λ e. IsRun self.entry.settings.now (J.allows lent.entry.jobs.now) until [] e.0.lines.items
+            e.0.totals [] (Y.calls self.entry.dial) (Y.calls e.1)) }
     {
         report_lacking(lent.watch, lent.jobs, self.settings);
         let made = make(lent.alloc, self.settings, until)?;
@@ -188,17 +191,20 @@ fn make(alloc: Global, settings: &Settings, until: Until) -> Result<Made, AllocE
     let Ok((board, publisher, source)) = Board::new(alloc, settings.slots()) else {
         return Err(AllocError);
     };
+    let rounds = NoRounds::new(alloc)?;
     Ok(Made {
         pool,
         board,
         seats: Seats { publisher, source },
+        rounds,
         lines,
     })
 }
 
 /// Runs a pool of these settings for so many attempts, with a session for each slot, and then ends all sessions. Each session has the jobs
 /// that the source gives it. The watch is told of each function without a job, of each attempt, of each worker's end, and of what the run
-/// came to. What dials is handed back with that, so that its calls are known. The only error is that memory or a thread was refused.
+/// came to. What dials is handed back with that, so that its calls are known. Lines and totals are of one history, which keeps to the
+/// promise. The only error is that memory or a thread was refused.
 pub fn run_sessions<
     L: Source + Sink + Send + Drop,
     Y: Dial<L> + Drop,
@@ -214,7 +220,7 @@ pub fn run_sessions<
 ) -> Result<(RunEnd, Y), AllocError>
     ensures lines { IfOk result (λ e. vec_len e.0.lines ≡ rounds) }
     ensures told { IfOk result (λ e. TellRun settings [] e.0.lines.items []) }
-    ensures counts { IfOk result (λ e. CountAHistory settings e.0.totals) }
+    ensures one_history { IfOk result (λ e. AreOfOneHistory settings e.0.totals e.0.lines.items) }
     ensures dials { IfOk result (λ e. Dials settings (S.allows lent.entry.jobs.now) [] e.0.lines.items (Y.calls dial) (Y.calls e.1)) }
 {
     let tools: Tools<'_, L, Y, P> = Tools {
@@ -241,8 +247,8 @@ pub fn run_until_told<
     settings: Settings,
 ) -> Result<(RunEnd, Y), AllocError>
     ensures attempts { IfOk result (λ e. (lines : List Attempt) × TellRun settings [] lines []
-        × Dials settings (S.allows lent.entry.jobs.now) [] lines (Y.calls dial) (Y.calls e.1)) }
-    ensures counts { IfOk result (λ e. CountAHistory settings e.0.totals) }
+        × Dials settings (S.allows lent.entry.jobs.now) [] lines (Y.calls dial) (Y.calls e.1)
+        × AreOfOneHistory settings e.0.totals lines) }
 {
     let tools: Tools<'_, L, Y, P> = Tools {
         settings: &settings,
@@ -273,7 +279,7 @@ pub fn run_pool<
 ) -> Result<(RunEnd, Y), AllocError>
     ensures lines { IfOk result (λ e. vec_len e.0.lines ≡ rounds) }
     ensures told { IfOk result (λ e. TellRun settings [] e.0.lines.items []) }
-    ensures counts { IfOk result (λ e. CountAHistory settings e.0.totals) }
+    ensures one_history { IfOk result (λ e. AreOfOneHistory settings e.0.totals e.0.lines.items) }
     ensures dials { IfOk result (λ e. Dials settings all_slots [] e.0.lines.items (Y.calls dial) (Y.calls e.1)) }
 {
     let tools: Tools<'_, L, Y, P> = Tools {

@@ -1,5 +1,6 @@
 //! The steps of an attempt, each on what lies under the lock in one hold of it.
-ghost use Rattle.std.specs.Prelude.{◌≡◌, ◌↔◌, ◌+◌, ◌<◌, ◌≤◌, ℕ, true, false, not, count_by, IsSome, IfSome, IfNone, IfOk, OnErr};
+ghost use Rattle.std.specs.Prelude.{◌≡◌, ◌↔◌, ◌+◌, ◌<◌, ◌≤◌, ◌++◌, ◌∷◌, [], ℕ, true, false, not, count_by};
+ghost use Rattle.std.specs.Prelude.{IsSome, IfSome, IfNone, IfOk, OnErr};
 ghost use Rattle.pool_settings.specs.Slots.{slots as slot_count};
 ghost use Rattle.worker_state.specs.Slots.{is_live};
 ghost use Rattle.worker_state.specs.declared.slot.Slot.TheVariants.{Empty};
@@ -11,11 +12,12 @@ ghost use Rattle.pool_supervisor.specs.Reached.{IsReached, IsRoundOf};
 ghost use Rattle.pool_supervisor.specs.Steps.{IsChapterDue, IsLate, most_forgotten, worker_of};
 
 use crate::booked::Booked;
-use crate::place::{Grabs, Reports, RunBoard, RunId};
+use crate::place::{Grabs, Reports, RunBoard, RunId, RunRounds};
 use crate::posting::{publish_by, stop_by};
 use order_board::PublisherSeat;
 use plan_model::{Certified, SlotId};
 use pool_core::{AdoptError, Chapter, ChapterError, ExpireError, Ran, histories_join};
+use std::sync::Wait;
 use worker_state::Slot;
 
 /// How many jobs are forgotten in one hold of the lock, at the most.
@@ -113,11 +115,14 @@ impl<'e, N: RunId> RunBoard<'e, N> {
         true
     }
 
-    /// Adopts an answer, and posts the orders of the round if it has a plan, so that no later round's orders come before them.
-    pub fn adopt_and_publish(
+    /// Adopts an answer as the next round to tell, and posts the orders of the round if it has a plan, so that no later round's orders come
+    /// before them.
+    pub fn adopt_and_publish<R: Wait>(
         &self,
+        rt: &R,
         held: &mut Booked<Grabs<N>, Reports<N>>,
         publisher: &mut PublisherSeat,
+        rounds: &mut RunRounds<N>,
         certified: Certified,
     ) -> Result<Ran, AdoptError>
         requires own { publisher.old.board ≡ N.board }
@@ -125,11 +130,12 @@ impl<'e, N: RunId> RunBoard<'e, N> {
         ensures round { IfOk result (λ ran. IsRoundOf N.settings ran held.new.state) }
         ensures own { publisher.new.board ≡ publisher.old.board }
         ensures posts { IfOk result (λ ran. ArePosted (round_order ran held.new.state) publisher.old.posts publisher.new.posts) }
-        ensures refused { OnErr result (publisher.new ≡ publisher.old) }
+        ensures told { IfOk result (λ ran. rounds.new ≡ rounds.old ++ ran ∷ []) }
+        ensures refused { OnErr result ((publisher.new ≡ publisher.old) × (rounds.new ≡ rounds.old)) }
     {
         held.facts();
         histories_join();
-        let ran = held.adopt(certified)?;
+        let ran = held.adopt(rt, rounds, certified)?;
         if ran.backlog.is_some() {
             held.facts();
             publish_by(held.pool(), self.board, publisher);

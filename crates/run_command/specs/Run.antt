@@ -11,9 +11,9 @@ use Rattle.plan_commands.specs.declared.fault.Fault.{Fault}
 use Rattle.pool_core.specs.Totals.{totals_line}
 use Rattle.pool_settings.specs.Reading.{reading}
 use Rattle.pool_settings.specs.Settings.{Settings}
-use Rattle.pool_supervisor.specs.Counted.{CountAHistory}
 use Rattle.pool_supervisor.specs.Lines.{attempt_line}
 use Rattle.pool_supervisor.specs.Rounds.{TellRun}
+use Rattle.pool_supervisor.specs.Runs.{AreOfOneHistory}
 use Rattle.pool_supervisor.specs.declared.attempt.Attempt.{Attempt}
 use Rattle.pool_supervisor.specs.declared.attempt.Attempt.TheVariants.{NoPlan}
 use Rattle.pool_supervisor.specs.declared.run.RunEnd.{RunEnd}
@@ -43,12 +43,12 @@ status_after attempts = if list_any has_no_plan attempts then 1 else 0
 abbrev pub IsKeptFrom : List ℕ → Fault → Type 0
 IsKeptFrom settings_text f = Reads settings_text (Err f)
 
--- The text means settings, and a run by them came to this: its lines report rounds of histories of these settings, and its totals count the
--- grabs and the reports of one.
+-- The text means settings, and a run by them came to this: the lines that report rounds report those of one history of these settings, in
+-- order and no other, and its totals count the same history, which keeps to the promise.
 abbrev pub IsRunBy : List ℕ → RunEnd → Type 0
 IsRunBy settings_text ended =
     (settings : Settings) × (reading settings_text ≡ Ok settings) × TellRun settings [] ended.lines.items []
-    × CountAHistory settings ended.totals
+    × AreOfOneHistory settings ended.totals ended.lines.items
 
 -- The settings mean something, a run by them ended after so many attempts, and what it came to is written. Or it is kept from that by a
 -- fault, and nothing is written.

@@ -1,8 +1,8 @@
 //! The command `run`: from a settings text to what a run of the pool came to.
 
 ghost use Rattle.std.specs.Prelude.{◌≡◌, ◌-◌, ◌^◌, ◌<◌, IfErr, IfOk, [], length, string_bytes};
-ghost use Rattle.pool_supervisor.specs.Counted.{CountAHistory};
 ghost use Rattle.pool_supervisor.specs.Rounds.{TellRun};
+ghost use Rattle.pool_supervisor.specs.Runs.{AreOfOneHistory};
 ghost use Rattle.run_command.specs.Run as spec;
 
 use crate::host::{Host, Route};
@@ -25,7 +25,7 @@ fn run_with<H: Host, J: JobSource + Sync>(
 ) -> Result<RunEnd, AllocError>
     ensures lines { IfOk result (λ ended. length ended.lines.items ≡ rounds) }
     ensures told { IfOk result (λ ended. TellRun settings [] ended.lines.items []) }
-    ensures counts { IfOk result (λ ended. CountAHistory settings ended.totals) }
+    ensures one_history { IfOk result (λ ended. AreOfOneHistory settings ended.totals ended.lines.items) }
 {
     let route = Route {
         host,

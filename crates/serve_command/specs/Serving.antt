@@ -4,8 +4,8 @@ use Rattle.plan_commands.specs.Fault.{answered, refused}
 use Rattle.plan_commands.specs.declared.ending.Exit.{Exit}
 use Rattle.plan_commands.specs.declared.fault.Fault.{Fault}
 use Rattle.pool_settings.specs.Settings.{Settings}
-use Rattle.pool_supervisor.specs.Counted.{CountAHistory}
 use Rattle.pool_supervisor.specs.Rounds.{TellRun}
+use Rattle.pool_supervisor.specs.Runs.{AreOfOneHistory}
 use Rattle.pool_supervisor.specs.declared.attempt.Attempt.{Attempt}
 use Rattle.pool_supervisor.specs.declared.run.RunEnd.{RunEnd}
 use Rattle.serve_command.specs.Farm.{IsOf, IsRefused}
@@ -13,10 +13,10 @@ use Rattle.serve_command.specs.declared.reporting.Outlook.{Outlook}
 use Rattle.serve_command.specs.declared.reporting.Outlook.TheVariants as outlook
 use Rattle.service_settings.specs.Services.{Services}
 
--- A run by these settings came to this: its attempts report rounds of histories of these settings, and its totals count the grabs and the
--- reports of one.
+-- A run by these settings came to this: its totals are of one history of these settings, which keeps to the promise. Some lines, which are
+-- not kept, report just the rounds of that history.
 abbrev pub IsFarmRun : Settings → RunEnd → Type 0
-IsFarmRun settings ended = ((lines : List Attempt) × TellRun settings [] lines []) × CountAHistory settings ended.totals
+IsFarmRun settings ended = (lines : List Attempt) × TellRun settings [] lines [] × AreOfOneHistory settings ended.totals lines
 
 -- The texts mean a farm, and a run of it came to this.
 abbrev pub IsFarmRunBy : List ℕ → List ℕ → RunEnd → Type 0

@@ -10,7 +10,7 @@ invariant_of-result c =
     let pool = c.in_ok-pool.pool in
     let same = ap (λ (b : Book). slot_count b.settings) c.in_ok-pool.ensures ∙ ap (λ (s : Settings). slot_count s) c.in_ok-copy.ensures.equal in
     record {
-      is_new = ap (λ (b : Book). (totals_of b).grabbed) c.in_ok-pool.ensures;
+      is_new = (ap (λ (b : Book). (totals_of b).grabbed) c.in_ok-pool.ensures, ap (λ (b : Book). (totals_of b).rounds) c.in_ok-pool.ensures);
       can_post = c.in-Ok.ensures.publisher.0;
       can_seat = c.in-Ok.ensures.source;
       room = omega (arith, same, c.slots.ensures.all, c.in-Ok.ensures.slots);

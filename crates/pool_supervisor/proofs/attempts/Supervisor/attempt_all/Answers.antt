@@ -1,8 +1,8 @@
 use Rattle.std.proofs.Common.{List, refl, sym, subst, ◌++◌, ◌∷◌, []}
 use Rattle.pool_supervisor.specs.declared.attempt.Attempt.{Attempt}
-use Rattle.pool_supervisor.specs.Rounds.{PostSince}
+use Rattle.pool_supervisor.specs.Rounds.{AreNoted, PostSince}
 use Rattle.pool_supervisor.specs.Tries.{Attempts}
-use Rattle.pool_supervisor.proofs.Rounds.{since_none, since_one, since_both}
+use Rattle.pool_supervisor.proofs.Rounds.{since_none, since_one, since_both, noted_more}
 use Rattle.pool_supervisor.proofs.Tries.{no_attempts, attempts_behind, more_attempts}
 use Rattle.pool_supervisor.proofs.attempts.Supervisor.attempt_all.Goals as goal
 
@@ -11,6 +11,7 @@ loop-site-init g c = (
   since_none g.N.RunId.settings c.args.lines.now.told.items c.args.self.now.seats.publisher.posts,
   refl,
   no_attempts g.N.RunId.settings g.N.RunId.allows c.args.lines.now.told.items (g.Y.Dial.calls c.args.self.now.dial),
+  c.requires.noted,
 )
 
 pub loop-site-preserved : goal.loop-site-preserved
@@ -33,4 +34,6 @@ loop-site-preserved g c =
       subst (λ (l : List Attempt). PostSince settings first l before after) (sym c.push_reserved.ensures.items) posts,
       c.loop-site.invariant.1,
       subst (λ (l : List Attempt). Attempts settings g.N.RunId.allows first l called calls) (sym c.push_reserved.ensures.items) made,
+      subst (λ (l : List Attempt). AreNoted l c.attempt.new.self.rounds) (sym c.push_reserved.ensures.items)
+          (noted_more now line c.loop-site.self.rounds c.attempt.new.self.rounds c.loop-site.invariant.3 c.in_ok-line.ensures.notes),
     )

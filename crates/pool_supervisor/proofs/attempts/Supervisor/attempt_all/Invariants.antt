@@ -1,5 +1,5 @@
 use Rattle.std.specs.Prelude.{◌≡◌, ◌-◌, vec_len}
-use Rattle.pool_supervisor.specs.Rounds.{PostSince}
+use Rattle.pool_supervisor.specs.Rounds.{AreNoted, PostSince}
 use Rattle.pool_supervisor.specs.Tries.{Attempts}
 use Rattle.pool_supervisor.proofs.attempts.Supervisor.attempt_all.Given as goal
 
@@ -8,6 +8,7 @@ invariant-loop-site g l =
     PostSince g.N.RunId.settings l.initial.lines.told.items l.lines.told.items l.initial.self.seats.publisher.posts l.self.seats.publisher.posts
     × (l.lines.until ≡ l.initial.lines.until)
     × Attempts g.N.RunId.settings g.N.RunId.allows l.initial.lines.told.items l.lines.told.items (g.Y.Dial.calls l.initial.self.dial) (g.Y.Dial.calls l.self.dial)
+    × AreNoted l.lines.told.items l.self.rounds
 
 abbrev pub decreases-loop-site : goal.decreases-loop-site
-decreases-loop-site g l = l.rounds - vec_len l.lines.told
+decreases-loop-site g l = l.attempts - vec_len l.lines.told

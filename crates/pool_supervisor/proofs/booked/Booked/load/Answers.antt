@@ -1,10 +1,11 @@
 use Rattle.std.proofs.Common.{◌∙◌, sym, refl}
 use Rattle.pool_core.specs.declared.event.Event.TheVariants as event
-use Rattle.pool_supervisor.proofs.Counts.{same_totals}
+use Rattle.pool_supervisor.proofs.Counts.{same_totals, same_rounds}
 use Rattle.pool_supervisor.proofs.booked.Booked.load.Goals as goal
 
 pub invariant_of-self : goal.invariant_of-self
 invariant_of-self g c =
     let h = c.load.ensures in
     let t = same_totals (event.Load c.args.load) c.self.inside.pool c.load.new.self c.load.result c.events_count.ensures refl refl h.0.0 h.0.1 in
-    (c.self.invariant.0 ∙ sym t.0, c.self.invariant.1 ∙ sym t.1, t.2 ∙ c.self.invariant.2)
+    let rounds = same_rounds (event.Load c.args.load) c.self.inside.pool c.load.new.self c.self.inside.rounds c.load.result c.histories_join.ensures refl h.0.0 h.0.1 c.self.invariant.3 in
+    (c.self.invariant.0 ∙ sym t.0, c.self.invariant.1 ∙ sym t.1, t.2 ∙ c.self.invariant.2, rounds)

@@ -4,7 +4,6 @@ use Rattle.pool_settings.specs.Settings.{Settings}
 use Rattle.pool_settings.specs.Slots.{slots as slot_count}
 use Rattle.order_board.specs.declared.view.Post.{Post}
 use Rattle.pool_supervisor.specs.declared.attempt.Attempt.{Attempt}
-use Rattle.pool_supervisor.specs.Counted.{CountAHistory}
 use Rattle.pool_supervisor.specs.Runs.{IsRun}
 use Rattle.pool_supervisor.proofs.run.Tools.run.Goals as goal
 
@@ -18,20 +17,16 @@ invariant_of-supervisor g c =
     }
 
 -- nothing was told or posted before
-pub returns-clause-runs : goal.returns-clause-runs
-returns-clause-runs g c =
+pub returns : goal.returns
+returns g c =
     let settings = g.N.RunId.settings in
     let until = c.args.made.lines.until in
     let called = g.Y.Dial.calls c.args.self.dial in
     let posts = c.args.made.seats.publisher.posts in
     let from_first =
-    subst (λ (l : List Attempt). IfOk c.run.result (λ e. IsRun settings g.N.RunId.allows until l e.0.lines.items posts called (g.Y.Dial.calls e.1))) c.args.made.none_told c.run.ensures.runs
+    subst (λ (l : List Attempt). IfOk c.run.result (λ e. IsRun settings g.N.RunId.allows until l e.0.lines.items e.0.totals posts called (g.Y.Dial.calls e.1))) c.args.made.none_told c.run.ensures.runs
     in
     let from_empty =
-    subst (λ (p : List Post). IfOk c.run.result (λ e. IsRun settings g.N.RunId.allows until [] e.0.lines.items p called (g.Y.Dial.calls e.1))) c.args.made.none_posted from_first
+    subst (λ (p : List Post). IfOk c.run.result (λ e. IsRun settings g.N.RunId.allows until [] e.0.lines.items e.0.totals p called (g.Y.Dial.calls e.1))) c.args.made.none_posted from_first
     in
-    subst (λ (s : Settings). IfOk c.run.result (λ e. IsRun s g.N.RunId.allows until [] e.0.lines.items [] called (g.Y.Dial.calls e.1))) (sym c.requires.settings.1) from_empty
-
-pub returns-clause-counts : goal.returns-clause-counts
-returns-clause-counts g c =
-    subst (λ (s : Settings). IfOk c.run.result (λ e. CountAHistory s e.0.totals)) (sym c.requires.settings.1) c.run.ensures.counts
+    record { runs = subst (λ (s : Settings). IfOk c.run.result (λ e. IsRun s g.N.RunId.allows until [] e.0.lines.items e.0.totals [] called (g.Y.Dial.calls e.1))) (sym c.requires.settings.1) from_empty }
