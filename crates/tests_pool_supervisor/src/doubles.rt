@@ -3,7 +3,7 @@
 use crate::tally::{Happening, Tally};
 use job_runner::{End, Job, JobTable, Outcome};
 use plan_model::{Answer, Input, Plan};
-use pool_supervisor::{ArenaPlanner, Attempted, Planner, Progress, Watch};
+use pool_supervisor::{ArenaPlanner, Attempt, Attempted, Planner, Progress, Watch};
 use std::alloc::{AllocError, Global};
 use std::sync::atomic::{AtomicU64, Ordering};
 use std::time::Clock;
@@ -61,10 +61,24 @@ impl<R: Clock> Watch for Stage<'_, R> {
 
 impl<R> Progress for Stage<'_, R> {
     fn attempted(&self, made: &Attempted<'_>) {
-        if self.tally.count(Happening::Attempted).saturating_add(1) == u64::from(made.number) {
-            let _before = self.tally.add(Happening::Attempted);
+        // Each attempt is reported once, and before its pause.
+        let before = self.tally.add(Happening::Attempted);
+        let is_next = before.saturating_add(1) == u64::from(made.number);
+        if !is_next || self.tally.count(Happening::Paused) != before {
+            self.tally.give_up();
+        }
+        if is_round(made.attempt) {
+            let _before = self.tally.add(Happening::MadeRound);
         }
     }
+}
+
+/// Whether the attempt came to a round.
+pub fn is_round(attempt: &Attempt) -> bool {
+    matches!(
+        attempt,
+        Attempt::Backlog { .. } | Attempt::Unserved { .. } | Attempt::NoPlan { .. }
+    )
 }
 
 /// Tells its input in reverse. Where its input is listed, it waits first, until something has happened so often.

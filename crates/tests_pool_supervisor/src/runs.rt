@@ -1,6 +1,6 @@
 //! Whole runs over the server in memory. None depends on which thread runs when: where it matters, somebody waits.
 
-use crate::doubles::Pause;
+use crate::doubles::{Pause, is_round};
 use crate::scenario::{Scenario, lines_of, totals_of};
 use crate::server::{ASSIGN, Fate, Part};
 use crate::tally::{Happening, Tally};
@@ -52,6 +52,8 @@ fn expect(
     assert_eq!(rt; totals_of(ended), totals);
     assert_eq!(rt; (ended.grabbed, ended.reported), (totals.0, totals.2));
     assert_eq!(rt; tally.count(Happening::Attempted), ended.lines.len() as u64);
+    let rounds = ended.lines.iter().filter(|line| is_round(line)).count();
+    assert_eq!(rt; tally.count(Happening::MadeRound), rounds as u64);
     assert_eq!(rt; tally.count(Happening::Paused), ended.lines.len() as u64);
     Ok(())
 }

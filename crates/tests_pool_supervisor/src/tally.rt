@@ -24,8 +24,10 @@ pub enum Happening {
     Left,
     /// A plan was asked for.
     Planned,
-    /// An attempt was reported, with the number after that of the one before.
+    /// An attempt was reported.
     Attempted,
+    /// The same, and it came to a round.
+    MadeRound,
     /// There was a pause of the length that the settings of the tests want.
     Paused,
 }
@@ -39,6 +41,7 @@ pub struct Tally {
     left: AtomicU64,
     planned: AtomicU64,
     attempted: AtomicU64,
+    rounds: AtomicU64,
     paused: AtomicU64,
     given_up: AtomicU64,
 }
@@ -53,6 +56,7 @@ impl Tally {
             left: AtomicU64::new(0),
             planned: AtomicU64::new(0),
             attempted: AtomicU64::new(0),
+            rounds: AtomicU64::new(0),
             paused: AtomicU64::new(0),
             given_up: AtomicU64::new(0),
         }
@@ -66,6 +70,7 @@ impl Tally {
             Happening::Left => &self.left,
             Happening::Planned => &self.planned,
             Happening::Attempted => &self.attempted,
+            Happening::MadeRound => &self.rounds,
             Happening::Paused => &self.paused,
         }
     }
@@ -85,7 +90,7 @@ impl Tally {
         self.given_up.load(Ordering::SeqCst) > 0
     }
 
-    /// A wait is given up.
+    /// A wait is given up, or an attempt was not reported in its place.
     pub fn give_up(&self) {
         let _before = self.given_up.fetch_add(1, Ordering::SeqCst);
     }
