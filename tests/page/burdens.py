@@ -216,7 +216,7 @@ def rate(folder, stage, jobs):
 
 def speed(program):
     """Jobs a second of two workers while the page is read 20 times a second, and while it is not, by turns: the medians of seven turns."""
-    jobs, turns, found = 50_000, 7, {"alone": [], "read": []}
+    jobs, turns, found = 200_000, 7, {"alone": [], "read": []}
     machines = {name: (1, ["echo"]) for name in ("north", "south")}
     with tempfile.TemporaryDirectory() as folder, Stage(program, {"echo": {}}, machines, round_ms=100) as stage:
         build(folder)
