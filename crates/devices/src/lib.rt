@@ -16,6 +16,3 @@ pub use files::{Folder, read_file};
 pub use input::{LIMIT, read_whole};
 pub use streams::{InputSource, OutputSink};
 pub use tcp::TcpLink;
-
-#[cfg(test)]
-mod tests;

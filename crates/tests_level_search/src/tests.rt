@@ -2,10 +2,6 @@
 
 ghost use Rattle.std.specs.Prelude.{◌≡◌, IfOk, IfSome};
 
-mod farm;
-mod greatest;
-mod plain;
-mod refusals;
 mod rows;
 mod tables;
 

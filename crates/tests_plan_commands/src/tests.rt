@@ -1,7 +1,3 @@
-//! The commands on texts and on devices that fail.
+//! The commands on texts.
 
-mod failing;
-mod lines;
-mod one_worker;
-mod planning;
-mod services;
+pub mod planning;

@@ -1,5 +1,3 @@
-//! Settings files, with what they say.
+//! Settings files that are refused, and defaults.
 
-mod files;
-mod places;
-mod rules;
+pub mod files;

@@ -1,10 +1,6 @@
-//! Tests of the command `run` over job servers in memory, and of the stock jobs.
+//! A test of the command `run` over a job server in memory.
 #![tactic(auto)]
 
-#[cfg(test)]
-mod hosts;
-#[cfg(test)]
-mod jobs;
 #[cfg(test)]
 mod one_job;
 #[cfg(test)]

@@ -1,14 +1,13 @@
-//! Packets whose bytes come from Gearman's PROTOCOL document by hand, and dialogs that gearmand 1.1.20 had with a
-//! worker.
+//! Packets whose bytes come from Gearman's PROTOCOL document by hand, and what a worker sent to gearmand 1.1.20.
 use gear_packets::*;
 use std::alloc::Global;
 use std::process::Abort;
 use std::test::Fail;
 
-const ASSIGN: [u8; 32] = *b"\0RES\0\0\0\x1f\0\0\0\x14H:a:1\0reverse\0u1\0a\0c";
+pub const ASSIGN: [u8; 32] = *b"\0RES\0\0\0\x1f\0\0\0\x14H:a:1\0reverse\0u1\0a\0c";
 
 /// The arguments are those of this assignment.
-fn is_assign(
+pub fn is_assign(
     response: &Response,
     handle: &[u8],
     function: &[u8],
@@ -31,20 +30,13 @@ fn is_assign(
     }
 }
 
-fn is_fault(response: &Response, code: &[u8], text: &[u8]) -> bool {
+pub fn is_fault(response: &Response, code: &[u8], text: &[u8]) -> bool {
     match response {
         Response::Fault {
             code: given,
             text: told,
         } => given.as_slice() == code && told.as_slice() == text,
         _ => false,
-    }
-}
-
-fn payload_len(response: &Response) -> usize {
-    match response {
-        Response::Assign { payload, .. } => payload.len(),
-        _ => 0,
     }
 }
 
@@ -62,7 +54,7 @@ fn expect_assign(
     assert!(rt; reader.next().is_none());
 }
 
-fn expect_row(rt: &impl Abort, reader: &mut Reader) {
+pub fn expect_row(rt: &impl Abort, reader: &mut Reader) {
     expect_assign(rt, reader, b"H:a:1", b"reverse", b"u1", b"a\0c");
 }
 
@@ -89,50 +81,6 @@ fn an_assignment_in_two_pieces(rt: HostRuntime) {
     assert_eq!(rt; reader.feed(&ASSIGN[31..]), Ok(()));
     expect_row(&rt, &mut reader);
     assert_eq!(rt; reader.fault(), None);
-}
-
-#[test]
-fn an_assignment_cut_at_each_place(rt: HostRuntime) {
-    for cut in 0..33 {
-        let mut reader = Reader::new(rt.alloc());
-        assert_eq!(rt; reader.feed(&ASSIGN[..cut]), Ok(()));
-        assert_eq!(rt; reader.feed(&ASSIGN[cut..]), Ok(()));
-        expect_row(&rt, &mut reader);
-    }
-}
-
-#[test]
-fn an_assignment_in_single_bytes(rt: HostRuntime) {
-    let mut reader = Reader::new(rt.alloc());
-    for byte in &ASSIGN {
-        assert!(rt; reader.next().is_none());
-        assert_eq!(rt; reader.feed(&[*byte]), Ok(()));
-    }
-    expect_row(&rt, &mut reader);
-}
-
-#[test]
-fn two_assignments_in_one_piece(rt: HostRuntime) -> Result<(), Fail> {
-    let mut twice = Vec::from_slice(rt.alloc(), &ASSIGN)?;
-    twice.extend_from_slice(&ASSIGN)?;
-    let mut reader = Reader::new(rt.alloc());
-    assert_eq!(rt; reader.feed(&twice), Ok(()));
-    assert!(rt; matches!(reader.next(), Some(Response::Assign { .. })));
-    expect_row(&rt, &mut reader);
-    Ok(())
-}
-
-#[test]
-fn packets_before_a_fault_are_given(rt: HostRuntime) -> Result<(), Fail> {
-    let mut text = Vec::from_slice(rt.alloc(), &ASSIGN)?;
-    text.push(0xff).ok().ok_or("memory")?;
-    let mut reader = Reader::new(rt.alloc());
-    let bad_magic = Err(FeedError::Fault(StreamFault::BadMagic));
-    assert_eq!(rt; reader.feed(&text), bad_magic);
-    expect_row(&rt, &mut reader);
-    assert_eq!(rt; reader.feed(&[]), bad_magic);
-    assert_eq!(rt; reader.fault(), Some(StreamFault::BadMagic));
-    Ok(())
 }
 
 #[test]
@@ -220,13 +168,6 @@ fn other_bodies(rt: HostRuntime) {
     assert!(rt; is_fault(&error, b"e", b"t"));
 }
 
-#[test]
-fn handles_refused(rt: HostRuntime) {
-    assert!(rt; matches!(Handle::new(&[]), Err(HandleError::Empty)));
-    assert!(rt; matches!(Handle::new(&[0; 64]), Err(HandleError::TooLong)));
-    assert!(rt; matches!(Handle::new(b"H\0"), Err(HandleError::HasNul)));
-}
-
 /// The request is encoded by these bytes, and is what they are read as, whatever follows them.
 fn expect_spelled(
     rt: &impl Abort,
@@ -294,149 +235,8 @@ fn requests_of_a_session(rt: HostRuntime) -> Result<(), Fail> {
     Ok(())
 }
 
-/// What gearmand sent to a worker in a session, in single bytes.
 #[test]
-fn responses_of_a_session(rt: HostRuntime) {
-    let text =
-        b"\0RES\0\0\0\x0a\0\0\0\0\0RES\0\0\0\x06\0\0\0\0\0RES\0\0\0\x1f\0\0\0\x15H:vm:1\0reverse\0u1\0a\0c\
-          \0RES\0\0\0\x1f\0\0\0\x10H:vm:2\0reverse\0\0\
-          \0RES\0\0\0\x13\0\0\0\x30JOB_NOT_FOUND\0Job given in work result not found";
-    let mut reader = Reader::new(rt.alloc());
-    for byte in text {
-        assert_eq!(rt; reader.feed(&[*byte]), Ok(()));
-    }
-    assert!(rt; matches!(reader.next(), Some(Response::NoJob)));
-    assert!(rt; matches!(reader.next(), Some(Response::Noop)));
-    let first = reader.next().expect(&rt, "an assignment");
-    assert!(rt; is_assign(&first, b"H:vm:1", b"reverse", b"u1", b"a\0c"));
-    let second = reader
-        .next()
-        .expect(&rt, "an assignment without unique id and data");
-    assert!(rt; is_assign(&second, b"H:vm:2", b"reverse", b"", b""));
-    let error = reader.next().expect(&rt, "an error");
-    assert!(rt;
-        is_fault(
-            &error,
-            b"JOB_NOT_FOUND",
-            b"Job given in work result not found"
-        )
-    );
-    assert!(rt; reader.next().is_none());
-}
-
-/// So many bytes.
-fn bytes(alloc: Global, count: usize) -> Result<Vec<u8>, Fail> {
-    Ok(vec![in alloc; 7; count]?)
-}
-
-#[test]
-fn requests_refused(rt: HostRuntime) -> Result<(), Fail> {
-    let alloc = rt.alloc();
-    let with_nul = encode(alloc, &Request::CanDo(b"a\0"));
+fn a_name_with_a_zero_byte(rt: HostRuntime) {
+    let with_nul = encode(rt.alloc(), &Request::CanDo(b"a\0"));
     assert!(rt; matches!(with_nul, Err(EncodeError::NulInArgument)));
-    let name = bytes(alloc, 16_777_217)?;
-    let too_large = encode(alloc, &Request::SetClientId(&name));
-    assert!(rt; matches!(too_large, Err(EncodeError::TooLarge)));
-    let handle = Handle::new(b"H").ok().ok_or("no handle")?;
-    let data = bytes(alloc, 16_777_215)?;
-    let too_large = encode(alloc, &Request::WorkData(handle.copy(), &data));
-    assert!(rt; matches!(too_large, Err(EncodeError::TooLarge)));
-    let data = bytes(alloc, 16_777_214)?;
-    let greatest = encode(alloc, &Request::WorkData(handle, &data));
-    assert!(rt; greatest.is_ok());
-    Ok(())
-}
-
-#[test]
-fn requests_read(rt: HostRuntime) {
-    let text = b"\0REQ\0\0\0\x16\0\0\0\x05a/0#1\0REQ\0\0\0\x01\0\0\0\x07reverse\
-          \0REQ\0\0\0\x1e\0\0\0\0\0REQ\0\0\0\x0d\0\0\0\x09H:a:1\0c\0a\0REQ\0\0\0\x1e\0\0\0\0";
-    assert_eq!(rt; text.len(), 81);
-    let first = decode(text);
-    assert!(rt; matches!(&first, Some((Request::SetClientId(_), 17))));
-    if let Some((Request::SetClientId(name), _)) = first {
-        assert!(rt; name == b"a/0#1".as_slice());
-    }
-    let read: [(&[u8], bool); 9] = [
-        (b"\0REQ\0\0\0\x0c\0\0\0\x09H:a:1\x001\x002", true),
-        (b"\0REQ\0\0\0\x0c\0\0\0\x09H:a:1\x000\x000", true),
-        (b"\0REQ\0\0\0\x0c\0\0\0\x0aH:a:1\x0001\x002", false),
-        (b"\0REQ\0\0\0\x0c\0\0\0\x0aH:a:1\x00+1\x002", false),
-        (b"\0REQ\0\0\0\x0c\0\0\0\x12H:a:1\x004294967295\x000", true),
-        (b"\0REQ\0\0\0\x0c\0\0\0\x12H:a:1\x004294967296\x000", false),
-        (b"\0REQ\0\0\0\x01\0\0\0\x02a\0", false),
-        (b"\0REQ\0\0\0\x01\0\0\0\x02a", false),
-        (b"\0RES\0\0\0\x04\0\0\0\0", false),
-    ];
-    for (i, (bytes, is_request)) in read.iter().enumerate() {
-        assert_eq!(rt; decode(bytes).is_some(), *is_request, "at {i}");
-    }
-}
-
-/// Feeds a piece, and once more where memory was refused.
-fn feed_again(rt: &impl Abort, reader: &mut Reader, piece: &[u8]) {
-    let mut answer = reader.feed(piece);
-    if answer == Err(FeedError::Memory) {
-        answer = reader.feed(piece);
-    }
-    assert_eq!(rt; answer, Ok(()));
-}
-
-/// One refusal of memory, wherever it comes, changes no answer: `rt try --test --fail-alloc 1..` refuses each
-/// allocation of this test in turn.
-#[test]
-fn memory_refused_once(rt: HostRuntime) {
-    let mut reader = Reader::new(rt.alloc());
-    feed_again(&rt, &mut reader, &ASSIGN[..20]);
-    feed_again(&rt, &mut reader, &ASSIGN[20..]);
-    feed_again(
-        &rt,
-        &mut reader,
-        b"\0RES\0\0\0\x0a\0\0\0\0\0RES\0\0\0\x13\0\0\0\x03e\0t\0RE",
-    );
-    feed_again(&rt, &mut reader, b"S\0\0\0\x06\0\0\0\0");
-    let first = reader.next().expect(&rt, "an assignment");
-    assert!(rt; is_assign(&first, b"H:a:1", b"reverse", b"u1", b"a\0c"));
-    assert!(rt; matches!(reader.next(), Some(Response::NoJob)));
-    let error = reader.next().expect(&rt, "an error");
-    assert!(rt; is_fault(&error, b"e", b"t"));
-    assert!(rt; matches!(reader.next(), Some(Response::Noop)));
-    assert!(rt; reader.next().is_none());
-    let mut text = encode(rt.alloc(), &Request::CanDo(b"reverse"));
-    if matches!(&text, Err(EncodeError::Memory)) {
-        text = encode(rt.alloc(), &Request::CanDo(b"reverse"));
-    }
-    assert!(rt; text.is_ok());
-}
-
-/// The greatest body, in pieces of 4,096 bytes.
-#[test]
-fn the_greatest_body_in_small_pieces(rt: HostRuntime) {
-    let alloc = rt.alloc();
-    let mut reader = Reader::new(alloc);
-    assert_eq!(rt; reader.feed(b"\0RES\0\0\0\x0b\x01\0\0\0H\0x\0"), Ok(()));
-    let piece = [7; 4096];
-    for _ in 0..4095 {
-        assert_eq!(rt; reader.feed(&piece), Ok(()));
-    }
-    assert!(rt; reader.next().is_none());
-    assert_eq!(rt; reader.feed(&piece[..4092]), Ok(()));
-    let response = reader.next().expect(&rt, "an assignment");
-    assert_eq!(rt; payload_len(&response), 16_777_212);
-}
-
-/// The empty piece, and one that holds the greatest packet and another after it.
-#[test]
-fn the_least_and_the_greatest_piece(rt: HostRuntime) -> Result<(), Fail> {
-    let alloc = rt.alloc();
-    let mut reader = Reader::new(alloc);
-    assert_eq!(rt; reader.feed(&[]), Ok(()));
-    let mut piece = Vec::from_slice(alloc, b"\0RES\0\0\0\x0b\x01\0\0\0H\0x\0".as_slice())?;
-    piece.resize(16_777_228, 7)?;
-    piece.extend_from_slice(&ASSIGN)?;
-    assert_eq!(rt; reader.feed(&piece), Ok(()));
-    let response = reader.next().expect(&rt, "an assignment");
-    assert_eq!(rt; payload_len(&response), 16_777_212);
-    expect_row(&rt, &mut reader);
-    Ok(())
 }

@@ -1,15 +1,13 @@
-//! Whole commands over texts in memory: worked examples, faults, and devices that fail.
+//! Whole commands over texts in memory: worked examples.
 
-use super::one_worker::no_version;
 use byte_io::SliceSource;
 use byte_io::doubles::Script;
 use gear_status::StatusError;
 use plan_commands::{Exit, Fault, check_text, plan_text};
-use pool_report::ReadError;
 use std::alloc::{AllocError, Global};
 
 /// Worker a/0 may do x, worker b/0 may do x and y.
-const TWO: &[u8] = b"version = 1
+pub const TWO: &[u8] = b"version = 1
 [functions.x]
 [functions.y]
 [machines.a]
@@ -20,9 +18,9 @@ workers = 1
 functions = [\"x\", \"y\"]
 ";
 
-const TWO_STATUS: &[u8] = b"x\t6\t0\t2\ny\t2\t0\t1\n.\n";
+pub const TWO_STATUS: &[u8] = b"x\t6\t0\t2\ny\t2\t0\t1\n.\n";
 
-const TWO_REPORT: &[u8] = b"report 1
+pub const TWO_REPORT: &[u8] = b"report 1
 backlog 6
 work a/0 x
 work b/0 y
@@ -32,77 +30,17 @@ in y need 1
 end
 ";
 
-const PAIR: &[u8] = b"version = 1
+pub const PAIR: &[u8] = b"version = 1
 [functions.x]
 [machines.a]
 workers = 2
 functions = [\"x\"]
 ";
 
-const PAIR_NINE: &[u8] = b"report 1
+pub const PAIR_NINE: &[u8] = b"report 1
 backlog 5
 work a/0 x
 work a/1 x
-short need 3 have 2
-in x need 3
-end
-";
-
-/// At most one of the two workers may do x.
-const PAIR_MOST_ONE: &[u8] = b"version = 2
-[functions.x]
-most = 1
-[machines.a]
-workers = 2
-functions = [\"x\"]
-";
-
-const PAIR_FIRST: &[u8] = b"report 1
-backlog 9
-work a/0 x
-idle a/1
-short need 3 have 2
-in x need 3
-end
-";
-
-const PAIR_SECOND: &[u8] = b"report 1
-backlog 9
-idle a/0
-work a/1 x
-short need 3 have 2
-in x need 3
-end
-";
-
-const PAIR_MOST_NONE: &[u8] = b"version = 2
-[functions.x]
-most = 0
-[machines.a]
-workers = 2
-functions = [\"x\"]
-";
-
-const PAIR_UNSERVED: &[u8] = b"report 1
-unserved 9
-idle a/0
-idle a/1
-short need 3 have 2
-in x need 3
-end
-";
-
-const PAIR_LEAST_ABOVE_MOST: &[u8] = b"version = 2
-[functions.x]
-least = 2
-most = 1
-[machines.a]
-workers = 2
-functions = [\"x\"]
-";
-
-const PAIR_NO_PLAN: &[u8] = b"report 1
-noplan
 short need 3 have 2
 in x need 3
 end
@@ -247,7 +185,7 @@ end
 ";
 
 /// The exit and the output of `plan`.
-fn plan(
+pub fn plan(
     alloc: Global,
     settings: &[u8],
     lost: &[&str],
@@ -260,7 +198,7 @@ fn plan(
 }
 
 /// Whether `plan` writes this report and ends with this status, and `check` then says that it is shown.
-fn plans(
+pub fn plans(
     alloc: Global,
     settings: &[u8],
     lost: &[&str],
@@ -277,7 +215,13 @@ fn plans(
 }
 
 /// Whether `plan` meets this fault and writes nothing.
-fn plan_meets(alloc: Global, settings: &[u8], lost: &[&str], status: &[u8], fault: Fault) -> bool {
+pub fn plan_meets(
+    alloc: Global,
+    settings: &[u8],
+    lost: &[&str],
+    status: &[u8],
+    fault: Fault,
+) -> bool {
     let Ok((exit, sink)) = plan(alloc, settings, lost, status) else {
         return false;
     };
@@ -285,7 +229,7 @@ fn plan_meets(alloc: Global, settings: &[u8], lost: &[&str], status: &[u8], faul
 }
 
 /// Whether `check` writes this line about the report.
-fn checks(
+pub fn checks(
     alloc: Global,
     settings: &[u8],
     lost: &[&str],
@@ -298,14 +242,6 @@ fn checks(
     let exit = check_text(alloc, settings, status, lost, &mut source, &mut sink);
     let wanted = if line == b"shown\n".as_slice() { 0 } else { 1 };
     exit == Exit::answered(wanted) && sink.output() == line
-}
-
-/// Whether `check` meets this fault and writes nothing.
-fn check_meets(alloc: Global, status: &[u8], report: &[u8], fault: Fault) -> bool {
-    let mut source = SliceSource::new(report);
-    let mut sink = Script::new(alloc);
-    let exit = check_text(alloc, TWO, status, &[], &mut source, &mut sink);
-    exit == Exit::refused(fault) && sink.output().is_empty()
 }
 
 /// The first example's report, with a text in the place of so many bytes.
@@ -388,52 +324,6 @@ fn counts_where_the_worker_is_free(rt: HostRuntime) {
     assert!(rt; workers_on_x(alloc, THREE_LEAST, b"backlog 10\n") == Some(1));
 }
 
-/// Which of two equal workers has the function is the planner's choice.
-#[test]
-fn reports_with_greatest_numbers(rt: HostRuntime) {
-    let alloc = rt.alloc();
-    let status = b"x\t9\t0\t0\n.\n";
-    assert!(rt;
-        plans(alloc, PAIR_MOST_ONE, &[], status, PAIR_FIRST, 0)
-            || plans(alloc, PAIR_MOST_ONE, &[], status, PAIR_SECOND, 0)
-    );
-    assert!(rt; plans(alloc, PAIR_MOST_NONE, &[], status, PAIR_UNSERVED, 0));
-    assert!(rt; plans(alloc, PAIR_LEAST_ABOVE_MOST, &[], status, PAIR_NO_PLAN, 1));
-}
-
-#[test]
-fn verdicts_with_greatest_numbers(rt: HostRuntime) {
-    let alloc = rt.alloc();
-    let status = b"x\t9\t0\t0\n.\n";
-    let above = b"not shown 8 AboveMost\n";
-    assert!(rt; checks(alloc, PAIR_MOST_ONE, &[], status, PAIR_NINE, above));
-    assert!(rt; checks(alloc, PAIR_MOST_ONE, &[], status, PAIR_FIRST, b"shown\n"));
-    assert!(rt; checks(alloc, PAIR_MOST_ONE, &[], status, PAIR_SECOND, b"shown\n"));
-    let other = b"not shown 4 NotShort\n";
-    assert!(rt; checks(alloc, PAIR_MOST_ONE, &[], status, PAIR_UNSERVED, other));
-    assert!(rt; checks(alloc, PAIR, &[], status, PAIR_FIRST, other));
-    let least = b"not shown 2 BelowLeast\n";
-    assert!(rt; checks(alloc, PAIR_LEAST_ABOVE_MOST, &[], status, PAIR_FIRST, least));
-}
-
-#[test]
-fn faults_of_plans(rt: HostRuntime) -> Result<(), AllocError> {
-    let alloc = rt.alloc();
-    let version = no_version(alloc)?;
-    assert!(rt; plan_meets(alloc, b"", &["c/0"], b"", version));
-    assert!(rt; plan_meets(alloc, TWO, &["c/0"], b"", Fault::UnknownWorker(0)));
-    assert!(rt;
-        plan_meets(
-            alloc,
-            TWO,
-            &["b/0", "a/00"],
-            TWO_STATUS,
-            Fault::UnknownWorker(1)
-        )
-    );
-    Ok(())
-}
-
 #[test]
 fn faults_of_status_texts(rt: HostRuntime) {
     let alloc = rt.alloc();
@@ -441,54 +331,6 @@ fn faults_of_status_texts(rt: HostRuntime) {
     assert!(rt; plan_meets(alloc, TWO, &[], b"x\t1\n", bad));
     let cut = Fault::Status(StatusError::Truncated);
     assert!(rt; plan_meets(alloc, TWO, &[], b"x\t6\t0\t2\n", cut));
-}
-
-/// Whether naming a worker twice is naming it once.
-fn is_lost_once(alloc: Global) -> bool {
-    let Ok((once, report)) = plan(alloc, TWO, &["b/0"], TWO_STATUS) else {
-        return false;
-    };
-    let Ok((twice, same)) = plan(alloc, TWO, &["b/0", "b/0"], TWO_STATUS) else {
-        return false;
-    };
-    once == Exit::answered(0) && twice == once && report.output() == same.output()
-}
-
-#[test]
-fn workers_that_are_lost_twice(rt: HostRuntime) {
-    assert!(rt; is_lost_once(rt.alloc()));
-}
-
-/// The exit of `plan` on the first example's status text after so many lulls.
-fn plan_after(alloc: Global, lulls: u32) -> Result<Exit, AllocError> {
-    let mut script = Script::new(alloc);
-    for _ in 0..lulls {
-        script.lull()?;
-    }
-    script.piece(TWO_STATUS)?;
-    let mut sink = Script::new(alloc);
-    Ok(plan_text(alloc, TWO, &[], &mut script, &mut sink))
-}
-
-/// Whether a sink that takes so many bytes one by one, and then fails, has got them.
-fn fails_after(alloc: Global, sent: u32) -> bool {
-    let mut source = SliceSource::new(TWO_STATUS);
-    let mut sink = Script::new(alloc);
-    sink.give_at_most(1);
-    sink.fail_give(u64::from(sent) + 1);
-    let exit = plan_text(alloc, TWO, &[], &mut source, &mut sink);
-    exit == Exit::refused(Fault::WriteFault)
-        && TWO_REPORT.get(..sent as usize) == Some(sink.output())
-}
-
-#[test]
-fn devices_that_fail(rt: HostRuntime) {
-    let alloc = rt.alloc();
-    assert!(rt; matches!(plan_after(alloc, 64), Ok(exit) if exit == Exit::answered(0)));
-    assert!(rt;
-        matches!(plan_after(alloc, 65), Ok(exit) if exit == Exit::refused(Fault::ReadFault))
-    );
-    assert!(rt; (0..TWO_REPORT.len() as u32).all(|sent| fails_after(alloc, sent)));
 }
 
 #[test]
@@ -517,18 +359,4 @@ fn verdicts_on_other_reports(rt: HostRuntime) {
     );
     let least = b"not shown 2 BelowLeast\n";
     assert!(rt; checks(alloc, THREE_LEAST, &[], THREE_STATUS, THREE_REPORT, least));
-}
-
-#[test]
-fn faults_of_checks(rt: HostRuntime) {
-    let alloc = rt.alloc();
-    let front = &TWO_REPORT[..TWO_REPORT.len() - 1];
-    for report in [front, b""] {
-        let cut = Fault::Report(ReadError::Truncated);
-        assert!(rt; check_meets(alloc, TWO_STATUS, report, cut));
-    }
-    let bad = Fault::Report(ReadError::BadLine(1));
-    assert!(rt; check_meets(alloc, TWO_STATUS, b"report 2\n", bad));
-    let status = Fault::Status(StatusError::Truncated);
-    assert!(rt; check_meets(alloc, b"", b"report 2\n", status));
 }

@@ -1,4 +1,0 @@
-//! Devices over memory, and the script, call by call.
-
-mod memory;
-mod script;

@@ -1,3 +1,0 @@
-//! What is made of the words of a command line.
-
-mod words;

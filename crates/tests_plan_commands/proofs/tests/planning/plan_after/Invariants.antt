@@ -1,6 +1,0 @@
-use Rattle.std.proofs.Common.{◌≡◌}
-use Rattle.tests_plan_commands.proofs.tests.planning.plan_after.Given as goal
-
--- the script has not failed
-abbrev pub invariant-loop : goal.invariant-loop
-invariant-loop l = l.script.take_failures ≡ 0

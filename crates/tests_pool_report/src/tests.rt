@@ -1,4 +1,0 @@
-//! Reports with what becomes of them, and the greatest of them.
-
-mod limits;
-mod reports;
