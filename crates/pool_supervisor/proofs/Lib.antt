@@ -3,4 +3,5 @@ pub mod Counts
 pub mod Late
 pub mod Published
 pub mod Rounds
+pub mod Sessions
 pub mod Tries

@@ -3,9 +3,7 @@ use Rattle.std.proofs.Common.{◌≡◌, ◌+◌, ℕ, List, [], ◌∷◌, ◌+
 use Rattle.std.specs.Prelude.{Result, IfErr}
 use Rattle.std.specs.List.{flat_map, AllByRecursion}
 use Rattle.std.proofs.lemmas.List.{append-nil, map-append}
-use Rattle.worker_state.specs.Slots.{is_live}
 use Rattle.gear_status.specs.Status.{Line}
-use Rattle.pool_core.specs.Machine.{State, slot_in}
 use Rattle.pool_settings.specs.Settings.{Settings}
 use Rattle.pool_settings.specs.Slots.{slots}
 use Rattle.pool_supervisor.specs.declared.attempt.Attempt.{Attempt}
@@ -13,7 +11,7 @@ use Rattle.pool_supervisor.specs.Asking.{Asks, IsNotTaken, Tells}
 use Rattle.job_runner.specs.Run.{Link}
 use Rattle.pool_supervisor.specs.Dials.{DialCall, closed, then_called}
 use Rattle.pool_supervisor.specs.Joined.{Joins}
-use Rattle.pool_supervisor.specs.Tries.{Rule, Look, dials_of, IsOneDial, DialsOnce, FillsSlot, FillFrom, IsSeenAs, FillsOne, Fills, Try, calls_of, line_of, IsTry, Attempts, Dials}
+use Rattle.pool_supervisor.specs.Tries.{Rule, Look, dials_of, IsOneDial, DialsOnce, FillsSlot, FillFrom, IsSeenAs, FillsOne, Fills, Try, calls_of, line_of, IsTry, Attempts}
 use Rattle.pool_supervisor.proofs.Called.{called_none, called_both, flat_map_both}
 
 -- ---- slots

@@ -1,5 +1,5 @@
 -- What was asked of the job server for a load, and what came of it.
-use Rattle.std.specs.Prelude.{◌≡◌, ◌⊎◌, ◌+◌, ℕ, Bool, true, false, List, [], ◌∷◌, ◌++◌, Result, Ok, Err, Option, codes}
+use Rattle.std.specs.Prelude.{◌≡◌, ◌⊎◌, ◌+◌, Bool, true, false, List, [], ◌∷◌, ◌++◌, Result, Ok, Err, Option, codes}
 use Rattle.byte_io.specs.Sides.{HasText}
 use Rattle.gear_status.specs.Status.{Line}
 use Rattle.gear_status.specs.declared.error.StatusError.{StatusError}

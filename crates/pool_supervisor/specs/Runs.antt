@@ -10,6 +10,7 @@ use Rattle.pool_supervisor.specs.declared.attempts.Until.TheVariants.{Rounds, To
 use Rattle.pool_supervisor.specs.Counted.{CountAHistory}
 use Rattle.pool_supervisor.specs.Dials.{DialCall}
 use Rattle.pool_supervisor.specs.Rounds.{AreNoted, TellRun}
+use Rattle.pool_supervisor.specs.Sessions.{AddUp}
 use Rattle.pool_supervisor.specs.Tries.{Dials, Rule}
 
 -- how many lines are kept
@@ -28,7 +29,7 @@ abbrev pub AreOfOneHistory : Settings → Totals → List Attempt → Type 0
 AreOfOneHistory settings totals lines = (rounds : List Ran) × CountAHistory settings totals rounds × AreNoted lines rounds
 
 -- Attempts were made, one after the other, and added these lines, of which some are kept. Then Stop was posted, and the sessions that were
--- left were joined. The lines and the totals are of one history.
+-- left were joined. The lines and the totals are of one history, and the totals are the sums of what sessions by these settings counted.
 pub record IsRun (settings : Settings) (allows : Rule) (until : Until) (old kept : List Attempt) (totals : Totals)
     (posts : List Post) (before now : Option (List DialCall)) : Type 0 where
   pub lines : List Attempt
@@ -36,3 +37,4 @@ pub record IsRun (settings : Settings) (allows : Rule) (until : Until) (old kept
   pub tells : TellRun settings old lines posts
   pub dials : Dials settings allows old lines before now
   pub history : AreOfOneHistory settings totals lines
+  pub sums : AddUp settings totals.grabbed totals.reported

@@ -1,5 +1,5 @@
 //! The supervisor of a run, and the steps of an attempt, one after the other.
-ghost use Rattle.std.specs.Prelude.{◌≡◌, ◌+◌, ◌-◌, ◌<◌, ◌≤◌, ◌^◌, ◌∷◌, [], List, not, IfOk, IfSome, OnOk, vec_len, vec_capacity};
+ghost use Rattle.std.specs.Prelude.{◌≡◌, ◌+◌, ◌-◌, ◌<◌, ◌≤◌, ◌^◌, ◌∷◌, [], List, not, IfOk, OnOk, vec_len, vec_capacity};
 ghost use Rattle.pool_settings.specs.Slots.{slots as slot_count};
 ghost use Rattle.pool_supervisor.specs.Asking.{Tells};
 ghost use Rattle.pool_supervisor.specs.Rounds.{AreNoted, Notes, PostAndStop, Posts, PostSince, StopsAll};
@@ -20,7 +20,7 @@ use crate::session::{Enrolled, Site};
 use byte_io::{Sink, Source};
 use order_board::{PublisherSeat, SeatSource};
 use plan_model::SlotId;
-use pool_core::{Chapter, Pass};
+use pool_core::{Chapter, JoinError, Pass};
 use std::alloc::AllocError;
 use std::marker::PhantomData;
 use std::sync::Wait;
@@ -105,13 +105,13 @@ impl<'e, N: RunId, J, C: Watch, R: Wait> Site<'e, N, J, C, R> {
     }
 
     /// A new worker in the slot, if the pool takes one.
-    fn join_worker(&self, slot: SlotId) -> Option<Pass>
+    fn join_worker(&self, slot: SlotId) -> Result<Pass, JoinError>
         requires { slot < slot_count self.now.run.settings.now }
-        ensures { IfSome result (λ pass. pass.slot ≡ slot) }
+        ensures { IfOk result (λ pass. pass.slot ≡ slot) }
     {
         let mut held = self.shared.hold(self.lent.rt);
         held.facts();
-        held.join(slot).ok()
+        held.join(slot)
     }
 
     /// How many workers are alive.
@@ -173,8 +173,12 @@ impl<
         let Ok(berth) = self.crew.berth(site.lent.alloc) else {
             return Ok(());
         };
-        let Some(pass) = site.join_worker(slot) else {
-            return Ok(());
+        let pass = match site.join_worker(slot) {
+            Ok(pass) => pass,
+            Err(error) => {
+                site.lent.watch.not_joined(slot, error);
+                return Ok(());
+            }
         };
         let place = Place {
             seat: site.run.board.seat_reader(&mut self.seats.source, slot),

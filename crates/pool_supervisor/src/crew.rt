@@ -4,9 +4,11 @@ ghost use Rattle.pool_settings.specs.Slots.{slots as slot_count};
 ghost use Rattle.pool_supervisor.specs.Counted.{CountAHistory};
 ghost use Rattle.pool_supervisor.specs.JobCounts.{answered};
 ghost use Rattle.pool_supervisor.specs.Joined.{Joins};
+ghost use Rattle.pool_supervisor.specs.Sessions.{AddUp};
 
 use crate::attempts::Lines;
 use crate::dial::Dial;
+use crate::ended::EndedSession;
 use crate::ends::EndCounts;
 use crate::job_counts::JobCounts;
 use crate::jobs::JobSource;
@@ -14,11 +16,11 @@ use crate::news::{EndedWorker, Progress};
 use crate::place::{Grabs, Place, Reports, RunId, RunRounds};
 use crate::port::Watch;
 use crate::run::RunEnd;
-use crate::session::{Enrolled, Papers, Returned, Site, run_worker};
+use crate::session::{Enrolled, Papers, Returned, Site};
 use byte_io::{Sink, Source};
 use order_board::SeatSource;
 use std::alloc::{AllocError, Global};
-use std::marker::Model;
+use std::marker::{Model, PhantomData};
 use std::snapshot::Snapshot;
 use std::sync::atomic::{AtomicBool, Ordering};
 use std::sync::ledger::Share;
@@ -34,15 +36,22 @@ pub const PARTS: u64 = 1 << 40;
 /// is on the heap.
 const STACK: usize = 256 * 1024;
 
+/// The name of a worker of the run.
+#[derive(Drop)]
+struct RunWorker<N: RunId> {
+    name: WorkerName,
+    of: PhantomData<N>,
+    ghost known: { name.slot < slot_count N.settings },
+}
+
 /// A session that was started.
 #[derive(Drop)]
 struct Started<N: RunId, L: Source + Sink> {
     /// It hands back what its link was at its end, besides.
-    handle: JoinHandle<(Returned<N>, Snapshot<L>)>,
+    handle: JoinHandle<(EndedSession<N>, Snapshot<L>)>,
     /// Set by the session as the last that it does.
     has_ended: Arc<AtomicBool>,
-    worker: WorkerName,
-    ghost known: { worker.slot < slot_count N.settings },
+    worker: RunWorker<N>,
 }
 
 /// Room for one more session: what its start needs of memory but for the thread.
@@ -71,7 +80,7 @@ pub struct Crew<N: RunId, L: Source + Sink> {
 impl<N: RunId, L: Source + Sink> Model for Crew<N, L> {
     ghost use Rattle.std.specs.Prelude.{◌≡◌, ◌+◌, ◌^◌, vec_len, vec_capacity};
     ghost use Rattle.pool_supervisor.specs.JobCounts.{answered};
-    ghost use Rattle.pool_supervisor.specs.Sessions.{Sessions};
+    ghost use Rattle.pool_supervisor.specs.Sessions.{AddUp, Sessions};
 
     ghost Value = { Sessions };
 
@@ -80,11 +89,12 @@ impl<N: RunId, L: Source + Sink> Model for Crew<N, L> {
     ghost invariant = { λ c.
         (c.grabs.parts + vec_len c.running + c.not_started ≡ 2 ^ 40) × (c.grabs.amount ≡ c.grabbed)
         × (c.reports.parts + vec_len c.running + c.not_started ≡ 2 ^ 40) × (c.reports.amount ≡ c.reported)
-        × (answered c.jobs ≡ c.reported) };
+        × (answered c.jobs ≡ c.reported) × AddUp N.settings c.grabbed c.reported };
 }
 
 impl<N: RunId, L: Source + Sink> Crew<N, L> {
     /// No session yet, over the whole shares, which stand at 0.
+    #[tactic(auto, using(crate::proofs::Sessions::none_ended))]
     pub fn new(alloc: Global, grabs: Share<Grabs<N>>, reports: Share<Reports<N>>) -> Crew<N, L>
         requires grabs { (grabs.parts ≡ 2 ^ 40) × (grabs.amount ≡ 0) }
         requires reports { (reports.parts ≡ 2 ^ 40) × (reports.amount ≡ 0) }
@@ -152,16 +162,16 @@ impl<N: RunId, L: Source + Sink> Crew<N, L> {
         let Started {
             handle,
             has_ended: _,
-            worker,
+            worker: RunWorker { name, of: _ },
         } = running.swap_remove(at);
-        let (returned, link) = handle.join(site.lent.rt);
+        let (ended, link) = handle.join(site.lent.rt);
         let Returned {
             end,
             jobs: jobs_of_session,
             place,
             grabbed: grab_share,
             reported: report_share,
-        } = returned;
+        } = ended.into_returned();
         grabs.merge(grab_share);
         reports.merge(report_share);
         // The books bound the shares, and so the sums.
@@ -172,7 +182,7 @@ impl<N: RunId, L: Source + Sink> Crew<N, L> {
         ends.count(end.cause);
         site.lent.watch.ended(&EndedWorker {
             settings: site.run.settings,
-            worker,
+            worker: name,
             cause: end.cause,
         });
         let Place { seat, of: _ } = place;
@@ -202,7 +212,8 @@ impl<N: RunId, L: Source + Sink> Crew<N, L> {
     }
 
     /// Joins all sessions, as each ends, and takes the totals: what the run came to, with these lines. The totals are of the history of
-    /// which these rounds were told. None if a session could not be started.
+    /// which these rounds were told, and are the sums of what its sessions counted. None if a session could not be started.
+    #[tactic(auto, using(crate::proofs::Sessions::same_sums))]
     pub fn join_all<J, C: Progress, R: Threads + Wait, Y: Dial<L>>(
         mut self,
         site: &Site<'_, N, J, C, R>,
@@ -216,6 +227,7 @@ impl<N: RunId, L: Source + Sink> Crew<N, L> {
         ensures lines { IfSome result (λ ended. vec_len ended.lines ≡ vec_len lines.told) }
         ensures told { IfSome result (λ ended. ended.lines.items ≡ lines.told.items) }
         ensures counts { IfSome result (λ ended. CountAHistory N.settings ended.totals rounds) }
+        ensures sums { IfSome result (λ ended. AddUp N.settings ended.totals.grabbed ended.totals.reported) }
     {
         while self.running.len() > 0 {
             let last = self.running.len() - 1;
@@ -297,17 +309,20 @@ impl<'e, N: RunId, J: JobSource + Sync, C: Watch + Sync, R: Threads + Wait + Syn
             has_ended,
             of_session,
         } = berth;
-        let name = site.run.worker_of(&papers.worker.pass);
-        let work = move || -> (Returned<N>, Snapshot<L>)
+        let worker = RunWorker {
+            name: site.run.worker_of(&papers.worker.pass),
+            of: PhantomData,
+        };
+        let work = move || -> (EndedSession<N>, Snapshot<L>)
             requires slot { papers.worker.pass.slot < slot_count site.run.settings.now }
             requires link { ((L.output link).failures < 2 ^ 64 - 1) × ((L.input link).failures < 2 ^ 64 - 1) }
         {
             let mut link = link;
-            let returned = run_worker(&site, &mut link, papers);
+            let ended = EndedSession::of(&site, &mut link, papers);
             let closed = Snapshot::of(&link);
             drop(link);
             of_session.store(true, Ordering::SeqCst);
-            (returned, closed)
+            (ended, closed)
         };
         match thread::Builder::new()
             .stack_size(STACK)
@@ -317,7 +332,7 @@ impl<'e, N: RunId, J: JobSource + Sync, C: Watch + Sync, R: Threads + Wait + Syn
                 running.push_reserved(Started {
                     handle,
                     has_ended,
-                    worker: name,
+                    worker,
                 });
                 Ok(())
             }

@@ -12,6 +12,7 @@ mod booked;
 mod calls;
 mod crew;
 mod dial;
+mod ended;
 mod ends;
 mod job_counts;
 mod jobs;

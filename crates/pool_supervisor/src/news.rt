@@ -7,7 +7,8 @@ use crate::attempt::Attempt;
 use crate::queue::Queue;
 use crate::run::RunEnd;
 use job_runner::EndCause;
-use plan_model::{Certified, FuncId};
+use plan_model::{Certified, FuncId, SlotId};
+use pool_core::JoinError;
 use pool_settings::Settings;
 use worker_state::WorkerName;
 
@@ -66,6 +67,9 @@ pub trait Progress {
 
     /// A worker joined, and its session was started.
     fn joined(&self, _joined: &JoinedWorker<'_>) {}
+
+    /// There is a link for a worker of the slot, and the pool takes none, by this refusal.
+    fn not_joined(&self, _slot: SlotId, _error: JoinError) {}
 
     /// A worker's session has ended, and its thread was joined.
     fn ended(&self, _ended: &EndedWorker<'_>) {}

@@ -5,6 +5,7 @@ ghost use Rattle.pool_core.specs.Book.{totals_of};
 ghost use Rattle.pool_supervisor.specs.JobCounts.{answered};
 ghost use Rattle.pool_supervisor.specs.Rounds.{TellRun};
 ghost use Rattle.pool_supervisor.specs.Runs.{AreOfOneHistory, IsRun};
+ghost use Rattle.pool_supervisor.specs.Sessions.{AddUp};
 ghost use Rattle.pool_supervisor.specs.Tries.{Dials, all_slots};
 
 use crate::attempt::Attempt;
@@ -204,7 +205,7 @@ fn make(alloc: Global, settings: &Settings, until: Until) -> Result<Made, AllocE
 /// Runs a pool of these settings for so many attempts, with a session for each slot, and then ends all sessions. Each session has the jobs
 /// that the source gives it. The watch is told of each function without a job, of each attempt, of each worker's end, and of what the run
 /// came to. What dials is handed back with that, so that its calls are known. Lines and totals are of one history, which keeps to the
-/// promise. The only error is that memory or a thread was refused.
+/// promise, and the totals are the sums of what sessions counted. The only error is that memory or a thread was refused.
 pub fn run_sessions<
     L: Source + Sink + Send + Drop,
     Y: Dial<L> + Drop,
@@ -221,6 +222,7 @@ pub fn run_sessions<
     ensures lines { IfOk result (λ e. vec_len e.0.lines ≡ rounds) }
     ensures told { IfOk result (λ e. TellRun settings [] e.0.lines.items []) }
     ensures one_history { IfOk result (λ e. AreOfOneHistory settings e.0.totals e.0.lines.items) }
+    ensures sums { IfOk result (λ e. AddUp settings e.0.totals.grabbed e.0.totals.reported) }
     ensures dials { IfOk result (λ e. Dials settings (S.allows lent.entry.jobs.now) [] e.0.lines.items (Y.calls dial) (Y.calls e.1)) }
 {
     let tools: Tools<'_, L, Y, P> = Tools {
@@ -249,6 +251,7 @@ pub fn run_until_told<
     ensures attempts { IfOk result (λ e. (lines : List Attempt) × TellRun settings [] lines []
         × Dials settings (S.allows lent.entry.jobs.now) [] lines (Y.calls dial) (Y.calls e.1)
         × AreOfOneHistory settings e.0.totals lines) }
+    ensures sums { IfOk result (λ e. AddUp settings e.0.totals.grabbed e.0.totals.reported) }
 {
     let tools: Tools<'_, L, Y, P> = Tools {
         settings: &settings,
@@ -280,6 +283,7 @@ pub fn run_pool<
     ensures lines { IfOk result (λ e. vec_len e.0.lines ≡ rounds) }
     ensures told { IfOk result (λ e. TellRun settings [] e.0.lines.items []) }
     ensures one_history { IfOk result (λ e. AreOfOneHistory settings e.0.totals e.0.lines.items) }
+    ensures sums { IfOk result (λ e. AddUp settings e.0.totals.grabbed e.0.totals.reported) }
     ensures dials { IfOk result (λ e. Dials settings all_slots [] e.0.lines.items (Y.calls dial) (Y.calls e.1)) }
 {
     let tools: Tools<'_, L, Y, P> = Tools {

@@ -6,6 +6,7 @@ use Rattle.plan_commands.specs.declared.fault.Fault.{Fault}
 use Rattle.pool_settings.specs.Settings.{Settings}
 use Rattle.pool_supervisor.specs.Rounds.{TellRun}
 use Rattle.pool_supervisor.specs.Runs.{AreOfOneHistory}
+use Rattle.pool_supervisor.specs.Sessions.{AddUp}
 use Rattle.pool_supervisor.specs.declared.attempt.Attempt.{Attempt}
 use Rattle.pool_supervisor.specs.declared.run.RunEnd.{RunEnd}
 use Rattle.serve_command.specs.Farm.{IsOf, IsRefused}
@@ -13,21 +14,24 @@ use Rattle.serve_command.specs.declared.reporting.Outlook.{Outlook}
 use Rattle.serve_command.specs.declared.reporting.Outlook.TheVariants as outlook
 use Rattle.service_settings.specs.Services.{Services}
 
--- A run by these settings came to this: its totals are of one history of these settings, which keeps to the promise. Some lines, which are
--- not kept, report just the rounds of that history.
+-- A run by these settings came to this: its totals are of one history of these settings, which keeps to the promise, and are the sums of
+-- what sessions by these settings counted. Some lines, which are not kept, report just the rounds of that history.
 abbrev pub IsFarmRun : Settings → RunEnd → Type 0
-IsFarmRun settings ended = (lines : List Attempt) × TellRun settings [] lines [] × AreOfOneHistory settings ended.totals lines
+IsFarmRun settings ended =
+    (lines : List Attempt) × TellRun settings [] lines [] × AreOfOneHistory settings ended.totals lines
+    × AddUp settings ended.totals.grabbed ended.totals.reported
 
 -- The texts mean a farm, and a run of it came to this.
 abbrev pub IsFarmRunBy : List ℕ → List ℕ → RunEnd → Type 0
 IsFarmRunBy settings_text services_text ended =
     (settings : Settings) × (services : Services) × IsOf settings_text services_text settings services × IsFarmRun settings ended
 
--- 0 after plans alone, 1 if some round had no plan, 5 if no attempt led to a plan
+-- 0 after plans alone, 1 if some round had no plan, 5 if no attempt led to a plan, 6 if a slot can have no more workers
 abbrev pub status_of : Outlook → ℕ
 status_of outlook.Plans = 0
 status_of outlook.LacksAPlan = 1
 status_of outlook.Nothing = 5
+status_of outlook.SlotUsed = 6
 
 -- The texts mean a farm, and a run of it ended. Or they are refused, or memory is.
 abbrev pub Serves : List ℕ → List ℕ → Exit → Type 0

@@ -8,4 +8,4 @@ pub returns : goal.returns
 returns g c =
     let run = c.in_ok-run.ensures in
     let same : c.in_ok-settings.settings ≡ c.args.farm.now.settings = c.in_ok-settings.ensures.equal ∙ ap (λ (f : Farm). f.settings) c.farm.view_is in
-    subst (λ (s : Settings). IsFarmRun s c.in_ok-run.run') same (run.attempts.0, run.attempts.1, run.attempts.3)
+    subst (λ (s : Settings). IsFarmRun s c.in_ok-run.run') same (run.attempts.0, run.attempts.1, run.attempts.3, run.sums)

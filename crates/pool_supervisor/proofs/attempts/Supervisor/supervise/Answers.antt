@@ -17,5 +17,6 @@ returns-in-Some g c =
           last = c.join_all-ended.ensures.joins;
         };
         history = (c.attempt_and_stop-attempted.new.self.rounds, c.in-Some.ensures.counts, made.4);
+        sums = c.in-Some.ensures.sums;
       };
     }

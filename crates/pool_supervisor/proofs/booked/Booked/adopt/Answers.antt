@@ -1,4 +1,4 @@
-use Rattle.std.proofs.Common.{arith, refl, ◌∙◌}
+use Rattle.std.proofs.Common.{arith, ◌∙◌}
 use Rattle.pool_core.specs.declared.event.Event.TheVariants as event
 use Rattle.pool_supervisor.proofs.Counts.{one_round}
 use Rattle.pool_supervisor.proofs.booked.Booked.adopt.Goals as goal
