@@ -27,7 +27,8 @@ const USAGE: u8 = 2;
 /// person reads error output. Gives the exit status: 0 if
 /// the command is done; 1 if there is no plan, in a round of a run or of a farm too, or the report is not shown; 2 if the words
 /// are no command's or ask for help, and then what `clap` says of them is on error output; 3 if input is refused;
-/// 4 if memory, a device or a page failed; and 5 if no attempt of a farm led to a plan.
+/// 4 if memory, a device or a page failed; 5 if no attempt of a farm led to a plan; and 6 if a farm ended since one of its slots can have
+/// no more workers.
 ///
 /// The first word is the program's name. Words that are no text in UTF-8 are no command's. A run and a farm are on the host; this
 /// contract says nothing of what the host does with progress reports and with the lines of a farm.

@@ -6,11 +6,12 @@ use crate::hosts::{HostNews, Hosts};
 use crate::job_lines::{failure_of, line_of};
 use farm_notes::{JobEnd, Tally};
 use gear_packets::Assignment;
-use http_jobs::ServiceJobs;
+use http_jobs::{ServiceJobs, Unserved};
 use job_runner::{End, Jobs, NotDone, Outcome};
 use plan_model::{MachineId, SlotId};
 use pool_supervisor::JobSource;
 use std::alloc::{AllocError, Global};
+use std::sync::Wait;
 use worker_state::WorkerName;
 
 /// Gives each worker of a farm the jobs of its machine's service.
@@ -103,11 +104,21 @@ pub struct FarmJobs<'e, H: FarmHost> {
     jobs: ServiceJobs<H::Call, H::Dials, H::Times>,
 }
 
-/// Whether a job was served. None if that is not known, for want of memory.
-fn is_served(done: &Result<Option<Outcome>, http_jobs::NotDone>) -> Option<bool> {
+/// What is new of the machine's host after a job. Out of memory says nothing of it.
+fn news_of<R: Wait>(
+    rt: &R,
+    hosts: &Hosts,
+    machine: MachineId,
+    done: &Result<Option<Outcome>, http_jobs::NotDone>,
+) -> Option<HostNews> {
     match done {
-        Ok(_) => Some(true),
-        Err(http_jobs::NotDone::Unserved(_)) => Some(false),
+        Ok(Some(_)) => hosts.was_asked(rt, machine, true),
+        // No service was asked.
+        Ok(None) => None,
+        Err(http_jobs::NotDone::Unserved(Unserved::Unreachable)) => {
+            hosts.was_dialled(rt, machine, false)
+        }
+        Err(http_jobs::NotDone::Unserved(_)) => hosts.was_asked(rt, machine, false),
         Err(http_jobs::NotDone::Memory) => None,
     }
 }
@@ -176,9 +187,7 @@ impl<'e, H: FarmHost> Jobs for FarmJobs<'e, H> {
         let timeout_ms = self.farm.timeout_ms(&job.function);
         self.jobs.set_timeout(timeout_ms as u64);
         let done = self.jobs.serve(alloc, &job);
-        let news = is_served(&done).and_then(|is_served| self
-            .hosts
-            .was_asked(self.host, self.machine, is_served));
+        let news = news_of(self.host, self.hosts, self.machine, &done);
         self.host
             .tell_if(host_line(alloc, farm, self.machine, news));
         self.tally.end(self.host, function, end_of(&done));

@@ -84,18 +84,23 @@ impl HostState {
         }
     }
 
-    /// Whether a worker may start.
-    fn may_start(self, attempt: u64) -> bool {
+    /// Whether a worker may start beside so many that the host has. One that lives may have no job and so try nothing: after the longest
+    /// wait another may start beside it.
+    fn may_start(self, attempt: u64, workers: u32) -> bool {
         match self {
             HostState::Present(_) => true,
-            HostState::Away { due, .. } => due <= attempt,
+            HostState::Away { why, due, .. } => {
+                let is_free = workers == 0 || why == Reason::Unreachable;
+                let wait = if is_free { 0 } else { LONGEST_WAIT };
+                due.saturating_add(wait) <= attempt
+            }
         }
     }
 
-    /// After a worker was told that it may start. The waits are 1, 2, 4 .. attempts, and 64 at most.
-    fn after_start(self, attempt: u64) -> HostState {
+    /// After a worker joined. If it came to try a host that is left alone, the next wait is longer: 1, 2, 4 .. attempts, and 64 at most.
+    fn after_join(self, attempt: u64) -> HostState {
         match self {
-            HostState::Away { why, wait, .. } => {
+            HostState::Away { why, wait, due } if due <= attempt => {
                 let wait = wait.saturating_mul(2).min(LONGEST_WAIT);
                 HostState::Away {
                     why,
@@ -125,17 +130,26 @@ impl HostState {
     }
 }
 
+/// A host of a farm.
+#[derive(Clone, Copy)]
+struct HostEntry {
+    /// How it is.
+    state: HostState,
+    /// How many workers it has: those that joined and have not ended.
+    workers: u32,
+}
+
 /// What is known of all hosts.
 #[derive(Drop)]
 struct Table {
     /// The number of the attempt that is made now, from 1.
     attempt: u64,
     /// The host of each machine.
-    states: Vec<HostState>,
+    hosts: Vec<HostEntry>,
 }
 
 /// Which hosts of a farm are reached. A host is left alone if a connection could not be opened to it, until one can; or if three jobs,
-/// one after the other, were not served, until one is.
+/// one after the other, were not served, until one is. To one that is left alone one worker comes at a time.
 #[derive(Drop)]
 pub struct Hosts {
     table: Mutex<Table>,
@@ -144,10 +158,14 @@ pub struct Hosts {
 impl Hosts {
     /// The hosts of so many machines, of which nothing is known. The only error is out of memory.
     pub fn new(alloc: Global, machines: u32) -> Result<Hosts, AllocError> {
-        let mut states = Vec::new(alloc);
-        states.resize(machines as usize, HostState::Present(0))?;
+        let host = HostEntry {
+            state: HostState::Present(0),
+            workers: 0,
+        };
+        let mut hosts = Vec::new(alloc);
+        hosts.resize(machines as usize, host)?;
         Ok(Hosts {
-            table: Mutex::new(Table { attempt: 1, states }),
+            table: Mutex::new(Table { attempt: 1, hosts }),
         })
     }
 
@@ -159,8 +177,8 @@ impl Hosts {
     ) -> Result<Vec<Option<&'static str>>, AllocError> {
         let held = self.table.lock(rt);
         let mut unreached = Vec::new(alloc);
-        for state in &held.states {
-            unreached.push(state.reason().map(Reason::name))?;
+        for host in &held.hosts {
+            unreached.push(host.state.reason().map(Reason::name))?;
         }
         Ok(unreached)
     }
@@ -173,16 +191,29 @@ impl Hosts {
 
     /// Whether a worker of the machine may start now: if its host is not left alone, or is to be tried again.
     pub fn may_start<R: Wait>(&self, rt: &R, machine: MachineId) -> bool {
+        let held = self.table.lock(rt);
+        match held.hosts.get(machine.number() as usize) {
+            Some(host) => host.state.may_start(held.attempt, host.workers),
+            None => false,
+        }
+    }
+
+    /// A worker of the machine joined. If its host is left alone, the worker tries it, and the next one waits for longer.
+    pub fn has_joined<R: Wait>(&self, rt: &R, machine: MachineId) {
         let mut held = self.table.lock(rt);
         let attempt = held.attempt;
-        let Some(state) = held.states.get_mut(machine.number() as usize) else {
-            return false;
-        };
-        let may = state.may_start(attempt);
-        if may {
-            *state = state.after_start(attempt);
+        if let Some(host) = held.hosts.get_mut(machine.number() as usize) {
+            host.state = host.state.after_join(attempt);
+            host.workers = host.workers.saturating_add(1);
         }
-        may
+    }
+
+    /// A worker of the machine has ended.
+    pub fn has_ended<R: Wait>(&self, rt: &R, machine: MachineId) {
+        let mut held = self.table.lock(rt);
+        if let Some(host) = held.hosts.get_mut(machine.number() as usize) {
+            host.workers = host.workers.saturating_sub(1);
+        }
     }
 
     /// A connection was opened to the host of this machine, or could not be. What is new of the host.
@@ -194,10 +225,10 @@ impl Hosts {
     ) -> Option<HostNews> {
         let mut held = self.table.lock(rt);
         let attempt = held.attempt;
-        let state = held.states.get_mut(machine.number() as usize)?;
-        let before = *state;
-        *state = before.after_dial(is_open, attempt);
-        state.news_since(before)
+        let host = held.hosts.get_mut(machine.number() as usize)?;
+        let before = host.state;
+        host.state = before.after_dial(is_open, attempt);
+        host.state.news_since(before)
     }
 
     /// A job was served by the host of this machine, or was not. What is new of the host.
@@ -209,9 +240,9 @@ impl Hosts {
     ) -> Option<HostNews> {
         let mut held = self.table.lock(rt);
         let attempt = held.attempt;
-        let state = held.states.get_mut(machine.number() as usize)?;
-        let before = *state;
-        *state = before.after_job(is_served, attempt);
-        state.news_since(before)
+        let host = held.hosts.get_mut(machine.number() as usize)?;
+        let before = host.state;
+        host.state = before.after_job(is_served, attempt);
+        host.state.news_since(before)
     }
 }

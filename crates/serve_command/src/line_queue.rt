@@ -2,6 +2,7 @@
 
 use std::alloc::{AllocError, Global};
 use std::collections::VecDeque;
+use std::io;
 use std::io::Write;
 use std::sync::{Condvar, Mutex, Wait};
 use std::time::{Clock, Duration};
@@ -117,14 +118,45 @@ impl Waiting {
     }
 }
 
+impl Taken {
+    /// How many lines it stands for.
+    fn lines(&self) -> u64 {
+        match self {
+            Taken::Line(_) => 1,
+            Taken::LeftOut(count) => *count,
+        }
+    }
+}
+
+/// Writes how many lines could not be written, if there are any, on a line of its own: the last of them may be there in part.
+fn write_unwritten<W: Write>(output: &mut W, unwritten: &mut u64) -> io::Result<()> {
+    if *unwritten > 0 {
+        writeln!(output, "\nleft out {} lines", *unwritten)?;
+        *unwritten = 0;
+    }
+    Ok(())
+}
+
+/// Writes what was taken, after the number of lines before it that could not be written.
+fn write_taken<W: Write>(output: &mut W, unwritten: &mut u64, taken: &Taken) -> io::Result<()> {
+    write_unwritten(output, unwritten)?;
+    match taken {
+        Taken::Line(line) => output.write_all(line.as_bytes()),
+        Taken::LeftOut(count) => writeln!(output, "left out {count} lines"),
+    }
+}
+
 /// Writes each line of the queue, each in one write, and how many were left out, until the queue is closed and all lines were taken. What
-/// cannot be written is lost, and the lines after it are tried all the same.
+/// cannot be written is lost and counted, and the lines after it are tried all the same.
 pub fn write_lines<R: Wait, W: Write>(rt: &R, queue: &LineQueue, output: &mut W) {
+    let mut unwritten = 0;
     for _ in rt.forever() {
-        let _ = match queue.take(rt) {
-            Some(Taken::Line(line)) => output.write_all(line.as_bytes()),
-            Some(Taken::LeftOut(count)) => writeln!(output, "left out {count} lines"),
-            None => return,
+        let Some(taken) = queue.take(rt) else {
+            let _ = write_unwritten(output, &mut unwritten);
+            return;
         };
+        if write_taken(output, &mut unwritten, &taken).is_err() {
+            unwritten = unwritten.saturating_add(taken.lines());
+        }
     }
 }

@@ -7,8 +7,8 @@ use crate::host::FarmHost;
 use crate::hosts::Hosts;
 use farm_notes::{Known, PageNotes, Tally};
 use farm_page::FarmView;
-use plan_model::Certified;
-use pool_core::totals_line;
+use plan_model::{Certified, SlotId};
+use pool_core::{JoinError, totals_line};
 use pool_settings::Settings;
 use pool_supervisor::{
     Attempt, Attempted, EndedWorker, JoinedWorker, Progress, RunEnd, Watch, attempt_line,
@@ -28,12 +28,15 @@ pub enum Outlook {
     Plans,
     /// Some led to a round without a plan.
     LacksAPlan,
+    /// A slot can have no more workers, so the run has to end.
+    SlotUsed,
 }
 
 impl Outlook {
     /// After one more attempt.
     fn after(self, attempt: &Attempt) -> Outlook {
         match (self, attempt) {
+            (Outlook::SlotUsed, _) => Outlook::SlotUsed,
             (Outlook::LacksAPlan, _) | (_, Attempt::NoPlan { .. }) => Outlook::LacksAPlan,
             (_, Attempt::Backlog { .. } | Attempt::Unserved { .. }) => Outlook::Plans,
             (before, _) => before,
@@ -48,6 +51,7 @@ impl Outlook {
             Outlook::Plans => 0,
             Outlook::LacksAPlan => 1,
             Outlook::Nothing => 5,
+            Outlook::SlotUsed => 6,
         }
     }
 }
@@ -132,7 +136,7 @@ impl<'e, H: FarmHost> Watch for Reporting<'e, H> {
     }
 
     fn has_to_end(&self) -> bool {
-        self.host.is_to_end()
+        self.host.is_to_end() || self.outlook() == Outlook::SlotUsed
     }
 }
 
@@ -154,10 +158,24 @@ impl<'e, H: FarmHost> Progress for Reporting<'e, H> {
     }
 
     fn joined(&self, joined: &JoinedWorker<'_>) {
+        let machine = joined.settings.machine_of(joined.worker.slot);
+        self.hosts.has_joined(self, machine);
         self.host.tell(joined_line(self.alloc, joined));
     }
 
+    fn not_joined(&self, _slot: SlotId, error: JoinError) {
+        if error == JoinError::GenerationsUsed {
+            *self.outlook.lock(self) = Outlook::SlotUsed;
+            self.host.tell(String::from_str(
+                self.alloc,
+                "ends since a slot has had 262143 workers",
+            ));
+        }
+    }
+
     fn ended(&self, ended: &EndedWorker<'_>) {
+        let machine = ended.settings.machine_of(ended.worker.slot);
+        self.hosts.has_ended(self, machine);
         self.host.tell(ended_line(self.alloc, ended));
         if let Some(notes) = &self.notes {
             notes.ended(self, ended.cause);

@@ -102,7 +102,7 @@ pub fn run_farm<H: FarmHost>(
 }
 
 /// [`run_farm`] as a command. Its status is 0 if it ended with a plan; 1 if some round had no plan; 5 if no attempt ever led to a plan;
-/// and 3 or 4 with its fault.
+/// 6 if a slot has had all the workers that it can have, which ends the farm; and 3 or 4 with its fault.
 pub fn serve_farm<H: FarmHost>(host: &H, alloc: Global, texts: FarmTexts<'_>) -> Exit
     ensures serves { spec.Serves texts.entry.settings.now texts.entry.services.now result }
 {
