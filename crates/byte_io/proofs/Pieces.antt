@@ -1,4 +1,4 @@
--- Pieces of a source, one behind another.
+-- Pieces of a source, one after another.
 use Rattle.std.proofs.Common.{◌≡◌, ◌+◌, ◌≤◌, ◌⊎◌, ◌∙◌, ℕ, List, [], ◌++◌, Bool, true, ap, arith, inl, inr, subst}
 use Rattle.std.specs.Prelude.{Result}
 use Rattle.std.proofs.lemmas.List.{append-nil}
@@ -24,32 +24,32 @@ read_met buffer r = record { bytes = taken buffer r; lulls = lull_of r; failures
 
 -- ---- a call that reads piece by piece
 
--- more bytes came behind those so far
-pub piece_came : (first behind now : Input) (bytes more : List ℕ) (before after : ℕ) (started ended : Bool) (met : Met)
-    → Meets first (brought bytes before started) behind → Meets behind met now → Came before met more ended after
+-- more bytes came after those so far
+pub piece_came : (first later now : Input) (bytes more : List ℕ) (before after : ℕ) (started ended : Bool) (met : Met)
+    → Meets first (brought bytes before started) later → Meets later met now → Came before met more ended after
     → Meets first (brought (bytes ++ more) after ended) now
-piece_came first behind now bytes more before after started ended met one two came = (
+piece_came first later now bytes more before after started ended met one two came = (
   two.0 ∙ ap (λ o. and_then o met.bytes) one.0 ∙ told_twice first.given bytes met.bytes ∙ ap (λ b. and_then first.given (bytes ++ b)) came.0,
   two.1 ∙ ap (λ o. counted o met.lulls) one.1 ∙ counted_twice first.lulls before met.lulls ∙ ap (λ n. counted first.lulls n) came.3,
   omega (arith, two.2, one.2, came.1),
   two.3 ∙ came.2,
 )
 
--- the end came behind the bytes so far
-pub end_came : (first behind now : Input) (bytes : List ℕ) (before after : ℕ) (started : Bool) (met : Met)
-    → Meets first (brought bytes before started) behind → Meets behind met now → Came before met [] true after
+-- the end came after the bytes so far
+pub end_came : (first later now : Input) (bytes : List ℕ) (before after : ℕ) (started : Bool) (met : Met)
+    → Meets first (brought bytes before started) later → Meets later met now → Came before met [] true after
     → Meets first (brought bytes after true) now
-end_came first behind now bytes before after started met one two came =
+end_came first later now bytes before after started met one two came =
     subst (λ b. Meets first (brought b after true) now) (append-nil bytes)
-    (piece_came first behind now bytes [] before after started true met one two came)
+    (piece_came first later now bytes [] before after started true met one two came)
 
--- nothing came behind the bytes so far, and the call gives up
-pub gave_up : (first behind now : Input) (bytes : List ℕ) (before : ℕ) (started : Bool) (met : Met)
-    → Meets first (brought bytes before started) behind → Meets behind met now → IsGivenUp before met
+-- nothing came after the bytes so far, and the call gives up
+pub gave_up : (first later now : Input) (bytes : List ℕ) (before : ℕ) (started : Bool) (met : Met)
+    → Meets first (brought bytes before started) later → Meets later met now → IsGivenUp before met
     → (total : Met) × Meets first total now × (total.bytes ≡ bytes) × GaveUp total
-gave_up first behind now bytes before started met one two nothing = (
+gave_up first later now bytes before started met one two nothing = (
   met_then (brought bytes before started) met,
-  meets_then first behind now (brought bytes before started) met one two,
+  meets_then first later now (brought bytes before started) met one two,
   ap (λ b. bytes ++ b) nothing.0 ∙ append-nil bytes,
   why nothing.1,
 )

@@ -13,7 +13,7 @@ use Rattle.byte_io.specs.declared.device.DeviceFault.{DeviceFault}
 use Rattle.byte_io.specs.declared.device.Took.{Took}
 use Rattle.byte_io.specs.declared.device.Took.TheVariants as took
 
--- what was read of a text is told behind what was read before
+-- what was read of a text is told after what was read before
 pub text_bytes : (old : Read) (buffer : List ℕ) (r : Result Took DeviceFault) (new : Read) → ReadsText old buffer r new
     → take new.at new.text ≡ take old.at old.text ++ taken buffer r
 text_bytes old buffer (Ok (took.Bytes n)) new h =
@@ -51,7 +51,7 @@ given_on p n new (inl on) =
     ∙ sym (append_assoc (concat (take p.next p.pieces)) (take p.at (next_piece p)) (take n (drop p.at (next_piece p))))
 given_on p n new (inr done) = ap given done.1 ∙ given_done p n (omega (arith, done.0))
 
--- what was read is told behind what was read before
+-- what was read is told after what was read before
 pub reads_bytes : (old : Play) (buffer : List ℕ) (r : Result Took DeviceFault) (new : Play) → Reads old buffer r new
     → given new ≡ given old ++ taken buffer r
 reads_bytes old buffer (Err f) new h = ap given h.1 ∙ sym (append-nil (given old))

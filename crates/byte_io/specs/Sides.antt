@@ -60,6 +60,6 @@ abbrev pub HasText : Output → List ℕ → Output → Type 0
 HasText old text new = (new.got ≡ and_then old.got text) × (new.failures ≡ old.failures)
 
 -- The same if a write failed: it has a prefix of so many bytes, and not the whole text.
-abbrev pub HasFront : Output → List ℕ → ℕ → Output → Type 0
-HasFront old text count new =
+abbrev pub HasPrefix : Output → List ℕ → ℕ → Output → Type 0
+HasPrefix old text count new =
     (new.got ≡ and_then old.got (take count text)) × (count < length text) × (new.failures ≡ old.failures + 1)

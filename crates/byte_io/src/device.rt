@@ -2,7 +2,7 @@
 
 ghost use Rattle.std.specs.Prelude.{◌≡◌, ◌+◌, ◌-◌, ◌^◌, ◌<◌, ◌≤◌, length, IfOk, IfErr, OnOk, OnErr, take};
 ghost use Rattle.byte_io.specs.Device.{FitsBuffer, failure_of, gone, is_end, lull_of, taken};
-ghost use Rattle.byte_io.specs.Sides.{HasFront, HasText, Input, Output, and_then, counted, no_input, no_output};
+ghost use Rattle.byte_io.specs.Sides.{HasPrefix, HasText, Input, Output, and_then, counted, no_input, no_output};
 
 use thiserror::Error;
 
@@ -77,7 +77,7 @@ pub struct Given {
 pub fn give_all<S: Sink>(sink: &mut S, bytes: &[u8]) -> Result<(), Given>
     requires count { (S.output sink.old).failures < 2 ^ 64 - 1 }
     ensures ok { OnOk result (HasText (S.output sink.old) bytes.now (S.output sink.new)) }
-    ensures err { IfErr result (λ g. HasFront (S.output sink.old) bytes.now g.count (S.output sink.new)) }
+    ensures err { IfErr result (λ g. HasPrefix (S.output sink.old) bytes.now g.count (S.output sink.new)) }
     ensures input { S.input sink.new ≡ S.input sink.old }
 {
     let mut count = 0;

@@ -132,7 +132,7 @@ impl Script {
             return Ok(Took::Lull);
         }
         let left = &piece[self.at..];
-        let count = copy_front(left, buffer);
+        let count = copy_prefix(left, buffer);
         if count < left.len() {
             self.at += count;
             return Ok(Took::Bytes(count));
@@ -173,7 +173,7 @@ fn counted(sound: Option<u64>) -> (bool, Option<u64>)
 }
 
 /// Copies what fits, and says how much that is.
-fn copy_front(from: &[u8], into: &mut [u8]) -> usize
+fn copy_prefix(from: &[u8], into: &mut [u8]) -> usize
     ensures count { result ≡ min (length from.now) (length into.old) }
     ensures bytes { take result into.new ≡ take result from.now }
     ensures len { length into.new ≡ length into.old }

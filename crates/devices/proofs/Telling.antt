@@ -18,18 +18,18 @@ holds_more (Some xs) (Some ys) (Some zs) (Err e) bytes (more, held) kept = (more
 
 -- what a reader had left first is what it gave and what it has left after a read
 pub gave_more : {E : Type 0} (first old new : Option (List ℕ)) (result : Result ℕ E) (buffer : List ℕ)
-    → (front : List ℕ) × Consumes first old front → ReadConsumes old new result buffer → (front : List ℕ) × Consumes first new front
+    → (prefix : List ℕ) × Consumes first old prefix → ReadConsumes old new result buffer → (prefix : List ℕ) × Consumes first new prefix
 gave_more None old new result buffer so_far read = ([], tt)
-gave_more (Some xs) None new result buffer (front, lost) read = absurd lost
+gave_more (Some xs) None new result buffer (prefix, lost) read = absurd lost
 gave_more (Some xs) (Some ys) None (Ok n) buffer so_far read = absurd read.0
 gave_more (Some xs) (Some ys) None (Err e) buffer so_far lost = absurd lost
-gave_more (Some xs) (Some ys) (Some zs) (Ok n) buffer (front, given) read =
-    (front ++ take n buffer, given ∙ ap (λ rest. front ++ rest) read.0 ∙ sym (append_assoc front (take n buffer) zs))
-gave_more (Some xs) (Some ys) (Some zs) (Err e) buffer (front, given) kept = (front, given ∙ ap (λ rest. front ++ rest) (sym kept))
+gave_more (Some xs) (Some ys) (Some zs) (Ok n) buffer (prefix, given) read =
+    (prefix ++ take n buffer, given ∙ ap (λ rest. prefix ++ rest) read.0 ∙ sym (append_assoc prefix (take n buffer) zs))
+gave_more (Some xs) (Some ys) (Some zs) (Err e) buffer (prefix, given) kept = (prefix, given ∙ ap (λ rest. prefix ++ rest) (sym kept))
 
 -- bytes that are all within a limit, of a reader that was cut one above it, are all that it had
 pub all_within : (had : Option (List ℕ)) (most : ℕ) (cut : ℕ) (got : List ℕ) → cut ≡ most + 1 → length got ≤ most
     → IfSome (option_map (take cut) had) (λ xs. got ≡ [] ++ xs) → IsTextOf (known_of had) got
-all_within None most cut got one_above within is_front = tt
-all_within (Some all) most cut got one_above within is_front =
-    is_front ∙ take_all cut all (let same = ap length is_front ∙ length-take cut all in omega arith)
+all_within None most cut got one_above within is_prefix = tt
+all_within (Some all) most cut got one_above within is_prefix =
+    is_prefix ∙ take_all cut all (let same = ap length is_prefix ∙ length-take cut all in omega arith)

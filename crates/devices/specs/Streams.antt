@@ -15,7 +15,7 @@ first_input left = record { given = option_map (λ all. []) left; lulls = Some 0
 
 -- What a reader has left is what it had at the start without a prefix, and nothing once it has ended.
 abbrev pub IsLeft : Option (List ℕ) → Option (List ℕ) → Bool → Type 0
-IsLeft first left ended = ((front : List ℕ) × Consumes first left front) × (ended ≡ true → IsAtEnd left)
+IsLeft first left ended = ((prefix : List ℕ) × Consumes first left prefix) × (ended ≡ true → IsAtEnd left)
 
 -- what a writer holds that reported it from the start
 abbrev pub held_of : Option (List ℕ) → Option (List ℕ) → Option (List ℕ)

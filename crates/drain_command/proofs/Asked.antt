@@ -160,12 +160,12 @@ the_last false calls more came none h =
     as_it_is : (r : Came) → MatchResult r (λ totals. IsToldIn more totals.items) (IsNotToldIn more)
         → MatchResult (came_to false r) (λ totals. IsToldIn more totals.items) (IsNotToldIn more)
     as_it_is r m = m
-the_last true calls more (Ok totals) tries (after, (front, e), told) =
-    (after, (calls ++ front, ap (λ (x : List DialCall). calls ++ x) e ∙ sym (append_assoc calls front _)), told)
+the_last true calls more (Ok totals) tries (after, (prefix, e), told) =
+    (after, (calls ++ prefix, ap (λ (x : List DialCall). calls ++ x) e ∙ sym (append_assoc calls prefix _)), told)
 the_last true calls more (Err (fault.Page page.Unreached)) (after, (rest, e), un) h = (after, (rest ++ more, ap (λ (x : List DialCall). x ++ more) e), un)
 the_last true calls more (Err (fault.Page page.Unanswered)) (after, (rest, e), un) h = (after, (rest ++ more, ap (λ (x : List DialCall). x ++ more) e), un)
-the_last true calls more (Err (fault.Page (page.Refused status))) tries (after, (front, e), refused) =
-    (after, (calls ++ front, ap (λ (x : List DialCall). calls ++ x) e ∙ sym (append_assoc calls front _)), refused)
+the_last true calls more (Err (fault.Page (page.Refused status))) tries (after, (prefix, e), refused) =
+    (after, (calls ++ prefix, ap (λ (x : List DialCall). calls ++ x) e ∙ sym (append_assoc calls prefix _)), refused)
 the_last true calls more (Err fault.Memory) tries h = tt
 the_last true calls more (Err (fault.Settings e)) tries h = absurd h
 the_last true calls more (Err (fault.Services e)) tries h = absurd h

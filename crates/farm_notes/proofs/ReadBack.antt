@@ -31,27 +31,27 @@ queued jobs = record { total = jobs; running = 0; workers = 0 }
 -- ---- one line
 
 -- what is before the counts that are 0, and the line without its line feed
-abbrev front : List ℕ → ℕ → List ℕ
-front name jobs = name ++ 9 ∷ decimal jobs
+abbrev prefix : List ℕ → ℕ → List ℕ
+prefix name jobs = name ++ 9 ∷ decimal jobs
 
 abbrev body : List ℕ → ℕ → List ℕ
-body name jobs = front name jobs ++ 9 ∷ 48 ∷ 9 ∷ 48 ∷ []
+body name jobs = prefix name jobs ++ 9 ∷ 48 ∷ 9 ∷ 48 ∷ []
 
 before_rest : (name rest : List ℕ) (jobs : ℕ) → status_line name jobs ++ rest ≡ body name jobs ++ 10 ∷ rest
 before_rest name rest jobs =
-    append_assoc (front name jobs) (9 ∷ 48 ∷ 9 ∷ 48 ∷ 10 ∷ []) rest ∙ sym (append_assoc (front name jobs) (9 ∷ 48 ∷ 9 ∷ 48 ∷ []) (10 ∷ rest))
+    append_assoc (prefix name jobs) (9 ∷ 48 ∷ 9 ∷ 48 ∷ 10 ∷ []) rest ∙ sym (append_assoc (prefix name jobs) (9 ∷ 48 ∷ 9 ∷ 48 ∷ []) (10 ∷ rest))
 
-body_long : (name : List ℕ) (jobs : ℕ) → length (body name jobs) ≡ length (front name jobs) + 4
-body_long name jobs = length-append (front name jobs) (9 ∷ 48 ∷ 9 ∷ 48 ∷ [])
+body_long : (name : List ℕ) (jobs : ℕ) → length (body name jobs) ≡ length (prefix name jobs) + 4
+body_long name jobs = length-append (prefix name jobs) (9 ∷ 48 ∷ 9 ∷ 48 ∷ [])
 
 -- its last byte is no carriage return
 no_return : (name : List ℕ) (jobs : ℕ) → without_return (body name jobs) ≡ body name jobs
 no_return name jobs =
     let zeros : List ℕ = 9 ∷ 48 ∷ 9 ∷ 48 ∷ [] in
     let long = body_long name jobs in
-    let place : length (body name jobs) - 1 - length (front name jobs) ≡ 3 = omega (arith, long) in
+    let place : length (body name jobs) - 1 - length (prefix name jobs) ≡ 3 = omega (arith, long) in
     let last : get_or (body name jobs) (length (body name jobs) - 1) 0 ≡ 48 =
-    get_or-append_right (front name jobs) zeros (length (front name jobs)) (length (body name jobs) - 1) 0 refl (omega (arith, long))
+    get_or-append_right (prefix name jobs) zeros (length (prefix name jobs)) (length (body name jobs) - 1) 0 refl (omega (arith, long))
     ∙ ap (λ k. get_or zeros k 0) place in
     rw (lt-ltb 0 (length (body name jobs)) (omega (arith, long)), last) refl
 
@@ -71,10 +71,10 @@ no_feed_in p (b ∷ bs) out all =
 
 reads_line : (n jobs : ℕ) (name : List ℕ) → jobs < 2 ^ 32 → line_meaning n (body name jobs) ≡ Ok (name, queued jobs)
 reads_line n jobs name small =
-    let last : cut_last 9 (body name jobs) ≡ Some (front name jobs ++ 9 ∷ 48 ∷ [], 48 ∷ []) =
-    ap (cut_last 9) (sym (append_assoc (front name jobs) (9 ∷ 48 ∷ []) (9 ∷ 48 ∷ [])))
-    ∙ last_of_parts 9 (front name jobs ++ 9 ∷ 48 ∷ []) (48 ∷ []) refl in
-    let middle = last_of_parts 9 (front name jobs) (48 ∷ []) refl in
+    let last : cut_last 9 (body name jobs) ≡ Some (prefix name jobs ++ 9 ∷ 48 ∷ [], 48 ∷ []) =
+    ap (cut_last 9) (sym (append_assoc (prefix name jobs) (9 ∷ 48 ∷ []) (9 ∷ 48 ∷ [])))
+    ∙ last_of_parts 9 (prefix name jobs ++ 9 ∷ 48 ∷ []) (48 ∷ []) refl in
+    let middle = last_of_parts 9 (prefix name jobs) (48 ∷ []) refl in
     let first = last_of_parts 9 name (decimal jobs) (uncut 9 jobs (omega arith) refl) in
     let total : number_in (decimal jobs) ≡ Some jobs = number_decimal (2 ^ 32) jobs small (omega arith) in
     rw (last, middle, first, total) refl
@@ -85,7 +85,7 @@ module _ (name : List ℕ) (jobs : ℕ) (named : is_name name ≡ true) (small :
       let parts = and_parts _ (list_all is_name_byte name) named in
       let of_name = no_feed_in is_name_byte name refl parts.1 in
       let of_jobs = no_feed_in is_ascii_digit (decimal jobs) refl (digits jobs (omega arith)) in
-      rw (list_all-append _ (front name jobs) (9 ∷ 48 ∷ 9 ∷ 48 ∷ []), list_all-append _ name (9 ∷ decimal jobs), of_name, of_jobs) refl
+      rw (list_all-append _ (prefix name jobs) (9 ∷ 48 ∷ 9 ∷ 48 ∷ []), list_all-append _ name (9 ∷ decimal jobs), of_name, of_jobs) refl
 
   short : length (body name jobs) ≤ 4096
   short =
@@ -115,7 +115,7 @@ put_other (first ∷ rest) name other c differs = by (bytes_eq name first.0) ref
 
 -- ---- the text
 
--- The text from the line of function k on, behind the lines of this load, means a load with the counts of these functions; those of the
+-- The text from the line of function k on, after the lines of this load, means a load with the counts of these functions; those of the
 -- functions before them stay.
 record IsRead (names : List (List ℕ)) (jobs : List ℕ) (k : ℕ) (before : List Line) (text : List ℕ) : Type 0 where
   load : List Line

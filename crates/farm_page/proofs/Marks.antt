@@ -33,7 +33,7 @@ head_more : (is_lead : Bool) (s t : List ℕ) (nexts : List (List ℕ))
 head_more true s t nexts begins = any_more s t nexts begins
 head_more false s t nexts begins = refl
 
--- one such text behind another
+-- one such text after another
 is_followed-append : (lead : ℕ) (nexts : List (List ℕ)) (s t : List ℕ)
     → is_followed lead nexts s ≡ true → is_followed lead nexts t ≡ true → is_followed lead nexts (s ++ t) ≡ true
 is_followed-append lead nexts [] t left right = right

@@ -14,9 +14,9 @@ flat_map_step f items i x old new whole inside is added before =
     ∙ before
 
 -- two texts after each other
-pub behind : {T : Type 0} (old between new a b : List T) → between ≡ old ++ a → new ≡ between ++ b → new ≡ old ++ (a ++ b)
-behind old between new a b first second = second ∙ ap (λ t. t ++ b) first ∙ append_assoc old a b
+pub after : {T : Type 0} (old between new a b : List T) → between ≡ old ++ a → new ≡ between ++ b → new ≡ old ++ (a ++ b)
+after old between new a b first second = second ∙ ap (λ t. t ++ b) first ∙ append_assoc old a b
 
--- a text behind one that is known
-pub behind_known : (between new a b : List ℕ) → between ≡ a → new ≡ between ++ b → new ≡ a ++ b
-behind_known between new a b known added = added ∙ ap (λ t. t ++ b) known
+-- a text after one that is known
+pub after_known : (between new a b : List ℕ) → between ≡ a → new ≡ between ++ b → new ≡ a ++ b
+after_known between new a b known added = added ∙ ap (λ t. t ++ b) known

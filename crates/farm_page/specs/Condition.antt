@@ -36,7 +36,7 @@ condition_of view = if has_plan view.outcome then (if is_whole view then Well el
 
 -- ---- the words
 
--- each name behind a space
+-- each name after a space
 abbrev pub names : List (String Global) → List ℕ
 names functions = flat_map (λ function. codes " " ++ string_bytes function) functions
 

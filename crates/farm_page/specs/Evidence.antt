@@ -6,7 +6,7 @@ use Rattle.std.specs.List.{flat_map}
 use Rattle.farm_page.specs.declared.view.Evidence.{Evidence}
 use Rattle.text_pieces.specs.Lines.{ended}
 
--- each worker behind a space
+-- each worker after a space
 abbrev pub lost_words : List (String Global) → List ℕ
 lost_words lost = flat_map (λ worker. codes " " ++ string_bytes worker) lost
 

@@ -45,7 +45,7 @@ fault number = cell (if number == 0 then Plain else Warn) number
 abbrev pub fault_cell : Option ℕ → List ℕ
 fault_cell number = option_map_or fault number (gap_cell Unknown)
 
--- words behind some of the program's own
+-- words after some of the program's own
 abbrev pub words_cell : List ℕ → List ℕ → List ℕ
 words_cell lead words = codes "<td class=\"words\">" ++ lead ++ page_text words ++ codes "</td>"
 

@@ -53,7 +53,7 @@ pub fn condition_of(view: &FarmView) -> Condition
     }
 }
 
-/// Adds names, each behind a space.
+/// Adds names, each after a space.
 fn push_names(out: &mut String, functions: &[String]) -> Result<(), AllocError>
     ensures { OnOk result (string_bytes out.new ≡ string_bytes out.old ++ spec.names functions.now) }
 {

@@ -7,7 +7,7 @@ use crate::view::Evidence;
 use crate::writing::{put_number, put_text};
 use std::alloc::{AllocError, Global};
 
-/// Adds the workers that were not alive, each behind a space.
+/// Adds the workers that were not alive, each after a space.
 fn put_lost(out: &mut Vec<u8>, lost: &[String]) -> Result<(), AllocError>
     ensures { OnOk result (out.new.items ≡ out.old.items ++ spec.lost_words lost.now) }
 {

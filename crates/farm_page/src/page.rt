@@ -115,7 +115,7 @@ const FOOT: &str =
 and <b>poolman check</b>.</p><nav><a href=\"/report\">report</a><a href=\"/status.txt\">status text</a>\
 <a href=\"/lost\">lost workers</a><a href=\"/metrics\">metrics</a><a href=\"/health\">health</a></nav></footer>\n</body></html>\n";
 
-/// What a page shows, behind its opening. The only error is out of memory.
+/// What a page shows, after its opening. The only error is out of memory.
 fn rest_of(alloc: Global, view: &FarmView, refresh: Refresh) -> Result<Markup, AllocError>
     ensures sentence { IfOk result (λ rest. Holds rest (headline (sentence view.now))) }
     ensures busy { IfOk result (λ rest. Holds rest (function_rows Share.Busy view.now.workers.all view.now.functions.items)) }

@@ -1,6 +1,6 @@
 -- What error output gets of a fault.
 use Rattle.std.specs.Prelude.{◌≡◌, ◌⊎◌, ℕ, List, [], ◌∷◌, ◌++◌, codes}
-use Rattle.byte_io.specs.Sides.{HasFront, HasText, Output}
+use Rattle.byte_io.specs.Sides.{HasPrefix, HasText, Output}
 use Rattle.plan_commands.specs.Fault.{fault_line}
 use Rattle.plan_commands.specs.declared.fault.Fault.{Fault}
 use Rattle.plan_commands.specs.declared.fault.Fault.TheVariants.{Memory}
@@ -10,7 +10,7 @@ use Rattle.fault_detail.specs.declared.complaint.Reader.TheVariants as reader
 
 -- A sink has the text, or a prefix of it if a write failed.
 abbrev pub SaysLine : List ℕ → Output → Output → Type 0
-SaysLine text old new = HasText old text new ⊎ ((count : ℕ) × HasFront old text count new)
+SaysLine text old new = HasText old text new ⊎ ((count : ℕ) × HasPrefix old text count new)
 
 -- the line of a fault, as error output shows it
 abbrev pub fault_text : Fault → List ℕ

@@ -2,34 +2,34 @@
 use Rattle.std.proofs.Common.{◌≡◌, ℕ, zero, suc, ◌≤◌, List, [], ◌∷◌, ◌++◌, length, refl, sym, ap, ◌∙◌, append_assoc, arith}
 use Rattle.std.proofs.lemmas.List.{append-nil}
 use Rattle.gear_packets.specs.Response.{Message, Next, gives, faulty, waits, first_response}
-use Rattle.gear_packets.specs.Text.{Ending, unread, broken, Reading, after_message, reading_within, reading, behind, further}
+use Rattle.gear_packets.specs.Text.{Ending, unread, broken, Reading, after_message, reading_within, reading, read_after, further}
 use Rattle.gear_packets.specs.Reading.{nothing_read}
 use Rattle.gear_packets.specs.Calls.{Call, fed, gave, stream, responses, Leads, GivesItsStream, LeavesNoPacket}
 use Rattle.gear_packets.proofs.Responses.{gives_shrinks, response_of_nothing}
 use Rattle.gear_packets.proofs.Texts.{reading_more, reading_waits}
 
-further_behind : (ms : List Message) (r : Reading) (piece : List ℕ) → further (behind ms r) piece ≡ behind ms (further r piece)
+further_after : (ms : List Message) (r : Reading) (piece : List ℕ) → further (read_after ms r) piece ≡ read_after ms (further r piece)
 unfolding further
-further_behind ms r piece = by r.messages r.ending
+further_after ms r piece = by r.messages r.ending
   where
-    by : (ns : List Message) (e : Ending) → further (behind ms (record { messages = ns; ending = e })) piece ≡ behind ms (further (record { messages = ns; ending = e }) piece)
+    by : (ns : List Message) (e : Ending) → further (read_after ms (record { messages = ns; ending = e })) piece ≡ read_after ms (further (record { messages = ns; ending = e }) piece)
     by ns (unread rest) = ap (λ (all : List Message). record { messages = all; ending = (reading (rest ++ piece)).ending }) (append_assoc ms ns (reading (rest ++ piece)).messages)
     by ns (broken f) = refl
 
-leads_on : (bytes : List ℕ) (ms : List Message) (from : Reading) (calls : List Call) (to : Reading) → reading bytes ≡ behind ms from → Leads from calls to → reading (bytes ++ stream calls) ≡ behind (ms ++ responses calls) to
+leads_on : (bytes : List ℕ) (ms : List Message) (from : Reading) (calls : List Call) (to : Reading) → reading bytes ≡ read_after ms from → Leads from calls to → reading (bytes ++ stream calls) ≡ read_after (ms ++ responses calls) to
 leads_on bytes ms from [] to here h =
-    ap reading (append-nil bytes) ∙ here ∙ ap (behind ms) h ∙ ap (λ (all : List Message). behind all to) (sym (append-nil ms))
+    ap reading (append-nil bytes) ∙ here ∙ ap (read_after ms) h ∙ ap (λ (all : List Message). read_after all to) (sym (append-nil ms))
 leads_on bytes ms from (fed piece ∷ calls) to here h =
-    let next : reading (bytes ++ piece) ≡ behind ms (further from piece) = reading_more bytes piece ∙ ap (λ (r : Reading). further r piece) here ∙ further_behind ms from piece in
+    let next : reading (bytes ++ piece) ≡ read_after ms (further from piece) = reading_more bytes piece ∙ ap (λ (r : Reading). further r piece) here ∙ further_after ms from piece in
     ap reading (sym (append_assoc bytes piece (stream calls))) ∙ leads_on (bytes ++ piece) ms (further from piece) calls to next h
 leads_on bytes ms from (gave m ∷ calls) to here h =
-    let next : reading bytes ≡ behind (ms ++ m ∷ []) h.0 = here ∙ ap (behind ms) h.1 ∙ ap (λ (all : List Message). record { messages = all; ending = h.0.ending }) (sym (append_assoc ms (m ∷ []) h.0.messages)) in
-    leads_on bytes (ms ++ m ∷ []) h.0 calls to next h.2 ∙ ap (λ (all : List Message). behind all to) (append_assoc ms (m ∷ []) (responses calls))
+    let next : reading bytes ≡ read_after (ms ++ m ∷ []) h.0 = here ∙ ap (read_after ms) h.1 ∙ ap (λ (all : List Message). record { messages = all; ending = h.0.ending }) (sym (append_assoc ms (m ∷ []) h.0.messages)) in
+    leads_on bytes (ms ++ m ∷ []) h.0 calls to next h.2 ∙ ap (λ (all : List Message). read_after all to) (append_assoc ms (m ∷ []) (responses calls))
 
 pub gives_its_stream : GivesItsStream
 gives_its_stream calls reader h = leads_on [] [] nothing_read calls reader (reading_waits [] response_of_nothing) h
 
-waits_at : (n : ℕ) (bytes rest : List ℕ) (o : Next) → ((behind : List ℕ) → length behind ≤ n → (reading_within n behind).ending ≡ unread rest → first_response rest ≡ waits) → first_response bytes ≡ o → length bytes ≤ suc n → (reading_within (suc n) bytes).ending ≡ unread rest → first_response rest ≡ waits
+waits_at : (n : ℕ) (bytes rest : List ℕ) (o : Next) → ((later : List ℕ) → length later ≤ n → (reading_within n later).ending ≡ unread rest → first_response rest ≡ waits) → first_response bytes ≡ o → length bytes ≤ suc n → (reading_within (suc n) bytes).ending ≡ unread rest → first_response rest ≡ waits
 unfolding reading_within
 waits_at n bytes rest (gives m next) later e long h =
     let short = gives_shrinks bytes m next e in
@@ -52,7 +52,7 @@ unfolding reading_within
 waits_within zero [] [] long h = response_of_nothing
 waits_within zero [] (b ∷ rest) long h = absurd cc
 waits_within zero (b ∷ bytes) rest long h = absurd (omega arith)
-waits_within (suc n) bytes rest long h = waits_at n bytes rest (first_response bytes) (λ behind. waits_within n behind rest) refl long h
+waits_within (suc n) bytes rest long h = waits_at n bytes rest (first_response bytes) (λ later. waits_within n later rest) refl long h
 
 pub leaves_no_packet : LeavesNoPacket
 unfolding reading

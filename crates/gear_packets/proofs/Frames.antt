@@ -1,4 +1,4 @@
--- A packet is read again as it was spelled, whatever follows it, and what is read was spelled so.
+-- A packet is read again as it was encoded, whatever follows it, and what is read was encoded so.
 use Rattle.std.proofs.Common.{◌≡◌, ℕ, ◌+◌, ◌^◌, ◌<◌, ◌≤◌, Bool, true, false, ◌&&◌, cond, ltb, eqb, List, [], ◌∷◌, ◌++◌, length, get_or, take, drop, refl, sym, ap, ◌∙◌, append_assoc, arith, ◌⊎◌, inl, inr}
 use Rattle.std.proofs.lemmas.Bool.{cases_lt, ltb-false, le-ltb, eqb-true, eq-eqb}
 use Rattle.std.proofs.lemmas.List.{take_at, drop_at, take-append-drop, length-append, length-take, length-drop, get_or-drop, get_or-take, get_or_past, drop-append-le, take-append-le, drop-drop}
@@ -8,7 +8,7 @@ use Rattle.std.specs.List.{All}
 use Rattle.std.proofs.lemmas.Nat.{be_bytes_4}
 use Rattle.byteorder.specs.Endian.{big_bytes, big_number}
 use Rattle.byteorder.specs.Numbers.{big_number-reads_back, big_from-append, big_from-lt}
-use Rattle.gear_packets.specs.Frame.{body_limit, packet, agrees, kind_at, size_at, wrong_magic, too_large, unfinished, framed, front, FourBytes}
+use Rattle.gear_packets.specs.Frame.{body_limit, packet, agrees, kind_at, size_at, wrong_magic, too_large, unfinished, framed, prefix, FourBytes}
 
 pub record IsBytes (bytes : List ℕ) : Type 0 where
   pub below : (i : ℕ) → get_or bytes i 0 < 256
@@ -37,12 +37,12 @@ byte_at bytes below i =
 -- four bytes are those of the number that they read as
 pub bytes_again : (bytes : List ℕ) → IsBytes bytes → 4 ≤ length bytes → big_bytes 4 (big_number 4 bytes) ≡ take 4 bytes
 bytes_again bytes fits long =
-    let front = IsBytes-take 4 bytes fits in
+    let prefix = IsBytes-take 4 bytes fits in
     let a = get_or-take 4 bytes 0 0 (omega arith) in
     let b = get_or-take 4 bytes 1 0 (omega arith) in
     let c = get_or-take 4 bytes 2 0 (omega arith) in
     let d = get_or-take 4 bytes 3 0 (omega arith) in
-    be_bytes_4 (take 4 bytes) (big_number 4 bytes) (omega (arith, length-take 4 bytes)) front.below (omega (arith, a, b, c, d))
+    be_bytes_4 (take 4 bytes) (big_number 4 bytes) (omega (arith, length-take 4 bytes)) prefix.below (omega (arith, a, b, c, d))
 
 -- ---- the magic
 
@@ -80,10 +80,10 @@ disagrees_more (m ∷ magic) (b ∷ bytes) more h = by (eqb m b) (agrees magic b
 -- ---- the places of the parts
 
 pub record Layout (magic kind size body rest : List ℕ) : Type 0 where
-  pub behind_magic : drop 4 ((magic ++ (kind ++ (size ++ body))) ++ rest) ≡ kind ++ (size ++ (body ++ rest))
-  pub behind_kind : drop 8 ((magic ++ (kind ++ (size ++ body))) ++ rest) ≡ size ++ (body ++ rest)
-  pub behind_size : drop 12 ((magic ++ (kind ++ (size ++ body))) ++ rest) ≡ body ++ rest
-  pub behind_body : drop (12 + length body) ((magic ++ (kind ++ (size ++ body))) ++ rest) ≡ rest
+  pub later_magic : drop 4 ((magic ++ (kind ++ (size ++ body))) ++ rest) ≡ kind ++ (size ++ (body ++ rest))
+  pub later_kind : drop 8 ((magic ++ (kind ++ (size ++ body))) ++ rest) ≡ size ++ (body ++ rest)
+  pub later_size : drop 12 ((magic ++ (kind ++ (size ++ body))) ++ rest) ≡ body ++ rest
+  pub later_body : drop (12 + length body) ((magic ++ (kind ++ (size ++ body))) ++ rest) ≡ rest
   pub long : length ((magic ++ (kind ++ (size ++ body))) ++ rest) ≡ 12 + length body + length rest
   pub starts : (magic ++ (kind ++ (size ++ body))) ++ rest ≡ magic ++ (kind ++ (size ++ (body ++ rest)))
 
@@ -93,28 +93,28 @@ layout magic kind size body rest m k s =
     let at_kind : (magic ++ (kind ++ (size ++ body))) ++ rest ≡ (magic ++ kind) ++ (size ++ (body ++ rest)) = simp append_assoc in
     let at_size : (magic ++ (kind ++ (size ++ body))) ++ rest ≡ (magic ++ (kind ++ size)) ++ (body ++ rest) = simp append_assoc in
     record {
-      behind_magic = ap (drop 4) starts ∙ drop_at magic (kind ++ (size ++ (body ++ rest))) 4 m;
-      behind_kind = ap (drop 8) at_kind ∙ drop_at (magic ++ kind) (size ++ (body ++ rest)) 8 (omega (arith, length-append magic kind));
-      behind_size = ap (drop 12) at_size ∙ drop_at (magic ++ (kind ++ size)) (body ++ rest) 12 (omega (arith, length-append magic (kind ++ size), length-append kind size));
-      behind_body = drop_at (magic ++ (kind ++ (size ++ body))) rest (12 + length body) (omega (arith, length-append magic (kind ++ (size ++ body)), length-append kind (size ++ body), length-append size body));
+      later_magic = ap (drop 4) starts ∙ drop_at magic (kind ++ (size ++ (body ++ rest))) 4 m;
+      later_kind = ap (drop 8) at_kind ∙ drop_at (magic ++ kind) (size ++ (body ++ rest)) 8 (omega (arith, length-append magic kind));
+      later_size = ap (drop 12) at_size ∙ drop_at (magic ++ (kind ++ size)) (body ++ rest) 12 (omega (arith, length-append magic (kind ++ size), length-append kind size));
+      later_body = drop_at (magic ++ (kind ++ (size ++ body))) rest (12 + length body) (omega (arith, length-append magic (kind ++ (size ++ body)), length-append kind (size ++ body), length-append size body));
       long = omega (arith, length-append (magic ++ (kind ++ (size ++ body))) rest, length-append magic (kind ++ (size ++ body)), length-append kind (size ++ body), length-append size body);
       starts = starts;
     }
 
--- ---- a packet at the front
+-- ---- a packet at the start
 
-pub front_packet : (magic : List ℕ) (kind : ℕ) (body rest : List ℕ) → length magic ≡ 4 → kind < 256 ^ 4 → length body ≤ body_limit → front magic (packet magic kind body ++ rest) ≡ framed kind body rest
-unfolding front
-front_packet magic kind body rest four low fits =
+pub prefix_packet : (magic : List ℕ) (kind : ℕ) (body rest : List ℕ) → length magic ≡ 4 → kind < 256 ^ 4 → length body ≤ body_limit → prefix magic (packet magic kind body ++ rest) ≡ framed kind body rest
+unfolding prefix
+prefix_packet magic kind body rest four low fits =
     let l = layout magic (big_bytes 4 kind) (big_bytes 4 (length body)) body rest four refl refl in
     let agree : agrees magic (packet magic kind body ++ rest) ≡ true = ap (agrees magic) l.starts ∙ agrees_self magic (big_bytes 4 kind ++ (big_bytes 4 (length body) ++ (body ++ rest))) in
-    let kind_is : kind_at (packet magic kind body ++ rest) ≡ kind = ap (big_number 4) l.behind_magic ∙ big_number-reads_back 4 kind (big_bytes 4 (length body) ++ (body ++ rest)) low in
-    let size_is : size_at (packet magic kind body ++ rest) ≡ length body = ap (big_number 4) l.behind_kind ∙ big_number-reads_back 4 (length body) (body ++ rest) (omega arith) in
+    let kind_is : kind_at (packet magic kind body ++ rest) ≡ kind = ap (big_number 4) l.later_magic ∙ big_number-reads_back 4 kind (big_bytes 4 (length body) ++ (body ++ rest)) low in
+    let size_is : size_at (packet magic kind body ++ rest) ≡ length body = ap (big_number 4) l.later_kind ∙ big_number-reads_back 4 (length body) (body ++ rest) (omega arith) in
     let long : ltb (length (packet magic kind body ++ rest)) 12 ≡ false = le-ltb _ _ (omega (arith, l.long)) in
     let small : ltb body_limit (length body) ≡ false = le-ltb _ _ fits in
     let enough : ltb (length (packet magic kind body ++ rest)) (12 + length body) ≡ false = le-ltb _ _ (omega (arith, l.long)) in
-    let at_body : take (length body) (drop 12 (packet magic kind body ++ rest)) ≡ body = ap (take (length body)) l.behind_size ∙ take_at body rest (length body) refl in
-    rw (agree, long, size_is, small, enough, kind_is, at_body, l.behind_body) refl
+    let at_body : take (length body) (drop 12 (packet magic kind body ++ rest)) ≡ body = ap (take (length body)) l.later_size ∙ take_at body rest (length body) refl in
+    rw (agree, long, size_is, small, enough, kind_is, at_body, l.later_body) refl
 
 -- the way that a test went, where the other answer is not the one given
 pub not_first : {A : Type 0} (b : Bool) (x y z : A) → cond b x y ≡ z → (x ≡ z → ⊥) → (b ≡ false) × (y ≡ z)
@@ -129,7 +129,7 @@ pub chosen : {A : Type 0} (b : Bool) (x y z : A) → cond b x y ≡ z → ((b �
 chosen true x y z h = inl (refl, h)
 chosen false x y z h = inr (refl, h)
 
--- what a whole packet at the front was tested for
+-- what a whole packet at the start was tested for
 pub record Tested (magic bytes : List ℕ) (kind : ℕ) (body rest : List ℕ) : Type 0 where
   pub agree : agrees magic bytes ≡ true
   pub header : 12 ≤ length bytes
@@ -139,8 +139,8 @@ pub record Tested (magic bytes : List ℕ) (kind : ℕ) (body rest : List ℕ) :
   pub body_is : take (size_at bytes) (drop 12 bytes) ≡ body
   pub rest_is : drop (12 + size_at bytes) bytes ≡ rest
 
-pub tested : (magic bytes : List ℕ) (kind : ℕ) (body rest : List ℕ) → front magic bytes ≡ framed kind body rest → Tested magic bytes kind body rest
-unfolding front
+pub tested : (magic bytes : List ℕ) (kind : ℕ) (body rest : List ℕ) → prefix magic bytes ≡ framed kind body rest → Tested magic bytes kind body rest
+unfolding prefix
 tested magic bytes kind body rest h =
     let agree = not_second (agrees magic bytes) _ wrong_magic (framed kind body rest) h (λ e. cc) in
     let header = not_first (ltb (length bytes) 12) unfinished _ (framed kind body rest) agree.1 (λ e. cc) in
@@ -157,19 +157,19 @@ tested magic bytes kind body rest h =
       rest_is = cc;
     }
 
-pub front_tested : (magic bytes : List ℕ) (kind : ℕ) (body rest : List ℕ) → Tested magic bytes kind body rest → front magic bytes ≡ framed kind body rest
-unfolding front
-front_tested magic bytes kind body rest t =
+pub prefix_tested : (magic bytes : List ℕ) (kind : ℕ) (body rest : List ℕ) → Tested magic bytes kind body rest → prefix magic bytes ≡ framed kind body rest
+unfolding prefix
+prefix_tested magic bytes kind body rest t =
     rw (t.agree, le-ltb _ _ t.header, le-ltb _ _ t.small, le-ltb _ _ t.enough, t.kind_is, t.body_is, t.rest_is) refl
 
 -- more bytes change nothing of a packet that is whole
-pub whole_stays : (magic bytes more : List ℕ) (kind : ℕ) (body rest : List ℕ) → length magic ≡ 4 → front magic bytes ≡ framed kind body rest → front magic (bytes ++ more) ≡ framed kind body (rest ++ more)
+pub whole_stays : (magic bytes more : List ℕ) (kind : ℕ) (body rest : List ℕ) → length magic ≡ 4 → prefix magic bytes ≡ framed kind body rest → prefix magic (bytes ++ more) ≡ framed kind body (rest ++ more)
 whole_stays magic bytes more kind body rest four h =
     let t = tested magic bytes kind body rest h in
     let len = length-append bytes more in
     let kind_same : kind_at (bytes ++ more) ≡ kind_at bytes = ap (big_number 4) (drop-append-le 4 bytes more (omega (arith, t.header))) ∙ big_from-append 4 (drop 4 bytes) more (omega (arith, t.header, length-drop 4 bytes)) in
     let size_same : size_at (bytes ++ more) ≡ size_at bytes = ap (big_number 4) (drop-append-le 8 bytes more (omega (arith, t.header))) ∙ big_from-append 4 (drop 8 bytes) more (omega (arith, t.header, length-drop 8 bytes)) in
-    front_tested magic (bytes ++ more) kind body (rest ++ more) (record {
+    prefix_tested magic (bytes ++ more) kind body (rest ++ more) (record {
       agree = agrees_more magic bytes more (omega (arith, four, t.header)) ∙ t.agree;
       header = omega (arith, t.header, len);
       small = rw size_same t.small;
@@ -179,19 +179,19 @@ whole_stays magic bytes more kind body rest four h =
       rest_is = rw (size_same, drop-append-le (12 + size_at bytes) bytes more t.enough) (ap (λ (x : List ℕ). x ++ more) t.rest_is);
     })
 
-split_as : (n : ℕ) (xs front behind : List ℕ) → front ≡ take n xs → drop n xs ≡ behind → xs ≡ front ++ behind
-split_as n xs front behind f b = rw (f, ← b) (sym (take-append-drop n xs))
+split_as : (n : ℕ) (xs prefix later : List ℕ) → prefix ≡ take n xs → drop n xs ≡ later → xs ≡ prefix ++ later
+split_as n xs prefix later f b = rw (f, ← b) (sym (take-append-drop n xs))
 
--- what is read at the front was spelled so
-pub record Spelled (magic bytes : List ℕ) (kind : ℕ) (body rest : List ℕ) : Type 0 where
+-- what is read at the start was encoded so
+pub record Encoded (magic bytes : List ℕ) (kind : ℕ) (body rest : List ℕ) : Type 0 where
   pub parts : bytes ≡ packet magic kind body ++ rest
   pub kind_fits : kind < 2 ^ 32
   pub body_fits : length body ≤ body_limit
   pub body_bytes : IsBytes body
   pub rest_bytes : IsBytes rest
 
-pub front_spelled : (magic bytes : List ℕ) (kind : ℕ) (body rest : List ℕ) → length magic ≡ 4 → IsBytes bytes → front magic bytes ≡ framed kind body rest → Spelled magic bytes kind body rest
-front_spelled magic bytes kind body rest four fits h =
+pub prefix_encoded : (magic bytes : List ℕ) (kind : ℕ) (body rest : List ℕ) → length magic ≡ 4 → IsBytes bytes → prefix magic bytes ≡ framed kind body rest → Encoded magic bytes kind body rest
+prefix_encoded magic bytes kind body rest four fits h =
     let t = tested magic bytes kind body rest h in
     let size = size_at bytes in
     let after_magic : bytes ≡ magic ++ drop 4 bytes = rw (← four) (agrees_is magic bytes t.agree (omega (arith, four, t.header))) in
@@ -213,8 +213,8 @@ front_spelled magic bytes kind body rest four fits h =
     }
 
 -- a magic that is wrong, and a body that is too large, stay so
-pub wrong_stays : (magic bytes more : List ℕ) → front magic bytes ≡ wrong_magic → front magic (bytes ++ more) ≡ wrong_magic
-unfolding front
+pub wrong_stays : (magic bytes more : List ℕ) → prefix magic bytes ≡ wrong_magic → prefix magic (bytes ++ more) ≡ wrong_magic
+unfolding prefix
 wrong_stays magic bytes more h =
     elim (chosen (agrees magic bytes) _ wrong_magic wrong_magic h) [
       | inr off ↦ rw (disagrees_more magic bytes more off.0) refl
@@ -225,8 +225,8 @@ wrong_stays magic bytes more h =
           absurd (let e = enough.1 in cc)
     ]
 
-pub too_large_stays : (magic bytes more : List ℕ) → length magic ≡ 4 → front magic bytes ≡ too_large → front magic (bytes ++ more) ≡ too_large
-unfolding front
+pub too_large_stays : (magic bytes more : List ℕ) → length magic ≡ 4 → prefix magic bytes ≡ too_large → prefix magic (bytes ++ more) ≡ too_large
+unfolding prefix
 too_large_stays magic bytes more four h =
     let agree = not_second (agrees magic bytes) _ wrong_magic too_large h (λ e. cc) in
     let header = not_first (ltb (length bytes) 12) unfinished _ too_large agree.1 (λ e. cc) in
@@ -242,7 +242,7 @@ too_large_stays magic bytes more four h =
     ]
 
 -- a packet takes bytes away
-pub whole_shrinks : (magic bytes : List ℕ) (kind : ℕ) (body rest : List ℕ) → front magic bytes ≡ framed kind body rest → length rest < length bytes
+pub whole_shrinks : (magic bytes : List ℕ) (kind : ℕ) (body rest : List ℕ) → prefix magic bytes ≡ framed kind body rest → length rest < length bytes
 whole_shrinks magic bytes kind body rest h =
     let t = tested magic bytes kind body rest h in
     rw (← t.rest_is) (omega (arith, t.enough, length-drop (12 + size_at bytes) bytes))

@@ -1,13 +1,13 @@
--- A request is read again as it was spelled, and what is read was spelled so.
+-- A request is read again as it was encoded, and what is read was encoded so.
 use Rattle.std.proofs.Common.{◌≡◌, ℕ, ◌^◌, ◌<◌, Bool, true, false, ◌&&◌, not, cond, ltb, eqb, List, [], ◌∷◌, ◌++◌, length, Option, Some, None, refl, sym, ap, subst, ◌∙◌, arith, inl, inr}
 use Rattle.std.specs.Prelude.{decimal}
 use Rattle.std.specs.Option.{option_map, option_and_then}
 use Rattle.std.proofs.lemmas.Bool.{ltb-true, lt-ltb, eqb-true}
-use Rattle.gear_packets.specs.Frame.{request_magic, packet, Front, wrong_magic, too_large, unfinished, framed, front}
-use Rattle.gear_packets.specs.Request.{Packet, can_do, cant_do, pre_sleep, grab_job, set_client_id, work_status, work_complete, work_fail, work_data, work_warning, kind_of, body_of, spelling, has_nul, IsHandle, IsProper, IsSent, cut, is_handle, number_of, with_name, without_body, with_handle, handle_and, with_bytes, work_status_of, with_numbers, request_of, request_in, first_request}
+use Rattle.gear_packets.specs.Frame.{request_magic, packet, Prefix, wrong_magic, too_large, unfinished, framed, prefix}
+use Rattle.gear_packets.specs.Request.{Packet, can_do, cant_do, pre_sleep, grab_job, set_client_id, work_status, work_complete, work_fail, work_data, work_warning, kind_of, body_of, encoding, has_nul, IsHandle, IsProper, IsSent, cut, is_handle, number_of, with_name, without_body, with_handle, handle_and, with_bytes, work_status_of, with_numbers, request_of, request_in, first_request}
 use Rattle.text_pieces.proofs.Cutting.{first_of_parts, parts_of_first}
-use Rattle.text_pieces.proofs.Digits.{none_in_decimal, plain_decimal, plain_spelled}
-use Rattle.gear_packets.proofs.Frames.{IsBytes, not_first, not_second, chosen, front_packet, front_spelled, whole_stays, whole_shrinks}
+use Rattle.text_pieces.proofs.Digits.{none_in_decimal, plain_decimal, plain_encoded}
+use Rattle.gear_packets.proofs.Frames.{IsBytes, not_first, not_second, chosen, prefix_packet, prefix_encoded, whole_stays, whole_shrinks}
 
 pub and_parts : (a b : Bool) → (a && b) ≡ true → (a ≡ true) × (b ≡ true)
 and_parts true b h = (refl, h)
@@ -48,7 +48,7 @@ number_found n low = plain_decimal (2 ^ 32) n low (omega arith)
 
 number_is : (text : List ℕ) (n : ℕ) → number_of text ≡ Some n → (text ≡ decimal n) × (n < 2 ^ 32)
 unfolding number_of
-number_is text n h = plain_spelled (2 ^ 32) text n (omega arith) h
+number_is text n h = plain_encoded (2 ^ 32) text n (omega arith) h
 
 handle_and_found : (handle rest : List ℕ) → IsHandle handle → handle_and (handle ++ 0 ∷ rest) ≡ Some (handle, rest)
 handle_and_found handle rest h = rw (first_of_parts 0 handle rest h.no_nul, test_handle handle h) refl
@@ -160,32 +160,32 @@ kind_low (work_fail handle) = omega arith
 kind_low (work_data handle bytes) = omega arith
 kind_low (work_warning handle bytes) = omega arith
 
-pub first_found : (p : Packet) (rest : List ℕ) → IsSent p → first_request (spelling p ++ rest) ≡ Some (p, rest)
+pub first_found : (p : Packet) (rest : List ℕ) → IsSent p → first_request (encoding p ++ rest) ≡ Some (p, rest)
 unfolding first_request
 first_found p rest h =
-    let f = front_packet request_magic (kind_of p) (body_of p) rest refl (kind_low p) h.fits in
+    let f = prefix_packet request_magic (kind_of p) (body_of p) rest refl (kind_low p) h.fits in
     rw (f, request_found p h.proper) refl
 
 pub record IsFirst (bytes : List ℕ) (p : Packet) (rest : List ℕ) : Type 0 where
-  pub parts : bytes ≡ spelling p ++ rest
+  pub parts : bytes ≡ encoding p ++ rest
   pub is_sent : IsSent p
   pub rest_bytes : IsBytes rest
 
-in_front : (f : Front) (p : Packet) (rest : List ℕ) → request_in f ≡ Some (p, rest) → (kind : ℕ) × (body : List ℕ) × (f ≡ framed kind body rest) × (request_of kind body ≡ Some p)
-in_front wrong_magic p rest h = absurd cc
-in_front too_large p rest h = absurd cc
-in_front unfinished p rest h = absurd cc
-in_front (framed kind body behind) p rest h =
-    let m = mapped (λ (q : Packet). let r : Packet × List ℕ = (q, behind) in r) (request_of kind body) (p, rest) h in
+in_prefix : (f : Prefix) (p : Packet) (rest : List ℕ) → request_in f ≡ Some (p, rest) → (kind : ℕ) × (body : List ℕ) × (f ≡ framed kind body rest) × (request_of kind body ≡ Some p)
+in_prefix wrong_magic p rest h = absurd cc
+in_prefix too_large p rest h = absurd cc
+in_prefix unfinished p rest h = absurd cc
+in_prefix (framed kind body after) p rest h =
+    let m = mapped (λ (q : Packet). let r : Packet × List ℕ = (q, after) in r) (request_of kind body) (p, rest) h in
     let p_is : m.0 ≡ p = ap (λ (q : Packet × List ℕ). q.0) m.2 in
-    let rest_is : behind ≡ rest = ap (λ (q : Packet × List ℕ). q.1) m.2 in
+    let rest_is : after ≡ rest = ap (λ (q : Packet × List ℕ). q.1) m.2 in
     (kind, body, ap (framed kind body) rest_is, m.1 ∙ ap some p_is)
 
 pub first_is : (bytes : List ℕ) (p : Packet) (rest : List ℕ) → IsBytes bytes → first_request bytes ≡ Some (p, rest) → IsFirst bytes p rest
 unfolding first_request
 first_is bytes p rest fits h =
-    let f = in_front (front request_magic bytes) p rest h in
-    let s = front_spelled request_magic bytes f.0 f.1 rest refl fits f.2 in
+    let f = in_prefix (prefix request_magic bytes) p rest h in
+    let s = prefix_encoded request_magic bytes f.0 f.1 rest refl fits f.2 in
     let r = request_is f.0 f.1 p f.3 in
     record {
       parts = s.parts ∙ ap (λ (k : ℕ). packet request_magic k f.1 ++ rest) r.kind_is ∙ ap (λ (b : List ℕ). packet request_magic (kind_of p) b ++ rest) r.body_is;
@@ -196,15 +196,15 @@ first_is bytes p rest fits h =
 pub first_stays : (bytes more : List ℕ) (p : Packet) (rest : List ℕ) → first_request bytes ≡ Some (p, rest) → first_request (bytes ++ more) ≡ Some (p, rest ++ more)
 unfolding first_request
 first_stays bytes more p rest h =
-    let f = in_front (front request_magic bytes) p rest h in
+    let f = in_prefix (prefix request_magic bytes) p rest h in
     rw (whole_stays request_magic bytes more f.0 f.1 rest refl f.2, f.3) refl
 
 pub first_shrinks : (bytes : List ℕ) (p : Packet) (rest : List ℕ) → first_request bytes ≡ Some (p, rest) → length rest < length bytes
 unfolding first_request
 first_shrinks bytes p rest h =
-    let f = in_front (front request_magic bytes) p rest h in
+    let f = in_prefix (prefix request_magic bytes) p rest h in
     whole_shrinks request_magic bytes f.0 f.1 rest f.2
 
 pub first_of_nothing : first_request [] ≡ None
-unfolding first_request front
+unfolding first_request prefix
 first_of_nothing = refl

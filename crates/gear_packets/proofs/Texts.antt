@@ -3,9 +3,9 @@ use Rattle.std.proofs.Common.{◌≡◌, ℕ, zero, suc, ◌≤◌, Bool, true, 
 use Rattle.std.specs.List.{filter, cons_option, AllByRecursion}
 use Rattle.std.proofs.lemmas.List.{append_assoc, append-nil}
 use Rattle.gear_packets.specs.declared.fault.StreamFault.{StreamFault}
-use Rattle.gear_packets.specs.Request.{Packet, spelling, IsSent, first_request}
+use Rattle.gear_packets.specs.Request.{Packet, encoding, IsSent, first_request}
 use Rattle.gear_packets.specs.Response.{AssignedJob, Message, Next, gives, faulty, waits, first_response}
-use Rattle.gear_packets.specs.Text.{Ending, unread, broken, Reading, after_message, reading_within, reading, behind, further, Sent, sent_within, sent, text_of, is_work, register, registered_by, assignments_in, assignment_of, GrowsByARequest, GrowsByAResponse}
+use Rattle.gear_packets.specs.Text.{Ending, unread, broken, Reading, after_message, reading_within, reading, read_after, further, Sent, sent_within, sent, text_of, is_work, register, registered_by, assignments_in, assignment_of, GrowsByARequest, GrowsByAResponse}
 use Rattle.gear_packets.proofs.Requests.{first_found, first_shrinks, first_stays, first_of_nothing}
 use Rattle.gear_packets.proofs.Responses.{gives_stays, gives_shrinks, faulty_stays, response_of_nothing}
 
@@ -119,8 +119,8 @@ after_packets ps s = record { packets = ps ++ s.packets; rest = s.rest }
 pub sent_text : (ps : List Packet) (rest : List ℕ) → AllByRecursion IsSent ps → sent (text_of ps ++ rest) ≡ after_packets ps (sent rest)
 sent_text [] rest h = refl
 sent_text (p ∷ ps) rest h =
-    let regroup : text_of (p ∷ ps) ++ rest ≡ spelling p ++ (text_of ps ++ rest) = append_assoc (spelling p) (text_of ps) rest in
-    ap sent regroup ∙ sent_first (spelling p ++ (text_of ps ++ rest)) p (text_of ps ++ rest) (first_found p (text_of ps ++ rest) h.0) ∙ ap (before p) (sent_text ps rest h.1)
+    let regroup : text_of (p ∷ ps) ++ rest ≡ encoding p ++ (text_of ps ++ rest) = append_assoc (encoding p) (text_of ps) rest in
+    ap sent regroup ∙ sent_first (encoding p ++ (text_of ps ++ rest)) p (text_of ps ++ rest) (first_found p (text_of ps ++ rest) h.0) ∙ ap (before p) (sent_text ps rest h.1)
 
 pub sent_nothing : sent [] ≡ record { packets = []; rest = [] }
 unfolding sent sent_within
@@ -165,10 +165,10 @@ registered_append : (names : List (List ℕ)) (ps qs : List Packet) → register
 registered_append names [] qs = refl
 registered_append names (p ∷ ps) qs = registered_append (register names p) ps qs
 
-pub sent_grows : (text : List ℕ) (p : Packet) → (sent text).rest ≡ [] → IsSent p → (sent (text ++ spelling p)).packets ≡ (sent text).packets ++ p ∷ []
+pub sent_grows : (text : List ℕ) (p : Packet) → (sent text).rest ≡ [] → IsSent p → (sent (text ++ encoding p)).packets ≡ (sent text).packets ++ p ∷ []
 sent_grows text p whole fits =
-    let one : sent (spelling p) ≡ record { packets = p ∷ []; rest = [] } = ap sent (sym (append-nil (spelling p))) ∙ sent_first (spelling p ++ []) p [] (first_found p [] fits) ∙ ap (before p) sent_nothing in
-    ap (λ (s : Sent). s.packets) (sent_more text (spelling p) ∙ ap (λ (r : List ℕ). after_packets (sent text).packets (sent (r ++ spelling p))) whole ∙ ap (after_packets (sent text).packets) one)
+    let one : sent (encoding p) ≡ record { packets = p ∷ []; rest = [] } = ap sent (sym (append-nil (encoding p))) ∙ sent_first (encoding p ++ []) p [] (first_found p [] fits) ∙ ap (before p) sent_nothing in
+    ap (λ (s : Sent). s.packets) (sent_more text (encoding p) ∙ ap (λ (r : List ℕ). after_packets (sent text).packets (sent (r ++ encoding p))) whole ∙ ap (after_packets (sent text).packets) one)
 
 pub grows_by_a_request : GrowsByARequest
 grows_by_a_request text p whole fits =
@@ -179,16 +179,16 @@ assignments_in_append : (xs ys : List Message) → assignments_in (xs ++ ys) ≡
 assignments_in_append [] ys = refl
 assignments_in_append (x ∷ xs) ys = by (assignment_of x) (assignments_in (xs ++ ys)) (assignments_in xs) (assignments_in ys) (assignments_in_append xs ys)
   where
-    by : (o : Option AssignedJob) (all front behind : List AssignedJob) → all ≡ front ++ behind → cons_option o all ≡ cons_option o front ++ behind
-    by None all front behind h = h
-    by (Some a) all front behind h = ap (λ (t : List AssignedJob). a ∷ t) h
+    by : (o : Option AssignedJob) (all prefix read_after : List AssignedJob) → all ≡ prefix ++ read_after → cons_option o all ≡ cons_option o prefix ++ read_after
+    by None all prefix read_after h = h
+    by (Some a) all prefix read_after h = ap (λ (t : List AssignedJob). a ∷ t) h
 
-further_from_nothing : (r : Reading) (piece : List ℕ) → r.ending ≡ unread [] → further r piece ≡ behind r.messages (reading piece)
+further_from_nothing : (r : Reading) (piece : List ℕ) → r.ending ≡ unread [] → further r piece ≡ read_after r.messages (reading piece)
 unfolding further
 further_from_nothing r piece h = rw (h, further) refl
 
 pub grows_by_a_response : GrowsByAResponse
 grows_by_a_response text piece m whole said =
     let one : reading piece ≡ record { messages = m ∷ []; ending = unread [] } = reading_gives piece m [] said ∙ ap (after_message m) (reading_waits [] response_of_nothing) in
-    ap (λ (r : Reading). assignments_in r.messages) (reading_more text piece ∙ further_from_nothing (reading text) piece whole ∙ ap (behind (reading text).messages) one)
+    ap (λ (r : Reading). assignments_in r.messages) (reading_more text piece ∙ further_from_nothing (reading text) piece whole ∙ ap (read_after (reading text).messages) one)
     ∙ assignments_in_append (reading text).messages (m ∷ [])

@@ -2,7 +2,7 @@
 use Rattle.std.specs.Prelude.{◌≡◌, ℕ, List, [], ◌∷◌, Option, Some, None}
 use Rattle.std.specs.List.{filter_map, flat_map}
 use Rattle.gear_packets.specs.Response.{Message, waits, first_response}
-use Rattle.gear_packets.specs.Text.{Reading, unread, reading, behind, after_message, further}
+use Rattle.gear_packets.specs.Text.{Reading, unread, reading, read_after, after_message, further}
 use Rattle.gear_packets.specs.Reading.{nothing_read}
 
 -- A piece that was fed, or a response that was given. A piece that was refused since memory ran out changed
@@ -39,7 +39,7 @@ Leads from (gave m ∷ calls) to = (next : Reading) × (from ≡ after_message m
 -- be given, and the rest or the fault after them are what the stream so far says.
 abbrev pub GivesItsStream : Type 0
 GivesItsStream = (calls : List Call) (reader : Reading)
-    → Leads nothing_read calls reader → reading (stream calls) ≡ behind (responses calls) reader
+    → Leads nothing_read calls reader → reading (stream calls) ≡ read_after (responses calls) reader
 
 -- what a stream leaves unread is no whole packet
 abbrev pub LeavesNoPacket : Type 0

@@ -30,15 +30,15 @@ abbrev pub size_at : List ℕ → ℕ
 size_at bytes = big_number 4 (drop 8 bytes)
 
 -- what is at the start of a text
-pub data Front : Type 0 where
-  wrong_magic : Front
-  too_large : Front
-  unfinished : Front
+pub data Prefix : Type 0 where
+  wrong_magic : Prefix
+  too_large : Prefix
+  unfinished : Prefix
   -- a packet's type and body, and the text after it
-  framed : ℕ → List ℕ → List ℕ → Front
+  framed : ℕ → List ℕ → List ℕ → Prefix
 
-unfoldable pub front : List ℕ → List ℕ → Front
-front magic bytes =
+unfoldable pub prefix : List ℕ → List ℕ → Prefix
+prefix magic bytes =
     if agrees magic bytes then (
     if nat_lt (length bytes) 12 then unfinished else (
     if nat_lt body_limit (size_at bytes) then too_large else (

@@ -5,7 +5,7 @@ use Rattle.std.specs.Option.{option_map, option_and_then}
 use Rattle.std.specs.List.{list_any}
 use Rattle.text_pieces.specs.Cuts.{cut_first}
 use Rattle.text_pieces.specs.Numbers.{plain_number_below}
-use Rattle.gear_packets.specs.Frame.{request_magic, body_limit, packet, Front, wrong_magic, too_large, unfinished, framed, front}
+use Rattle.gear_packets.specs.Frame.{request_magic, body_limit, packet, Prefix, wrong_magic, too_large, unfinished, framed, prefix}
 
 -- a packet of a worker, with its arguments as lists of bytes
 pub data Packet : Type 0 where
@@ -46,8 +46,8 @@ body_of (work_data handle bytes) = handle ++ 0 ∷ bytes
 body_of (work_warning handle bytes) = handle ++ 0 ∷ bytes
 
 -- the one encoding of a packet
-abbrev pub spelling : Packet → List ℕ
-spelling p = packet request_magic (kind_of p) (body_of p)
+abbrev pub encoding : Packet → List ℕ
+encoding p = packet request_magic (kind_of p) (body_of p)
 
 abbrev pub has_nul : List ℕ → Bool
 has_nul bytes = list_any (λ b. b == 0) bytes
@@ -140,7 +140,7 @@ request_of kind body =
     if kind == 30 then without_body grab_job body else
     None)))))))))
 
-abbrev pub request_in : Front → Option (Packet × List ℕ)
+abbrev pub request_in : Prefix → Option (Packet × List ℕ)
 request_in wrong_magic = None
 request_in too_large = None
 request_in unfinished = None
@@ -148,14 +148,14 @@ request_in (framed kind body rest) = option_map (λ p. (p, rest)) (request_of ki
 
 -- the packet at the start of a text, and the text after it
 unfoldable pub first_request : List ℕ → Option (Packet × List ℕ)
-first_request bytes = request_in (front request_magic bytes)
+first_request bytes = request_in (prefix request_magic bytes)
 
 -- ---- laws
 
 -- an encoding is of one packet
-abbrev pub OneSpelling : Type 0
-OneSpelling = (p q : Packet) → IsSent p → IsSent q → spelling p ≡ spelling q → p ≡ q
+abbrev pub OneEncoding : Type 0
+OneEncoding = (p q : Packet) → IsSent p → IsSent q → encoding p ≡ encoding q → p ≡ q
 
 -- no encoding of a packet begins another
 abbrev pub NoneBeginsAnother : Type 0
-NoneBeginsAnother = (p q : Packet) (x y : List ℕ) → IsSent p → IsSent q → spelling p ++ x ≡ spelling q ++ y → (p ≡ q) × (x ≡ y)
+NoneBeginsAnother = (p q : Packet) (x y : List ℕ) → IsSent p → IsSent q → encoding p ++ x ≡ encoding q ++ y → (p ≡ q) × (x ≡ y)

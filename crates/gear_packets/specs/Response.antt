@@ -2,7 +2,7 @@
 use Rattle.std.specs.Prelude.{ℕ, ◌==◌, nat_lt, if◌then◌else◌, List, [], ◌∷◌, length, Some, None, Result, Ok, Err}
 use Rattle.gear_packets.specs.declared.fault.StreamFault.{StreamFault}
 use Rattle.gear_packets.specs.declared.fault.StreamFault.TheVariants.{BadMagic, TooLarge, BadBody, HandleTooLong}
-use Rattle.gear_packets.specs.Frame.{response_magic, Front, wrong_magic, too_large, unfinished, framed, front}
+use Rattle.gear_packets.specs.Frame.{response_magic, Prefix, wrong_magic, too_large, unfinished, framed, prefix}
 use Rattle.gear_packets.specs.Request.{cut}
 
 -- a job that the server hands out
@@ -77,11 +77,11 @@ abbrev pub said : List ℕ → Result Message StreamFault → Next
 said rest (Ok m) = gives m rest
 said rest (Err f) = faulty f
 
-abbrev pub response_in : Front → Next
+abbrev pub response_in : Prefix → Next
 response_in wrong_magic = faulty BadMagic
 response_in too_large = faulty TooLarge
 response_in unfinished = waits
 response_in (framed kind body rest) = said rest (meaning kind body)
 
 unfoldable pub first_response : List ℕ → Next
-first_response bytes = response_in (front response_magic bytes)
+first_response bytes = response_in (prefix response_magic bytes)

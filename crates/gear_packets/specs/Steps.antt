@@ -10,16 +10,16 @@ use Rattle.gear_packets.specs.declared.frame.Frame.TheVariants as frame
 use Rattle.gear_packets.specs.declared.meaning.Step.{Step}
 use Rattle.gear_packets.specs.declared.meaning.Step.TheVariants as step
 use Rattle.gear_packets.specs.declared.response.Response.{Response}
-use Rattle.gear_packets.specs.Frame.{Front, wrong_magic, too_large, unfinished, framed, size_at}
+use Rattle.gear_packets.specs.Frame.{Prefix, wrong_magic, too_large, unfinished, framed, size_at}
 use Rattle.gear_packets.specs.Response.{Message, Next, gives, faulty, waits}
 use Rattle.gear_packets.specs.Reading.{message_of}
 
 -- what is at the start of the bytes
-abbrev pub front_of : Frame → List ℕ → Front
-front_of frame.WrongMagic bytes = wrong_magic
-front_of frame.TooLarge bytes = too_large
-front_of frame.Unfinished bytes = unfinished
-front_of (frame.Framed kind body) bytes = framed kind body.now (drop (12 + length body.now) bytes)
+abbrev pub prefix_of : Frame → List ℕ → Prefix
+prefix_of frame.WrongMagic bytes = wrong_magic
+prefix_of frame.TooLarge bytes = too_large
+prefix_of frame.Unfinished bytes = unfinished
+prefix_of (frame.Framed kind body) bytes = framed kind body.now (drop (12 + length body.now) bytes)
 
 -- a packet lies within so many bytes
 abbrev pub IsWithin : Frame → ℕ → Type 0

@@ -5,7 +5,7 @@ use Rattle.std.specs.List.{filter, flat_map, filter_map, list_any, AllByRecursio
 use Rattle.std.specs.Cmp.Lexicographic.{pointwise}
 use Rattle.gear_packets.specs.declared.fault.StreamFault.{StreamFault}
 use Rattle.gear_packets.specs.Request.{Packet, can_do, cant_do, pre_sleep, grab_job, set_client_id, work_status, work_complete, work_fail}
-use Rattle.gear_packets.specs.Request.{work_data, work_warning, spelling, IsSent, first_request}
+use Rattle.gear_packets.specs.Request.{work_data, work_warning, encoding, IsSent, first_request}
 use Rattle.gear_packets.specs.Response.{AssignedJob, Message, noop, no_job, assign, server_error, other, gives, faulty, waits}
 use Rattle.gear_packets.specs.Response.{first_response}
 
@@ -35,12 +35,12 @@ unfoldable pub reading : List ℕ → Reading
 reading bytes = reading_within (length bytes) bytes
 
 -- a reading that goes on with more bytes
-abbrev pub behind : List Message → Reading → Reading
-behind ms r = record { messages = ms ++ r.messages; ending = r.ending }
+abbrev pub read_after : List Message → Reading → Reading
+read_after ms r = record { messages = ms ++ r.messages; ending = r.ending }
 
 unfoldable pub further : Reading → List ℕ → Reading
 further r piece = elim r.ending [
-  | unread rest ↦ behind r.messages (reading (rest ++ piece))
+  | unread rest ↦ read_after r.messages (reading (rest ++ piece))
   | broken f ↦ r
 ]
 
@@ -76,7 +76,7 @@ unfoldable pub sent : List ℕ → Sent
 sent bytes = sent_within (length bytes) bytes
 
 abbrev pub text_of : List Packet → List ℕ
-text_of ps = flat_map spelling ps
+text_of ps = flat_map encoding ps
 
 abbrev pub is_work : Packet → Bool
 is_work (can_do name) = false
@@ -132,8 +132,8 @@ SaysItsPackets = (ps : List Packet) → AllByRecursion IsSent ps → (sent (text
 -- that packet alone.
 abbrev pub GrowsByARequest : Type 0
 GrowsByARequest = (text : List ℕ) (p : Packet) → (sent text).rest ≡ [] → IsSent p
-    → (work_requests (text ++ spelling p) ≡ work_requests text ++ filter is_work (p ∷ []))
-    × (registered (text ++ spelling p) ≡ register (registered text) p)
+    → (work_requests (text ++ encoding p) ≡ work_requests text ++ filter is_work (p ∷ []))
+    × (registered (text ++ encoding p) ≡ register (registered text) p)
 
 -- the same of a stream of whole responses
 abbrev pub GrowsByAResponse : Type 0

@@ -17,14 +17,14 @@ pub record SoFar (first now : Input) (lulls : ℕ) (text : Part) (bytes : List �
   pub patient : lulls ≤ 64
   pub held : room text + length bytes ≤ longest
 
--- one read behind what came so far
-module _ (first behind now : Input) (before after : ℕ) (text : Part) (bytes : List ℕ) (met : Met) (so_far : SoFar first behind before text bytes)
-    (read : Meets behind met now) where
+-- one read after what came so far
+module _ (first later now : Input) (before after : ℕ) (text : Part) (bytes : List ℕ) (met : Met) (so_far : SoFar first later before text bytes)
+    (read : Meets later met now) where
   -- the source gave up
   pub given_up : IsGivenUp before met
       → (total : Met) × Meets first total now × AnswersStatus total (Err ReadFault) × (length total.bytes ≡ length bytes)
   given_up nothing =
-      let end = gave_up first behind now bytes before behind.has_ended met so_far.met read nothing in
+      let end = gave_up first later now bytes before later.has_ended met so_far.met read nothing in
       let open_text : status (end.0).bytes ≡ Err Truncated =
       subst (λ b. status b ≡ Err Truncated) (sym end.2) (undecided bytes text so_far.part so_far.ahead) in
       let long : length (end.0).bytes ≡ length bytes = subst (λ b. length b ≡ length bytes) (sym end.2) refl in
@@ -34,14 +34,14 @@ module _ (first behind now : Input) (before after : ℕ) (text : Part) (bytes : 
   pub ended : Came before met [] true after
       → Meets first (brought bytes after true) now × AnswersStatus (brought bytes after true) (Err Truncated)
   ended came = (
-    end_came first behind now bytes before after behind.has_ended met so_far.met read came,
+    end_came first later now bytes before after later.has_ended met so_far.met read came,
     (undecided bytes text so_far.part so_far.ahead, refl, (refl, came.4)),
   )
 
   -- a piece came
   module _ (piece : List ℕ) (came : Came before met piece false after) where
     pub longer : Meets first (brought (bytes ++ piece) after false) now
-    longer = piece_came first behind now bytes piece before after behind.has_ended false met so_far.met read came
+    longer = piece_came first later now bytes piece before after later.has_ended false met so_far.met read came
 
     pub calm : Undisturbed (brought (bytes ++ piece) after false)
     calm = (refl, came.4)

@@ -20,13 +20,13 @@ nothing_after [] = refl
 nothing_after (x ∷ xs) = ap (λ t. x ∷ t) (nothing_after xs)
 
 -- bytes with no line feed go before the first part
-pub open_front : (xs ys head : List ℕ) (tail : List (List ℕ)) → has_no_line_feed xs ≡ true → slice_split is_line_feed ys ≡ head ∷ tail
+pub open_prefix : (xs ys head : List ℕ) (tail : List (List ℕ)) → has_no_line_feed xs ≡ true → slice_split is_line_feed ys ≡ head ∷ tail
     → slice_split is_line_feed (xs ++ ys) ≡ (xs ++ head) ∷ tail
-open_front [] ys head tail o e = e
-open_front (x ∷ xs) ys head tail o e =
+open_prefix [] ys head tail o e = e
+open_prefix (x ∷ xs) ys head tail o e =
     let parts = and_parts (not (is_line_feed x)) (has_no_line_feed xs) o in
     let other : is_line_feed x ≡ false = not_true (is_line_feed x) parts.0 in
-    rw (other, open_front xs ys head tail parts.1 e)
+    rw (other, open_prefix xs ys head tail parts.1 e)
 
 fits : (line : List ℕ) → length line ≤ 4096 → is_too_long line ≡ false
 fits line h = grind (arith, nat_tests)
@@ -34,14 +34,14 @@ fits line h = grind (arith, nat_tests)
 exceeds : (line : List ℕ) → 4096 < length line → is_too_long line ≡ true
 exceeds line h = grind (arith, nat_tests)
 
--- at a line feed the line is judged, and the text goes on behind it
+-- at a line feed the line is judged, and the text goes on after it
 pub at_feed : (n : ℕ) (line rest : List ℕ) (load : List Line) → has_no_line_feed line ≡ true → length line ≤ 4096
     → meaning_from n (slice_split is_line_feed (line ++ 10 ∷ rest)) load
     ≡ at_end n line load (λ more. meaning_from (n + 1) (slice_split is_line_feed rest) more)
 at_feed n line rest load o short =
     let next = first_part rest in
     let parts : slice_split is_line_feed (line ++ 10 ∷ rest) ≡ line ∷ slice_split is_line_feed rest =
-    open_front line (10 ∷ rest) [] (slice_split is_line_feed rest) o refl ∙ ap (λ t. t ∷ slice_split is_line_feed rest) (nothing_after line) in
+    open_prefix line (10 ∷ rest) [] (slice_split is_line_feed rest) o refl ∙ ap (λ t. t ∷ slice_split is_line_feed rest) (nothing_after line) in
     let short_line = fits line short in
     rw (parts, next.2, short_line)
 
@@ -56,7 +56,7 @@ pub too_long : (n b : ℕ) (line rest : List ℕ) (load : List Line) → has_no_
 too_long n b line rest load o full other =
     let next = first_part rest in
     let from_here : slice_split is_line_feed (b ∷ rest) ≡ (b ∷ next.0) ∷ next.1 = rw (other, next.2) in
-    let parts = open_front line (b ∷ rest) (b ∷ next.0) next.1 o from_here in
+    let parts = open_prefix line (b ∷ rest) (b ∷ next.0) next.1 o from_here in
     ap (λ ps. meaning_from n ps load) parts
     ∙ long_first n (line ++ b ∷ next.0) next.1 load (exceeds (line ++ b ∷ next.0) (omega (arith, length-append line (b ∷ next.0))))
 
@@ -65,7 +65,7 @@ pub not_whole : (n : ℕ) (line : List ℕ) (load : List Line) → has_no_line_f
     → meaning_from n (slice_split is_line_feed (line ++ [])) load ≡ Err Truncated
 not_whole n line load o short =
     let parts : slice_split is_line_feed (line ++ []) ≡ line ∷ [] =
-    open_front line [] [] [] o refl ∙ ap (λ t. t ∷ []) (nothing_after line) in
+    open_prefix line [] [] [] o refl ∙ ap (λ t. t ∷ []) (nothing_after line) in
     let short_line = fits line short in
     rw (parts, short_line)
 

@@ -274,11 +274,11 @@ visible_name name = list_all-from_AllPass is_ascii_graphic _ (All-percent_encode
 
 visible_target : (s : Service) (j : AssignedJob) → list_all is_ascii_graphic (string_bytes s.path) ≡ true → is_target (target_of s j) ≡ true
 visible_target s j visible =
-    let front = string_bytes s.path ++ codes "/" in
+    let prefix = string_bytes s.path ++ codes "/" in
     let name = percent_encode UNRESERVED j.function in
-    let some : 0 < length (front ++ name) = omega (arith, length-append front name, length-append (string_bytes s.path) (codes "/")) in
+    let some : 0 < length (prefix ++ name) = omega (arith, length-append prefix name, length-append (string_bytes s.path) (codes "/")) in
     and_from _ _ (lt-ltb _ _ some)
-    (list_all-append is_ascii_graphic front name ∙ and_from _ _ (list_all-append is_ascii_graphic (string_bytes s.path) (codes "/") ∙ and_from _ _ visible refl) (visible_name j.function))
+    (list_all-append is_ascii_graphic prefix name ∙ and_from _ _ (list_all-append is_ascii_graphic (string_bytes s.path) (codes "/") ∙ and_from _ _ visible refl) (visible_name j.function))
 
 post_token : is_token POST ≡ true
 unfolding is_token_byte

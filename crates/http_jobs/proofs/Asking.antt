@@ -219,12 +219,12 @@ module _ (c : Client) (target : List ℕ) (n : ℕ) (hs : List Header) (o : AreO
       let b = with_writing a (after_data (writing a) n) in
       request_text POST target 1 (planned_headers r hs) ++ finish_text (writing b) []
 
-  -- the head, and nothing behind it
+  -- the head, and nothing after it
   pub says_head : planned_request c POST target (Known n) hs ++ finish_text (writing sending) [] ≡ request_text POST target 1 (hs ++ length_header n ∷ [])
   says_head =
       let p = plan.0 in
-      let front = request_text POST target 1 (hs ++ p.extra) in
-      ap text_at plan.1 ∙ ap (λ x. front ++ x) (unchunked_end p.framing n unchunked) ∙ append-nil front
+      let prefix = request_text POST target 1 (hs ++ p.extra) in
+      ap text_at plan.1 ∙ ap (λ x. prefix ++ x) (unchunked_end p.framing n unchunked) ∙ append-nil prefix
       ∙ ap (λ x. request_text POST target 1 (hs ++ x)) extra
 
   no_upgrades : (known_fields (hs ++ plan.0.extra)).upgrade ≡ false

@@ -28,7 +28,7 @@ use Rattle.http1.specs.declared.client.Client.{Client}
 use Rattle.http1.specs.Framing.{has_no_body, response_framing}
 use Rattle.http1.specs.declared.framing.FramingError.{FramingError}
 use Rattle.http1.specs.Body.{Body, body_of, ReadsBody}
-use Rattle.http1.specs.Decoder.{Completes, with_front, decoder_for, Runs, Starves, AwaitsTrailers}
+use Rattle.http1.specs.Decoder.{Completes, with_prefix, decoder_for, Runs, Starves, AwaitsTrailers}
 use Rattle.http1.specs.Message.{known_of, Response, ReadsResponseMessage, AcceptsResponse}
 use Rattle.http1.specs.Conn.{awaits_head, ReadsPiece, is_connect, is_until_close, keeps_alive}
 use Rattle.http1.specs.Client.{is_interim, is_expected, TakesHead, ReadsFirst, ReadsHead, ReadsAt, after_head, reading_body, at_eof, RefusesAt, RefusesFirst, HasNoHead, cut_short, closed_client, after_piece, is_written, IsIdle}
@@ -43,17 +43,17 @@ one_more : (limits : Limits) (s : List ℕ) (xs : List Response) (mid : List ℕ
 one_more limits s [] mid m rest h i r = (rest, i, subst (λ x. ReadsOne limits x m rest) (sym h) r, refl)
 one_more limits s (x ∷ xs) mid m rest h i r = (h.0, h.1, h.2, one_more limits h.0 xs mid m rest h.3 i r)
 
--- ---- what comes behind
+-- ---- what comes after
 
-behind : (read left piece : List ℕ) (limits : Limits) (xs : List Response) → ((more : List ℕ) → ReadsInterims limits (read ++ more) xs (left ++ more)) → (more : List ℕ) → ReadsInterims limits ((read ++ piece) ++ more) xs ((left ++ piece) ++ more)
-behind read left piece limits xs h more =
+later : (read left piece : List ℕ) (limits : Limits) (xs : List Response) → ((more : List ℕ) → ReadsInterims limits (read ++ more) xs (left ++ more)) → (more : List ℕ) → ReadsInterims limits ((read ++ piece) ++ more) xs ((left ++ piece) ++ more)
+later read left piece limits xs h more =
     subst₂ (λ x y. ReadsInterims limits x xs y) (sym (append_assoc read piece more)) (sym (append_assoc left piece more)) (h (piece ++ more))
 
 more_at : (r : Reading) (limits : Limits) (read : List ℕ) (c : Client) (left : List ℕ) (status : Option ℕ) (body piece : List ℕ) → PartwayAt r limits read c left status body → PartwayAt r limits (read ++ piece) c (left ++ piece) status body
 more_at Reads.Head limits read c left status body piece h = record {
   asked = h.asked;
   interims = h.interims;
-  before = behind read left piece limits h.interims h.before;
+  before = later read left piece limits h.interims h.before;
   only = λ more m rest a.
       subst (λ x. Answers limits x m rest) (sym (append_assoc left piece more)) (h.only (piece ++ more) m rest (subst (λ x. Answers limits x m rest) (append_assoc read piece more) a));
   bare = h.bare;
@@ -65,7 +65,7 @@ more_at (Reads.Body d) limits read c left status body piece h = record {
   ends = h.ends;
   keeps = h.keeps;
   completes = λ more later rest few comes.
-      subst (λ x. Answers limits x (record { head = h.head; body = with_front body later }) rest) (sym (append_assoc read piece more))
+      subst (λ x. Answers limits x (record { head = h.head; body = with_prefix body later }) rest) (sym (append_assoc read piece more))
       (h.completes (piece ++ more) later rest few (subst (λ x. Completes d x later rest) (append_assoc left piece more) comes));
   only = λ more m rest a.
       let o = h.only (piece ++ more) m rest (subst (λ x. Answers limits x m rest) (append_assoc read piece more) a) in
@@ -85,17 +85,17 @@ at_least : (status : ℕ) → 200 ≤ status → is_interim status ≡ false
 at_least status high = grind (arith, nat_tests)
 
 module _ (limits : Limits) (read input : List ℕ) (old new : Client) (spans : List HeaderSpan) (len : ℕ) (r : ResponseSpans) (t : TakesHead old input spans new len r) (asked : HasAsked limits old) where
-  abbrev behind_head : List ℕ → List ℕ
-  behind_head more = drop len input ++ more
+  abbrev later_head : List ℕ → List ℕ
+  later_head more = drop len input ++ more
 
-  -- the head with a body behind it
-  with_body : (more : List ℕ) (body : Body) (after : List ℕ) → ReadsBody limits t.framing (behind_head more) body after → ReadsResponseMessage limits Method.Other (input ++ more) (record { head = t.head; body = body }) after
+  -- the head with a body after it
+  with_body : (more : List ℕ) (body : Body) (after : List ℕ) → ReadsBody limits t.framing (later_head more) body after → ReadsResponseMessage limits Method.Other (input ++ more) (record { head = t.head; body = body }) after
   with_body more body after reads =
       let first : ReadsResponseMessage old.limits old.method (input ++ more) (record { head = t.head; body = body }) after = record {
         framing = t.framing;
-        after_head = behind_head more;
+        after_head = later_head more;
         head = record { reads = ReadsResponse-append input t.head _ more t.accepts.reads; strict = t.accepts.strict; status = t.accepts.status; framed = t.accepts.framed };
-        body = subst (λ l. ReadsBody l t.framing (behind_head more) body after) (sym asked.limited) reads;
+        body = subst (λ l. ReadsBody l t.framing (later_head more) body after) (sym asked.limited) reads;
       } in
       subst₂ (λ l m. ReadsResponseMessage l m (input ++ more) (record { head = t.head; body = body }) after) asked.limited asked.method first
 
@@ -107,10 +107,10 @@ module _ (limits : Limits) (read input : List ℕ) (old new : Client) (spans : L
       let same = ap length t.covered.fields in
       omega (arith, simp (length-map, length-take) at same, room)
 
-  -- a response at the front has this head, this framing and this body behind it
-  same_front : (more : List ℕ) (m : Response) (rest : List ℕ) → ReadsResponseMessage limits Method.Other (input ++ more) m rest → (m.head ≡ t.head) × ReadsBody limits t.framing (behind_head more) m.body rest
-  same_front more m rest x =
-      let both = response_unique (input ++ more) m.head t.head x.after_head (behind_head more) x.head.reads (ReadsResponse-append input t.head _ more t.accepts.reads) in
+  -- a response at the start has this head, this framing and this body after it
+  same_prefix : (more : List ℕ) (m : Response) (rest : List ℕ) → ReadsResponseMessage limits Method.Other (input ++ more) m rest → (m.head ≡ t.head) × ReadsBody limits t.framing (later_head more) m.body rest
+  same_prefix more m rest x =
+      let both = response_unique (input ++ more) m.head t.head x.after_head (later_head more) x.head.reads (ReadsResponse-append input t.head _ more t.accepts.reads) in
       let one : Result Framing FramingError = Ok x.framing in
       let two : Result Framing FramingError = Ok t.framing in
       let same : one ≡ two = sym x.head.framed ∙ ap (λ (h : ResponseHead). response_framing Method.Other (status_code h) h.minor (known_of h.fields)) both.0 ∙ framed in
@@ -156,15 +156,15 @@ interim_goes_on c h framing method interim =
     let tests = both _ _ interim in
     choose _ _ _ _ _ (neither _ _ _ tests.1 (ap is_connect method)) tests.0
 
--- what answers behind an interim head
+-- what answers after an interim head
 skips : (limits : Limits) (read input : List ℕ) (old new : Client) (spans : List HeaderSpan) (len : ℕ) (r : ResponseSpans) (t : TakesHead old input spans new len r) (asked : HasAsked limits old) → is_interim (status_code t.head) ≡ true → NoBody ≡ t.framing → (more : List ℕ) (m : Response) (rest : List ℕ) (xs : List Response) (after : List ℕ) → ReadsInterims limits (input ++ more) xs after → ReadsOne limits after m rest → 200 ≤ status_code m.head → Answers limits (drop len input ++ more) m rest
 skips limits read input old new spans len r t asked low none more m rest [] after before reads final =
-    let front = same_front limits read input old new spans len r t asked more m rest (subst (λ x. ReadsResponseMessage limits Method.Other x m rest) (sym before) reads.0) in
-    let high : is_interim (status_code t.head) ≡ false = subst (λ (h : ResponseHead). is_interim (status_code h) ≡ false) front.0 (at_least (status_code m.head) final) in
+    let prefix = same_prefix limits read input old new spans len r t asked more m rest (subst (λ x. ReadsResponseMessage limits Method.Other x m rest) (sym before) reads.0) in
+    let high : is_interim (status_code t.head) ≡ false = subst (λ (h : ResponseHead). is_interim (status_code h) ≡ false) prefix.0 (at_least (status_code m.head) final) in
     cc
 skips limits read input old new spans len r t asked low none more m rest (x ∷ xs) after before reads final =
-    let front = same_front limits read input old new spans len r t asked more x before.0 before.2.0 in
-    let sized : ReadsBody limits NoBody (drop len input ++ more) x.body before.0 = subst (λ f. ReadsBody limits f (drop len input ++ more) x.body before.0) (sym none) front.1 in
+    let prefix = same_prefix limits read input old new spans len r t asked more x before.0 before.2.0 in
+    let sized : ReadsBody limits NoBody (drop len input ++ more) x.body before.0 = subst (λ f. ReadsBody limits f (drop len input ++ more) x.body before.0) (sym none) prefix.1 in
     let empty : drop len input ++ more ≡ before.0 = sized.1 ∙ ap (λ (b : List ℕ). b ++ before.0) (nil_from_length x.body.bytes sized.0) in
     record { interims = xs; after = after; before = subst (λ s. ReadsInterims limits s xs after) (sym empty) before.3; reads = reads; final = final }
 
@@ -213,13 +213,13 @@ middle true true c e = refl
 middle true false c e = cc
 middle false b c e = cc
 
--- what answers has the final head in front
+-- what answers has the final head first
 takes : (limits : Limits) (read input : List ℕ) (old new : Client) (spans : List HeaderSpan) (len : ℕ) (r : ResponseSpans) (t : TakesHead old input spans new len r) (asked : HasAsked limits old) → is_interim (status_code t.head) ≡ false → (more : List ℕ) (m : Response) (rest : List ℕ) (xs : List Response) (after : List ℕ) → ReadsInterims limits (input ++ more) xs after → ReadsOne limits after m rest → ReadsBody limits t.framing (drop len input ++ more) m.body rest
 takes limits read input old new spans len r t asked high more m rest [] after before reads =
-    (same_front limits read input old new spans len r t asked more m rest (subst (λ x. ReadsResponseMessage limits Method.Other x m rest) (sym before) reads.0)).1
+    (same_prefix limits read input old new spans len r t asked more m rest (subst (λ x. ReadsResponseMessage limits Method.Other x m rest) (sym before) reads.0)).1
 takes limits read input old new spans len r t asked high more m rest (x ∷ xs) after before reads =
-    let front = same_front limits read input old new spans len r t asked more x before.0 before.2.0 in
-    let low : is_interim (status_code t.head) ≡ true = subst (λ (h : ResponseHead). is_interim (status_code h) ≡ true) front.0 before.1 in
+    let prefix = same_prefix limits read input old new spans len r t asked more x before.0 before.2.0 in
+    let low : is_interim (status_code t.head) ≡ true = subst (λ (h : ResponseHead). is_interim (status_code h) ≡ true) prefix.0 before.1 in
     cc
 
 high_enough : (c : Client) (status : ℕ) → c.wants_upgrade ≡ false → IsTrue (is_expected c status) → is_interim status ≡ false → 200 ≤ status
@@ -246,14 +246,14 @@ final_at Reads.Head limits read input old new spans len head status body room se
         interims = h.interims;
         after = input ++ more;
         before = h.before more;
-        reads = subst (λ (b : List ℕ). ReadsOne limits (input ++ more) (record { head = t.head; body = with_front b later }) rest) (sym h.bare)
+        reads = subst (λ (b : List ℕ). ReadsOne limits (input ++ more) (record { head = t.head; body = with_prefix b later }) rest) (sym h.bare)
             (with_body limits read input old new spans len head t h.asked more later rest (body_from_completes limits t.framing _ later rest comes), (few, trailers));
         final = high_enough old (status_code t.head) h.asked.plain t.expected final;
       };
       only = λ more m rest a.
           let a2 = h.only more m rest a in
           let body_is = takes limits read input old new spans len head t h.asked final more m rest a2.interims a2.after a2.before a2.reads in
-          (m.body, ap (λ (b : List ℕ). with_front b m.body) (sym h.bare), completes_from_body limits t.framing _ m.body rest body_is);
+          (m.body, ap (λ (b : List ℕ). with_prefix b m.body) (sym h.bare), completes_from_body limits t.framing _ m.body rest body_is);
     } in
     subst (λ x. PartwayAt x limits read new (drop len input) (Some head.code) body) (sym starts) inside
 final_at (Reads.Body d) limits read input old new spans len head status body room served found h = absurd found.1
@@ -309,11 +309,11 @@ data_at (Reads.Body d) limits read input old new spans len s status body found h
       keeps = λ kept. h.keeps (sym (ap (λ (c : Client). c.keep_alive) moved) ∙ kept);
       completes = λ more later rest few comes.
           subst (λ (b : List ℕ). Answers limits (read ++ more) (record { head = h.head; body = record later { bytes = b } }) rest) (sym (append_assoc body piece later.bytes))
-          (h.completes more (with_front piece later) rest few (goes.back more later rest (subst (λ n. Completes next (drop n input ++ more) later rest) found.1.2 comes)));
+          (h.completes more (with_prefix piece later) rest few (goes.back more later rest (subst (λ n. Completes next (drop n input ++ more) later rest) found.1.2 comes)));
       only = λ more m rest a.
           let o = h.only more m rest a in
           let f = goes.forth more o.0 rest o.2 in
-          (f.0, o.1 ∙ ap (with_front body) f.1 ∙ ap (λ (b : List ℕ). record (f.0) { bytes = b }) (sym (append_assoc body piece f.0.bytes)), subst (λ n. Completes next (drop n input ++ more) f.0 rest) (sym found.1.2) f.2);
+          (f.0, o.1 ∙ ap (with_prefix body) f.1 ∙ ap (λ (b : List ℕ). record (f.0) { bytes = b }) (sym (append_assoc body piece f.0.bytes)), subst (λ n. Completes next (drop n input ++ more) f.0 rest) (sym found.1.2) f.2);
     } in
     subst (λ x. PartwayAt x limits read new (drop len input) status (body ++ piece)) (sym same) inside
 data_at Reads.Done limits read input old new spans len s status body found h = absurd h
@@ -340,7 +340,7 @@ wants_at (Reads.Body d) limits read input old new spans len status body is found
       only = λ more m rest a.
           let o = h.only more m rest a in
           let f = goes.forth more o.0 rest o.2 in
-          (f.0, o.1 ∙ ap (with_front body) f.1, f.2);
+          (f.0, o.1 ∙ ap (with_prefix body) f.1, f.2);
     } in
     subst (λ x. PartwayAt x limits read new (drop len input) status body) (sym same) inside
 wants_at Reads.Done limits read input old new spans len status body is found h = absurd h
@@ -408,13 +408,13 @@ nothing_whole limits read input old new spans p status body is found h =
 -- the body, and so the response, ends
 ends_with : (limits : Limits) (read : List ℕ) (d : Decoder) (c now : Client) (left : List ℕ) (status : Option ℕ) (body : List ℕ) (h : InBody limits read d c left status body) (later : Body) (rest : List ℕ) (unbounded : Bool) → later.bytes ≡ [] → length later.trailers ≤ most_fields → Completes d (left ++ []) later rest → is_unbounded d ≡ unbounded → (unbounded ≡ false → IsIdle now → c.keep_alive ≡ true) → IsWhole limits read now rest status body unbounded
 ends_with limits read d c now left status body h later rest unbounded none few comes bound kept = record {
-  response = record { head = h.head; body = with_front body later };
+  response = record { head = h.head; body = with_prefix body later };
   is = h.is;
   served = h.served;
   ends = sym h.ends ∙ bound;
   keeps = λ sized idle. h.keeps (kept sized idle);
   bytes = ap (λ (b : List ℕ). body ++ b) none ∙ append-nil body;
-  answers = subst (λ x. Answers limits x (record { head = h.head; body = with_front body later }) rest) (append-nil read) (h.completes [] later rest few comes);
+  answers = subst (λ x. Answers limits x (record { head = h.head; body = with_prefix body later }) rest) (append-nil read) (h.completes [] later rest few comes);
 }
 
 -- a client that is idle after a response has kept the connection

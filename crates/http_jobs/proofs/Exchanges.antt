@@ -87,9 +87,9 @@ in_time_both : (deadline : Option ℕ) (times more : List (Option ℕ)) → InTi
 in_time_both deadline [] more before after = after
 in_time_both deadline (t ∷ times) more before after = (before.0, in_time_both deadline times more before.1 after)
 
-pub in_time_behind : {A : Type 0} (deadline : Option ℕ) (times more : List (Option ℕ)) (r : Result A NotDone) → InTime deadline times → OnOk r (InTime deadline more) → OnOk r (InTime deadline (times ++ more))
-in_time_behind deadline times more (Ok x) before after = in_time_both deadline times more before after
-in_time_behind deadline times more (Err e) before after = tt
+pub in_time_after : {A : Type 0} (deadline : Option ℕ) (times more : List (Option ℕ)) (r : Result A NotDone) → InTime deadline times → OnOk r (InTime deadline more) → OnOk r (InTime deadline (times ++ more))
+in_time_after deadline times more (Ok x) before after = in_time_both deadline times more before after
+in_time_after deadline times more (Err e) before after = tt
 
 -- ---- why it was not done
 
@@ -119,17 +119,17 @@ late_after : (deadline : Option ℕ) (times more : List (Option ℕ)) → InTime
 late_after deadline times more before h = (times ++ h.0, h.1, ap (λ x. times ++ x) h.2 ∙ sym (append_assoc times h.0 (h.1 ∷ [])), in_time_both deadline times h.0 before h.3, h.4)
 
 -- times that were shown before the write that was not made
-pub not_sent_behind : (deadline : Option ℕ) (times more : List (Option ℕ)) (old mid new : Output) (r : Result (Unit {0}) NotDone) → InTime deadline times → mid.failures ≡ old.failures → IfErr r (NotSent deadline more mid new) → IfErr r (NotSent deadline (times ++ more) old new)
-not_sent_behind deadline times more old mid new (Ok x) before same h = tt
-not_sent_behind deadline times more old mid new (Err (Not why.Unreachable)) before same h = absurd h
-not_sent_behind deadline times more old mid new (Err (Not why.Write)) before same h = h ∙ ap (λ (n : ℕ). n + 1) same
-not_sent_behind deadline times more old mid new (Err (Not why.Read)) before same h = absurd h
-not_sent_behind deadline times more old mid new (Err (Not why.Ended)) before same h = absurd h
-not_sent_behind deadline times more old mid new (Err (Not why.Late)) before same h = late_after deadline times more before h
-not_sent_behind deadline times more old mid new (Err (Not (why.NoResponse e))) before same h = absurd h
-not_sent_behind deadline times more old mid new (Err (Not (why.Status status))) before same h = absurd h
-not_sent_behind deadline times more old mid new (Err (Not why.Endless)) before same h = absurd h
-not_sent_behind deadline times more old mid new (Err Memory) before same h = absurd h
+pub not_sent_after : (deadline : Option ℕ) (times more : List (Option ℕ)) (old mid new : Output) (r : Result (Unit {0}) NotDone) → InTime deadline times → mid.failures ≡ old.failures → IfErr r (NotSent deadline more mid new) → IfErr r (NotSent deadline (times ++ more) old new)
+not_sent_after deadline times more old mid new (Ok x) before same h = tt
+not_sent_after deadline times more old mid new (Err (Not why.Unreachable)) before same h = absurd h
+not_sent_after deadline times more old mid new (Err (Not why.Write)) before same h = h ∙ ap (λ (n : ℕ). n + 1) same
+not_sent_after deadline times more old mid new (Err (Not why.Read)) before same h = absurd h
+not_sent_after deadline times more old mid new (Err (Not why.Ended)) before same h = absurd h
+not_sent_after deadline times more old mid new (Err (Not why.Late)) before same h = late_after deadline times more before h
+not_sent_after deadline times more old mid new (Err (Not (why.NoResponse e))) before same h = absurd h
+not_sent_after deadline times more old mid new (Err (Not (why.Status status))) before same h = absurd h
+not_sent_after deadline times more old mid new (Err (Not why.Endless)) before same h = absurd h
+not_sent_after deadline times more old mid new (Err Memory) before same h = absurd h
 
 pub not_received : (deadline : Option ℕ) (times : List (Option ℕ)) (seen : Seen) (old mid new : Link) (e : NotDone) → InTime deadline times → mid.input ≡ old.input → NotReceived head_limits deadline seen mid.input new.input e → Explains deadline (before_it times seen) old new e
 not_received deadline times seen old mid new (Not why.Unreachable) before same h = absurd h

@@ -23,7 +23,7 @@ abbrev pub Sees : Input → Option (List (Option ℕ)) → Seen → Input → Op
 Sees old shown seen new shown_now =
     (new.given ≡ and_then old.given seen.read) × (new.lulls ≡ counted old.lulls seen.lulls) × (shown_now ≡ shown_then shown seen.times)
 
--- What was read holds this response, whole. The connection is kept only if the head allows it and nothing came behind the response.
+-- What was read holds this response, whole. The connection is kept only if the head allows it and nothing came after the response.
 pub record IsAnswerIn (limits : Limits) (read : List ℕ) (answer : Answer) : Type 0 where
   pub response : Response
   pub rest : List ℕ
@@ -40,7 +40,7 @@ IsReceived limits max read (received.Whole answer) = IsAnswerIn limits read answ
 IsReceived limits max read received.TooLarge = OnlyLarger limits max read
 
 -- What was read answers the job, which reports this. Either it is what the response reports: then the connection is kept only if the head
--- allows it and nothing came behind the response. Or the body was too large, and the job failed.
+-- allows it and nothing came after the response. Or the body was too large, and the job failed.
 abbrev pub IsAnswered : Limits → ℕ → List ℕ → Told → Bool → Type 0
 IsAnswered limits max read told is_kept =
     ((head : ResponseHead) × (rest : List ℕ) × Reports limits read told head rest

@@ -6,7 +6,7 @@ use Rattle.http1.specs.Fields.{Header, is_framing_field, is_named}
 use Rattle.http1.specs.Head.{is_header, is_target, pairs, request_text}
 use Rattle.http_jobs.specs.declared.posts.Post.{Post}
 
--- the request, head and body: the headers, and behind them the length of the body
+-- the request, head and body: the headers, and after them the length of the body
 abbrev pub post_text : List ℕ → List Header → List ℕ → List ℕ
 post_text target headers body = request_text (codes "POST") target 1 (headers ++ length_header (length body) ∷ []) ++ body
 

@@ -57,15 +57,15 @@ kept_failures input output (Some link) = (input link).failures + (output link).f
 -- ---- a value of jobs
 
 -- What it shows: the connection that it has kept, and whether that is quiet; the calls of what dials; the times of its clock.
-pub record Standing : Type 0 where
+pub record Visible : Type 0 where
   pub kept : Option Link
   pub quiet : Option Bool
   pub calls : Option (List DialCall)
   pub shown : Option (List (Option ℕ))
 
-abbrev pub stands : {L : Type 0} → (L → Input) → (L → Output) → (L → Option Bool)
-    → Option L → Option (List DialCall) → Option (List (Option ℕ)) → Standing
-stands input output quiet kept calls shown = record {
+abbrev pub visible : {L : Type 0} → (L → Input) → (L → Output) → (L → Option Bool)
+    → Option L → Option (List DialCall) → Option (List (Option ℕ)) → Visible
+visible input output quiet kept calls shown = record {
   kept = option_map (seen_link input output) kept;
   quiet = option_and_then quiet kept;
   calls = calls;
@@ -73,7 +73,7 @@ stands input output quiet kept calls shown = record {
 }
 
 -- A connection was kept, and nothing was done. Or one was dialled for: a new one is kept, or none.
-abbrev pub IsOpened : Standing → Standing → Bool → Type 0
+abbrev pub IsOpened : Visible → Visible → Bool → Type 0
 IsOpened old new true =
     ((new ≡ old) × (old.kept ≢ None)) ⊎ ((link : Link) × IsNew link × (old.kept ≡ None) × (new.kept ≡ Some link)
     × (new.calls ≡ then_called old.calls (opened ∷ [])) × (new.shown ≡ old.shown))
@@ -86,16 +86,16 @@ closings None = []
 closings (Some link) = closed link ∷ []
 
 -- the kept connection is used again, and has not shown that it ended or holds a byte
-abbrev pub Keeps : Standing → Link → Type 0
+abbrev pub Keeps : Visible → Link → Type 0
 Keeps old before = (old.kept ≡ Some before) × (old.quiet ≢ Some false)
 
 -- the kept connection, or none, and then it was closed as it was
-abbrev pub Reuses : Standing → List DialCall → Option Link → Type 0
+abbrev pub Reuses : Visible → List DialCall → Option Link → Type 0
 Reuses old calls (Some before) = Keeps old before × (calls ≡ [])
 Reuses old calls None = calls ≡ closings old.kept
 
 -- A job has the kept connection, or a new one after the kept one was closed as it was.
-abbrev pub Opens : Standing → List DialCall → Link → Type 0
+abbrev pub Opens : Visible → List DialCall → Link → Type 0
 Opens old calls before = (Keeps old before × (calls ≡ [])) ⊎ (IsNew before × (calls ≡ closings old.kept ++ opened ∷ []))
 
 -- after a job its connection is kept, or closed
@@ -108,7 +108,7 @@ abbrev pub deadline_from : ℕ → Option ℕ → Option ℕ
 deadline_from timeout start = option_map (λ time. min (time + timeout) (2 ^ 64 - 1)) start
 
 -- One job over one connection: how that came, what went out and came back over it, how it was left, and what the clock showed meanwhile.
-pub record Uses (old new : Standing) (sent : List ℕ) (is_kept : Bool) (seen : Seen) (start : Option ℕ) (before after : Link) : Type 0 where
+pub record Uses (old new : Visible) (sent : List ℕ) (is_kept : Bool) (seen : Seen) (start : Option ℕ) (before after : Link) : Type 0 where
   pub first : List DialCall
   pub last : List DialCall
   pub opens : Opens old first before
@@ -119,7 +119,7 @@ pub record Uses (old new : Standing) (sent : List ℕ) (is_kept : Bool) (seen : 
   pub shown : new.shown ≡ shown_then old.shown (start ∷ seen.times)
 
 -- The job was served: its request went out, once, and what came back after it reports this.
-pub record Served (s : Service) (timeout : ℕ) (old new : Standing) (j : AssignedJob) (told : Told) : Type 0 where
+pub record Served (s : Service) (timeout : ℕ) (old new : Visible) (j : AssignedJob) (told : Told) : Type 0 where
   pub is_kept : Bool
   pub seen : Seen
   pub start : Option ℕ
@@ -130,12 +130,12 @@ pub record Served (s : Service) (timeout : ℕ) (old new : Standing) (j : Assign
   pub answered : IsAnswered head_limits (most_body j) seen.read told is_kept
 
 -- what a job reports, or that there is none of its function: then nothing was done
-abbrev pub Tells : Service → ℕ → Standing → Standing → AssignedJob → Option Told → Type 0
+abbrev pub Tells : Service → ℕ → Visible → Visible → AssignedJob → Option Told → Type 0
 Tells s timeout old new j None = IsTrue (has_no_path j.function) × (new ≡ old)
 Tells s timeout old new j (Some told) = (has_no_path j.function ≡ false) × Served s timeout old new j told
 
 -- The job was begun over a connection: a prefix of its request went out, once, and this is why no answer came.
-pub record Failed (s : Service) (timeout : ℕ) (old new : Standing) (j : AssignedJob) (e : NotDone) : Type 0 where
+pub record Failed (s : Service) (timeout : ℕ) (old new : Visible) (j : AssignedJob) (e : NotDone) : Type 0 where
   pub count : ℕ
   pub seen : Seen
   pub start : Option ℕ
@@ -145,7 +145,7 @@ pub record Failed (s : Service) (timeout : ℕ) (old new : Standing) (j : Assign
   pub explained : Explains (deadline_from timeout start) seen before after e
 
 -- why a job was not done
-abbrev pub NotServed : Service → ℕ → Standing → Standing → AssignedJob → NotDone → Type 0
+abbrev pub NotServed : Service → ℕ → Visible → Visible → AssignedJob → NotDone → Type 0
 NotServed s timeout old new j (Not why.Unreachable) =
     (new.kept ≡ None) × (new.calls ≡ then_called old.calls (closings old.kept ++ failed ∷ []))
 NotServed s timeout old new j other = Failed s timeout old new j other
@@ -158,10 +158,10 @@ as_of_session (Not why) = heard.Unserved
 as_of_session Memory = heard.Memory
 
 -- A job was done, and this is what it reports; the service and the timeout stay.
-abbrev pub IsDoneBy : Service → ℕ → Standing → Standing → Service → ℕ → AssignedJob → Option Told → Type 0
+abbrev pub IsDoneBy : Service → ℕ → Visible → Visible → Service → ℕ → AssignedJob → Option Told → Type 0
 IsDoneBy s timeout old new service time j told = Tells s timeout old new j told × (service ≡ s) × (time ≡ timeout)
 
 -- It was not done, for a reason of which a session hears so; the service and the timeout stay.
-abbrev pub IsNotDoneBy : Service → ℕ → Standing → Standing → Service → ℕ → AssignedJob → session.NotDone → Type 0
+abbrev pub IsNotDoneBy : Service → ℕ → Visible → Visible → Service → ℕ → AssignedJob → session.NotDone → Type 0
 IsNotDoneBy s timeout old new service time j error =
     (e : NotDone) × NotServed s timeout old new j e × (error ≡ as_of_session e) × (service ≡ s) × (time ≡ timeout)

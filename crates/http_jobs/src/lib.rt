@@ -1,4 +1,4 @@
-//! Jobs that a service behind HTTP does: one request and one response for each, over a connection that is kept.
+//! Jobs that a service does over HTTP: one request and one response for each, over a connection that is kept.
 #![tactic(auto)]
 
 mod answers;

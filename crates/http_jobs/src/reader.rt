@@ -210,7 +210,7 @@ impl ResponseReader {
         }
     }
 
-    /// Puts a piece behind what was read.
+    /// Puts a piece after what was read.
     fn keep(&mut self, piece: &[u8]) -> Result<(), AllocError>
         requires within { self.old.at ≤ length self.old.unread.items }
         ensures within { self.new.at ≤ length self.new.unread.items }

@@ -6,7 +6,7 @@ ghost use Rattle.job_runner.specs.Told.{told_of};
 ghost use Rattle.std.specs.Option.{option_map};
 ghost use Rattle.job_runner.specs.Run.{seen_link};
 ghost use Rattle.http_jobs.specs.Serving.{DialCall, IsNew, IsOpened, Leaves, NotServed, Opens, Reuses, Tells, closed, closings};
-ghost use Rattle.http_jobs.specs.Serving.{deadline_from, dialled, failed, kept_failures, stands, then_called};
+ghost use Rattle.http_jobs.specs.Serving.{deadline_from, dialled, failed, kept_failures, visible, then_called};
 ghost use Rattle.http_jobs.specs.Clock.{shown_then};
 
 use crate::clock::Clock;
@@ -97,8 +97,8 @@ impl<L: Source + Sink + Look + Drop, D: Dial<L>, C: Clock> ServiceJobs<L, D, C> 
 
     /// Opens a connection, if none is kept. Whether one is kept then.
     pub fn open(&mut self) -> bool
-        ensures opens { IsOpened (stands L.input L.output L.quiet self.old.kept (D.calls self.old.dial) (C.shown self.old.clock))
-            (stands L.input L.output L.quiet self.new.kept (D.calls self.new.dial) (C.shown self.new.clock)) result }
+        ensures opens { IsOpened (visible L.input L.output L.quiet self.old.kept (D.calls self.old.dial) (C.shown self.old.clock))
+            (visible L.input L.output L.quiet self.new.kept (D.calls self.new.dial) (C.shown self.new.clock)) result }
         ensures service { self.new.service ≡ self.old.service }
         ensures timeout { self.new.timeout_ms ≡ self.old.timeout_ms }
     {
@@ -130,7 +130,7 @@ impl<L: Source + Sink + Look + Drop, D: Dial<L>, C: Clock> ServiceJobs<L, D, C> 
         ensures service { self.new.service ≡ self.old.service }
         ensures timeout { self.new.timeout_ms ≡ self.old.timeout_ms }
         ensures reuses { (calls : List DialCall) × (D.calls self.new.dial ≡ then_called (D.calls self.old.dial) calls)
-            × Reuses (stands L.input L.output L.quiet self.old.kept (D.calls self.old.dial) (C.shown self.old.clock)) calls
+            × Reuses (visible L.input L.output L.quiet self.old.kept (D.calls self.old.dial) (C.shown self.old.clock)) calls
             (option_map (seen_link L.input L.output) result) }
     {
         let mut link = self.kept.take()?;
@@ -149,7 +149,7 @@ impl<L: Source + Sink + Look + Drop, D: Dial<L>, C: Clock> ServiceJobs<L, D, C> 
         ensures service { self.new.service ≡ self.old.service }
         ensures timeout { self.new.timeout_ms ≡ self.old.timeout_ms }
         ensures opens { IfOk result (λ link. (calls : List DialCall) × (D.calls self.new.dial ≡ then_called (D.calls self.old.dial) calls)
-            × Opens (stands L.input L.output L.quiet self.old.kept (D.calls self.old.dial) (C.shown self.old.clock)) calls
+            × Opens (visible L.input L.output L.quiet self.old.kept (D.calls self.old.dial) (C.shown self.old.clock)) calls
             (seen_link L.input L.output link)) }
         ensures fails { IfErr result (λ e. (e ≡ NotDone.Unserved Unserved.Unreachable) × (D.calls self.new.dial
             ≡ then_called (D.calls self.old.dial) (closings (option_map (seen_link L.input L.output) self.old.kept) ++ failed ∷ []))) }
@@ -201,12 +201,12 @@ impl<L: Source + Sink + Look + Drop, D: Dial<L>, C: Clock> ServiceJobs<L, D, C> 
     /// nobody asked for. Unserved says that no answer came, and why.
     pub fn serve(&mut self, alloc: Global, job: &Assignment) -> Result<Option<Outcome>, NotDone>
         ensures served { IfOk result (λ outcome. Tells self.old.service self.old.timeout_ms
-            (stands L.input L.output L.quiet self.old.kept (D.calls self.old.dial) (C.shown self.old.clock))
-            (stands L.input L.output L.quiet self.new.kept (D.calls self.new.dial) (C.shown self.new.clock))
+            (visible L.input L.output L.quiet self.old.kept (D.calls self.old.dial) (C.shown self.old.clock))
+            (visible L.input L.output L.quiet self.new.kept (D.calls self.new.dial) (C.shown self.new.clock))
             (job_of job.now) (option_map told_of outcome)) }
         ensures failed { IfErr result (NotServed self.old.service self.old.timeout_ms
-            (stands L.input L.output L.quiet self.old.kept (D.calls self.old.dial) (C.shown self.old.clock))
-            (stands L.input L.output L.quiet self.new.kept (D.calls self.new.dial) (C.shown self.new.clock))
+            (visible L.input L.output L.quiet self.old.kept (D.calls self.old.dial) (C.shown self.old.clock))
+            (visible L.input L.output L.quiet self.new.kept (D.calls self.new.dial) (C.shown self.new.clock))
             (job_of job.now)) }
         ensures service { self.new.service ≡ self.old.service }
         ensures timeout { self.new.timeout_ms ≡ self.old.timeout_ms }
@@ -238,16 +238,16 @@ impl<L: Source + Sink + Look + Drop, D: Dial<L>, C: Clock> ServiceJobs<L, D, C> 
 
 /// A session's jobs are done by the service. A job that is not served ends the session as `Unserved`, whatever the reason.
 impl<L: Source + Sink + Look + Drop, D: Dial<L>, C: Clock> Jobs for ServiceJobs<L, D, C> {
-    ghost use Rattle.http_jobs.specs.Serving.{IsDoneBy, IsNotDoneBy, stands};
+    ghost use Rattle.http_jobs.specs.Serving.{IsDoneBy, IsNotDoneBy, visible};
 
     ghost tells = { λ before after job told. IsDoneBy before.service before.timeout_ms
-        (stands L.input L.output L.quiet before.kept (D.calls before.dial) (C.shown before.clock))
-        (stands L.input L.output L.quiet after.kept (D.calls after.dial) (C.shown after.clock))
+        (visible L.input L.output L.quiet before.kept (D.calls before.dial) (C.shown before.clock))
+        (visible L.input L.output L.quiet after.kept (D.calls after.dial) (C.shown after.clock))
         after.service after.timeout_ms job told };
 
     ghost fails = { λ before after job error. IsNotDoneBy before.service before.timeout_ms
-        (stands L.input L.output L.quiet before.kept (D.calls before.dial) (C.shown before.clock))
-        (stands L.input L.output L.quiet after.kept (D.calls after.dial) (C.shown after.clock))
+        (visible L.input L.output L.quiet before.kept (D.calls before.dial) (C.shown before.clock))
+        (visible L.input L.output L.quiet after.kept (D.calls after.dial) (C.shown after.clock))
         after.service after.timeout_ms job error };
 
     fn run(

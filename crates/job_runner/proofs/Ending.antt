@@ -107,10 +107,10 @@ one_asked names (q ∷ before) after p h asked = one_asked (register names q) be
 pub one_where_asked : SaysItsPackets → (duty : Duty) (bytes : List ℕ) (told : List Telling) (taken : List AssignedJob) (t : Tally) (b : Ledger) (reason : EndCause) (e : Ends duty bytes told taken t b reason) (before after : List Packet) (p : Packet) → e.cut.sent ++ e.cut.next ≡ before ++ p ∷ after
     → asks p ≡ true → length (registered (text_of (before ++ p ∷ []))) ≡ 1
 one_where_asked law duty bytes told taken t b reason e before after p same asked =
-    let front = before ++ p ∷ [] in
-    let split : before ++ p ∷ after ≡ front ++ after = sym (append_assoc before (p ∷ []) after) in
-    let each = fronts_sent front after (subst (AllByRecursion IsSent) (same ∙ split) e.cut.each_sent) in
-    subst (λ (x : List Packet). length (registered_by [] x) ≡ 1) (sym (law front each)) (one_asked [] before after p (subst (OneAtATime []) same e.cut.one) asked)
+    let prefix = before ++ p ∷ [] in
+    let split : before ++ p ∷ after ≡ prefix ++ after = sym (append_assoc before (p ∷ []) after) in
+    let each = fronts_sent prefix after (subst (AllByRecursion IsSent) (same ∙ split) e.cut.each_sent) in
+    subst (λ (x : List Packet). length (registered_by [] x) ≡ 1) (sym (law prefix each)) (one_asked [] before after p (subst (OneAtATime []) same e.cut.one) asked)
 
 -- what a session promises, as one fact over what was written
 abbrev pub Promised : Duty → (EndCause → List Telling → Type 0) → List ℕ → Option (List ℕ) → Link → Link → Ledger → SessionEnd → Type 0

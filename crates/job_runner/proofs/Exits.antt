@@ -12,7 +12,7 @@ use Rattle.job_runner.specs.Told.{Telling, jobs_of, reply}
 use Rattle.job_runner.specs.Book.{Ledger}
 use Rattle.job_runner.specs.Course.{Duty, Wrote, Even, Chain, Ends}
 use Rattle.byte_io.specs.Sides.{and_then}
-use Rattle.job_runner.proofs.Told.{goes_behind}
+use Rattle.job_runner.proofs.Told.{goes_after}
 use Rattle.job_runner.proofs.Steps.{wrote_answer, ends_whole, ends_cut, left_over}
 use Rattle.job_runner.proofs.Counts.{Moved, Counted, chain, even_again}
 
@@ -37,11 +37,11 @@ pub leaves_cut : (duty : Duty) (before : Option (List ℕ)) (bytes : List ℕ) (
     → old ≡ and_then before bytes → Wrote duty bytes registered done → Even t b (length done) → Counted t new 1 0 0 → Moved b book 1 1 0
     → AllByRecursion IsSent (reply a) → text ≡ text_of (reply a) → count < length text → out ≡ and_then old (take count text)
     → Left duty before out (done ++ a ∷ []) (jobs_of (done ++ a ∷ [])) new book WriteFault
-leaves_cut duty before bytes old out text count registered done a t new b book at w even c m each spelled short written =
+leaves_cut duty before bytes old out text count registered done a t new b book at w even c m each encoded short written =
     let counts = chain t new b book (length done) 0 1 1 0 even c m (omega arith) (omega arith) (omega arith) in
-    let parts : text_of (reply a) ≡ take count text ++ drop count text = sym spelled ∙ sym (take-append-drop count text) in (
+    let parts : text_of (reply a) ≡ take count text ++ drop count text = sym encoded ∙ sym (take-append-drop count text) in (
       bytes ++ take count text,
-      goes_behind before bytes (take count text) old out at written,
+      goes_after before bytes (take count text) old out at written,
       ends_cut duty bytes registered done a (take count text) (drop count text) new book w each parts (left_over count text short) (within t new b done (a ∷ []) 0 0 even c (omega arith)) (subst (λ (n : ℕ). Chain new book n 1) (add-zero (length done)) counts),
     )
 
@@ -50,12 +50,12 @@ pub leaves_written : (duty : Duty) (before : Option (List ℕ)) (bytes : List �
     → old ≡ and_then before bytes → Wrote duty bytes registered done → Even t b (length done) → Counted t new 1 1 reported → Moved b book 1 1 reported → reported ≤ 1
     → AllByRecursion IsSent (reply a) → text ≡ text_of (reply a) → out ≡ and_then old text → cause ≢ WriteFault
     → Left duty before out (done ++ a ∷ []) (jobs_of (done ++ a ∷ [])) new book cause
-leaves_written duty before bytes old out text registered done a t new b book cause reported at w even c m h each spelled written no-fault =
+leaves_written duty before bytes old out text registered done a t new b book cause reported at w even c m h each encoded written no-fault =
     let counts = chain t new b book (length done) 1 0 1 reported even c m h (omega arith) (omega arith) in
     let wrote = wrote_answer duty bytes registered done a w each in
     let all : (done ++ a ∷ []) ++ [] ≡ done ++ a ∷ [] = append-nil (done ++ a ∷ []) in (
       bytes ++ text_of (reply a),
-      goes_behind before bytes text old out at written ∙ ap (λ (x : List ℕ). and_then before (bytes ++ x)) spelled,
+      goes_after before bytes text old out at written ∙ ap (λ (x : List ℕ). and_then before (bytes ++ x)) encoded,
       subst (λ (x : List Telling). Ends duty (bytes ++ text_of (reply a)) x (jobs_of (done ++ a ∷ [])) new book cause) all
           (ends_whole duty (bytes ++ text_of (reply a)) registered (done ++ a ∷ []) [] [] (jobs_of (done ++ a ∷ [])) new book cause wrote (λ e. refl)
           (ap jobs_of (sym all) ∙ sym (append-nil (jobs_of ((done ++ a ∷ []) ++ []))))
@@ -68,8 +68,8 @@ pub goes_on : (duty : Duty) (before : Option (List ℕ)) (bytes : List ℕ) (old
     → old ≡ and_then before bytes → Wrote duty bytes registered done → Even t b (length done) → Counted t new 1 1 1 → Moved b book 1 1 1
     → AllByRecursion IsSent (reply a) → text ≡ text_of (reply a) → out ≡ and_then old text
     → (more : List ℕ) × (out ≡ and_then before more) × (Wrote duty more registered (done ++ a ∷ []) × Even new book (length (done ++ a ∷ [])))
-goes_on duty before bytes old out text registered done a t new b book at w even c m each spelled written = (
+goes_on duty before bytes old out text registered done a t new b book at w even c m each encoded written = (
   bytes ++ text_of (reply a),
-  goes_behind before bytes text old out at written ∙ ap (λ (x : List ℕ). and_then before (bytes ++ x)) spelled,
+  goes_after before bytes text old out at written ∙ ap (λ (x : List ℕ). and_then before (bytes ++ x)) encoded,
   (wrote_answer duty bytes registered done a w each, subst (λ (n : ℕ). Even new book n) (sym (length_push done a)) (even_again t new b book (length done) even c m)),
 )

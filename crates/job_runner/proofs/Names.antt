@@ -1,4 +1,4 @@
--- Names of the settings are spelled as they are.
+-- Names of the settings are encoded as they are.
 use Rattle.std.proofs.Common.{◌≡◌, ℕ, zero, suc, ◌+◌, ◌<◌, ◌≤◌, ◌^◌, Bool, true, false, ◌&&◌, ◌||◌, List, [], ◌∷◌, ◌++◌, length, Option, Some, None, refl, arith}
 use Rattle.std.specs.Prelude.{◌==◌, nat_le, ◌%◌, IfSome, All, slice_get}
 use Rattle.std.specs.List.{list_all, AllByRecursion}

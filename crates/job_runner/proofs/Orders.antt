@@ -19,7 +19,7 @@ use Rattle.job_runner.specs.Book.{Ledger, after_order}
 use Rattle.byte_io.specs.Sides.{and_then}
 use Rattle.job_runner.specs.Course.{Duty, OneAtATime, Wrote, Even, Chain, Ends, Sends, obeying, name_of, known, IsServing}
 use Rattle.job_runner.specs.Following.{phase_with}
-use Rattle.job_runner.proofs.Told.{goes_behind}
+use Rattle.job_runner.proofs.Told.{goes_after}
 use Rattle.job_runner.proofs.Steps.{ends_whole, Leads, wrote_on, cut_on, left_over}
 use Rattle.job_runner.proofs.Exits.{Left}
 
@@ -106,7 +106,7 @@ pub sent_whole : (duty : Duty) (before : Option (List ℕ)) (bytes : List ℕ) (
 sent_whole duty before bytes old new from to packets done sends at w leads =
     let more = bytes ++ text_of packets in (
       more,
-      goes_behind before bytes (text_of packets) old new at sends.0,
+      goes_after before bytes (text_of packets) old new at sends.0,
       subst (λ (d : List Telling). Wrote duty more to d) (append-nil done) (wrote_on duty bytes from to packets done [] w sends.1 leads),
     )
 
@@ -117,7 +117,7 @@ sent_part duty before bytes old new from to packets done t b WriteFault sends at
     let part = take sends.0 (text_of packets) in
     let all : done ++ [] ≡ done = append-nil done in (
       bytes ++ part,
-      goes_behind before bytes part old new at sends.2,
+      goes_after before bytes part old new at sends.2,
       subst (λ (x : List Telling). Ends duty (bytes ++ part) x (jobs_of done) t b WriteFault) all
           (cut_on duty bytes from to packets done [] (jobs_of done) part (drop sends.0 (text_of packets)) t b w sends.3 leads (sym (take-append-drop sends.0 (text_of packets))) (left_over sends.0 (text_of packets) sends.1)
           (ap jobs_of (sym all)) (subst (λ (x : List Telling). length x ≤ t.grabbed) (sym all) (omega (arith, even.grabbed))) (even_chain t b (length done) even)),

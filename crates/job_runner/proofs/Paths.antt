@@ -24,7 +24,7 @@ use Rattle.job_runner.specs.Following.{Scene, Obeys, stops, goes, phase_with}
 use Rattle.job_runner.specs.Acting.{Moment, moment, scene_of, Begins, Asked, skip, sleep, follow, serve, end, asked_by, FollowsOrder, Replies, Does, looked_at, Looks, sees_stop, stays, is_due, Glances}
 use Rattle.job_runner.specs.Path.{Event, starts, ordered, looked, heard, unnamed, following, hearing, Place, place, place_of, meant_in, Step, named, obeyed, unchanged, changed, skipped, slept, woken, served}
 use Rattle.job_runner.specs.Path.{start, then, IsAnswerEnd, IsSendEnd, IsWaitEnd, Last, stopped, stopped_waiting, refused, unsent, unbooked, waiting, message_at, order_at, messages_in, orders_in, Went, Ended}
-use Rattle.job_runner.proofs.Told.{goes_behind}
+use Rattle.job_runner.proofs.Told.{goes_after}
 use Rattle.job_runner.proofs.Steps.{text_append}
 
 abbrev pub Came : Type 0
@@ -47,7 +47,7 @@ went_on duty before old new given more b after from to event packets w step wrot
   events = w.events ++ event ∷ [];
   sent = w.sent ++ packets;
   path = then w.events w.sent from event packets to w.path step;
-  written_is = goes_behind before (text_of w.sent) (text_of packets) old new w.written_is wrote ∙ ap (and_then before) (sym (text_append w.sent packets));
+  written_is = goes_after before (text_of w.sent) (text_of packets) old new w.written_is wrote ∙ ap (and_then before) (sym (text_append w.sent packets));
   messages_are = filter_map-append message_at w.events (event ∷ []) ∙ ap (λ (x : List Message). x ++ messages_in (event ∷ [])) w.messages_are ∙ sym m;
   orders_are = filter_map-append order_at w.events (event ∷ []) ∙ ap (λ (x : List OrderParts). x ++ orders_in (event ∷ [])) w.orders_are ∙ sym o;
 }
@@ -66,8 +66,8 @@ nothing_cut old new packets reason e = record { part = []; lost = text_of packet
 all_cut : (old new : Option (List ℕ)) (packets : List Packet) (reason : EndCause) → new ≡ and_then old (text_of packets) → Cuts old new packets reason
 all_cut old new packets reason e = record { part = text_of packets; lost = []; parts = sym (append-nil (text_of packets)); cut = λ o. inr refl; written = e }
 
-front_cut : (old new : Option (List ℕ)) (packets : List Packet) (count : ℕ) → new ≡ and_then old (take count (text_of packets)) → Cuts old new packets WriteFault
-front_cut old new packets count e = record {
+prefix_cut : (old new : Option (List ℕ)) (packets : List Packet) (count : ℕ) → new ≡ and_then old (take count (text_of packets)) → Cuts old new packets WriteFault
+prefix_cut old new packets count e = record {
   part = take count (text_of packets);
   lost = drop count (text_of packets);
   parts = sym (take-append-drop count (text_of packets));
@@ -76,7 +76,7 @@ front_cut old new packets count e = record {
 }
 
 sends_cut : (old new : Option (List ℕ)) (packets : List Packet) (reason : EndCause) → Sends old new packets (Err reason) → Cuts old new packets reason × IsSendEnd reason
-sends_cut old new packets WriteFault h = (front_cut old new packets h.0 h.2, tt)
+sends_cut old new packets WriteFault h = (prefix_cut old new packets h.0 h.2, tt)
 sends_cut old new packets Memory h = (nothing_cut old new packets Memory h, tt)
 sends_cut old new packets cause.Retired h = absurd h
 sends_cut old new packets cause.Gone h = absurd h
@@ -94,7 +94,7 @@ gone_cut old new packets (inl e) = nothing_cut old new packets cause.Gone e
 gone_cut old new packets (inr e) = all_cut old new packets cause.Gone e
 
 replies_cut : (old new : Option (List ℕ)) (packets : List Packet) (reason : EndCause) → Replies old new packets (Err reason) → Cuts old new packets reason × IsAnswerEnd reason
-replies_cut old new packets WriteFault h = (front_cut old new packets h.0 h.2, tt)
+replies_cut old new packets WriteFault h = (prefix_cut old new packets h.0 h.2, tt)
 replies_cut old new packets Memory h = (nothing_cut old new packets Memory h, tt)
 replies_cut old new packets cause.Retired h = (all_cut old new packets cause.Retired h, tt)
 replies_cut old new packets cause.Gone h = (gone_cut old new packets h, tt)
@@ -122,7 +122,7 @@ ended_at session old new given later b after from event packets reason w last c 
   lost = c.lost;
   parts = c.parts;
   cut = c.cut;
-  written_is = goes_behind session.before (text_of w.sent) c.part old new w.written_is c.written;
+  written_is = goes_after session.before (text_of w.sent) c.part old new w.written_is c.written;
   later = later;
   messages_are = m ∙ ap (λ (x : List Message). (x ++ messages_in (event ∷ [])) ++ later) (sym w.messages_are) ∙ ap (λ (x : List Message). x ++ later) (sym (filter_map-append message_at w.events (event ∷ [])));
   orders_are = filter_map-append order_at w.events (event ∷ []) ∙ ap (λ (x : List OrderParts). x ++ orders_in (event ∷ [])) w.orders_are ∙ sym o;

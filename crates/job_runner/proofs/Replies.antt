@@ -6,7 +6,7 @@ use Rattle.std.proofs.lemmas.List.{map-append, append-nil, append_assoc, take-ap
 use Rattle.std.specs.List.{list_all, AllByRecursion}
 use Rattle.std.proofs.lemmas.Bool.{le-leb}
 use Rattle.gear_packets.specs.Frame.{body_limit}
-use Rattle.gear_packets.specs.Request.{Packet, body_of, names_nul, spelling, IsSent}
+use Rattle.gear_packets.specs.Request.{Packet, body_of, names_nul, encoding, IsSent}
 use Rattle.gear_packets.specs.Text.{text_of}
 use Rattle.gear_packets.specs.PacketRefusals.{refusal_told, request_refusal}
 use Rattle.gear_packets.specs.declared.encoding.EncodeError.{EncodeError}
@@ -47,27 +47,27 @@ one_more : (handle : List ℕ) (notes : List Note) (i : ℕ) (n : Note) → i < 
     → note_packets handle (take (i + 1) notes) ≡ note_packets handle (take i notes) ++ remark_packet handle (remark_of n) ∷ []
 one_more handle notes i n within is =
     let next : i + 1 ≡ suc i = omega arith in
-    let front : take (i + 1) notes ≡ take i notes ++ n ∷ [] = ap (λ (k : ℕ). take k notes) next ∙ take-suc notes i n within ∙ ap (λ (x : Note). take i notes ++ x ∷ []) (sym is) in
-    ap (note_packets handle) front ∙ ap (map (remark_packet handle)) (map-append remark_of (take i notes) (n ∷ [])) ∙ map-append (remark_packet handle) (map remark_of (take i notes)) (remark_of n ∷ [])
+    let prefix : take (i + 1) notes ≡ take i notes ++ n ∷ [] = ap (λ (k : ℕ). take k notes) next ∙ take-suc notes i n within ∙ ap (λ (x : Note). take i notes ++ x ∷ []) (sym is) in
+    ap (note_packets handle) prefix ∙ ap (map (remark_packet handle)) (map-append remark_of (take i notes) (n ∷ [])) ∙ map-append (remark_packet handle) (map remark_of (take i notes)) (remark_of n ∷ [])
 
--- a note was spelled behind those before it
-pub note_spelled : (handle : List ℕ) (notes : List Note) (i : ℕ) (n : Note) (old new : List ℕ) (p : Packet) → i < length notes → n ≡ get_or notes i n → p ≡ remark_packet handle (remark_of n)
-    → old ≡ text_of (note_packets handle (take i notes)) → AllByRecursion IsSent (note_packets handle (take i notes)) → new ≡ old ++ spelling p → IsSent p
+-- a note was encoded after those before it
+pub note_encoded : (handle : List ℕ) (notes : List Note) (i : ℕ) (n : Note) (old new : List ℕ) (p : Packet) → i < length notes → n ≡ get_or notes i n → p ≡ remark_packet handle (remark_of n)
+    → old ≡ text_of (note_packets handle (take i notes)) → AllByRecursion IsSent (note_packets handle (take i notes)) → new ≡ old ++ encoding p → IsSent p
     → (new ≡ text_of (note_packets handle (take (i + 1) notes))) × AllByRecursion IsSent (note_packets handle (take (i + 1) notes))
-note_spelled handle notes i n old new p within is same text each more sent =
+note_encoded handle notes i n old new p within is same text each more sent =
     let ps = note_packets handle (take i notes) in
     let all : note_packets handle (take (i + 1) notes) ≡ ps ++ p ∷ [] = one_more handle notes i n within is ∙ ap (λ (x : Packet). ps ++ x ∷ []) (sym same) in (
-      more ∙ ap (λ (t : List ℕ). t ++ spelling p) text ∙ ap (λ (t : List ℕ). text_of ps ++ t) (sym (append-nil (spelling p))) ∙ sym (text_append ps (p ∷ [])) ∙ ap text_of (sym all),
+      more ∙ ap (λ (t : List ℕ). t ++ encoding p) text ∙ ap (λ (t : List ℕ). text_of ps ++ t) (sym (append-nil (encoding p))) ∙ sym (text_append ps (p ∷ [])) ∙ ap text_of (sym all),
       subst (AllByRecursion IsSent) (sym all) (all_append IsSent ps (p ∷ []) each (sent, tt)),
     )
 
--- the end was spelled behind all notes
-pub end_spelled : (handle : List ℕ) (told : Told) (old new : List ℕ) (p : Packet) → p ≡ finish_packet handle told.finish → old ≡ text_of (map (remark_packet handle) told.remarks) → AllByRecursion IsSent (map (remark_packet handle) told.remarks)
-    → new ≡ old ++ spelling p → IsSent p → (new ≡ text_of (told_packets handle told)) × AllByRecursion IsSent (told_packets handle told)
-end_spelled handle told old new p same text each more sent =
+-- the end was encoded after all notes
+pub end_encoded : (handle : List ℕ) (told : Told) (old new : List ℕ) (p : Packet) → p ≡ finish_packet handle told.finish → old ≡ text_of (map (remark_packet handle) told.remarks) → AllByRecursion IsSent (map (remark_packet handle) told.remarks)
+    → new ≡ old ++ encoding p → IsSent p → (new ≡ text_of (told_packets handle told)) × AllByRecursion IsSent (told_packets handle told)
+end_encoded handle told old new p same text each more sent =
     let ps = map (remark_packet handle) told.remarks in
     let all : told_packets handle told ≡ ps ++ p ∷ [] = ap (λ (x : Packet). ps ++ x ∷ []) (sym same) in (
-      more ∙ ap (λ (t : List ℕ). t ++ spelling p) text ∙ ap (λ (t : List ℕ). text_of ps ++ t) (sym (append-nil (spelling p))) ∙ sym (text_append ps (p ∷ [])) ∙ ap text_of (sym all),
+      more ∙ ap (λ (t : List ℕ). t ++ encoding p) text ∙ ap (λ (t : List ℕ). text_of ps ++ t) (sym (append-nil (encoding p))) ∙ sym (text_append ps (p ∷ [])) ∙ ap text_of (sym all),
       subst (AllByRecursion IsSent) (sym all) (all_append IsSent ps (p ∷ []) each (sent, tt)),
     )
 
@@ -113,12 +113,12 @@ note_too_large handle told notes i n p e within is same all refused other =
     let small : can_send p ≡ false = refused_for_size p e refused other (ap names_nul same ∙ remark_nameless handle (remark_of n)) in
     let ps = note_packets handle (take i notes) in
     let rest = note_packets handle (drop (i + 1) notes) in
-    let front : note_packets handle (take (i + 1) notes) ≡ ps ++ p ∷ [] = one_more handle notes i n within is ∙ ap (λ (x : Packet). ps ++ x ∷ []) (sym same) in
+    let prefix : note_packets handle (take (i + 1) notes) ≡ ps ++ p ∷ [] = one_more handle notes i n within is ∙ ap (λ (x : Packet). ps ++ x ∷ []) (sym same) in
     let split : note_packets handle notes ≡ note_packets handle (take (i + 1) notes) ++ rest =
     ap (note_packets handle) (sym (take-append-drop (i + 1) notes)) ∙ ap (map (remark_packet handle)) (map-append remark_of (take (i + 1) notes) (drop (i + 1) notes)) ∙ map-append (remark_packet handle) (map remark_of (take (i + 1) notes)) (map remark_of (drop (i + 1) notes)) in
     let parts : told_packets handle told ≡ ps ++ p ∷ (rest ++ finish_packet handle told.finish ∷ []) =
     ap (λ (rs : List Remark). map (remark_packet handle) rs ++ finish_packet handle told.finish ∷ []) all
-    ∙ ap (λ (x : List Packet). x ++ finish_packet handle told.finish ∷ []) (split ∙ ap (λ (x : List Packet). x ++ rest) front ∙ append_assoc ps (p ∷ []) rest)
+    ∙ ap (λ (x : List Packet). x ++ finish_packet handle told.finish ∷ []) (split ∙ ap (λ (x : List Packet). x ++ rest) prefix ∙ append_assoc ps (p ∷ []) rest)
     ∙ append_assoc ps (p ∷ rest) (finish_packet handle told.finish ∷ []) in
     ap (list_all can_send) parts ∙ breaks_all ps (rest ++ finish_packet handle told.finish ∷ []) p small
 

@@ -2,7 +2,7 @@
 use Rattle.std.proofs.Common.{◌≡◌, ◌≢◌, ℕ, ◌<◌, ◌≤◌, Bool, true, false, cond, List, [], ◌∷◌, ◌++◌, length, drop, map, Option, Some, None, refl, sym, ap, subst, ◌∙◌, arith}
 use Rattle.std.specs.List.{filter, list_all, AllByRecursion}
 use Rattle.std.proofs.lemmas.List.{append-nil, append_assoc, length-drop}
-use Rattle.gear_packets.specs.Request.{Packet, can_do, cant_do, pre_sleep, grab_job, set_client_id, work_status, work_complete, work_fail, work_data, work_warning, IsSent, spelling}
+use Rattle.gear_packets.specs.Request.{Packet, can_do, cant_do, pre_sleep, grab_job, set_client_id, work_status, work_complete, work_fail, work_data, work_warning, IsSent, encoding}
 use Rattle.gear_packets.specs.Response.{AssignedJob}
 use Rattle.gear_packets.specs.Text.{text_of, is_work, register, registered_by}
 use Rattle.job_runner.specs.declared.end.EndCause.{EndCause}
@@ -20,7 +20,7 @@ all_append P (x ∷ xs) ys a b = (a.0, all_append P xs ys a.1 b)
 
 pub text_append : (ps qs : List Packet) → text_of (ps ++ qs) ≡ text_of ps ++ text_of qs
 text_append [] qs = refl
-text_append (p ∷ ps) qs = ap (λ (t : List ℕ). spelling p ++ t) (text_append ps qs) ∙ sym (append_assoc (spelling p) (text_of ps) (text_of qs))
+text_append (p ∷ ps) qs = ap (λ (t : List ℕ). encoding p ++ t) (text_append ps qs) ∙ sym (append_assoc (encoding p) (text_of ps) (text_of qs))
 
 pub works_append : (ps qs : List Packet) → filter is_work (ps ++ qs) ≡ filter is_work ps ++ filter is_work qs
 works_append [] qs = refl
@@ -228,6 +228,6 @@ pub ends_cut : (duty : Duty) (bytes : List ℕ) (registered : List (List ℕ)) (
 ends_cut duty bytes registered done t part lost tally book w each text proper booked chain =
     cut_on duty bytes registered registered (reply t) done (t ∷ []) (jobs_of (done ++ t ∷ [])) part lost tally book w each (reply_leads registered t w.few) text proper refl booked chain
 
--- what is left behind a front
+-- what is left after a prefix
 pub left_over : (count : ℕ) (text : List ℕ) → count < length text → 0 < length (drop count text)
 left_over count text h = rw (length-drop count text) (omega (arith, h))

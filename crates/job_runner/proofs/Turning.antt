@@ -4,7 +4,7 @@ use Rattle.std.specs.Prelude.{IfErr}
 use Rattle.std.proofs.lemmas.List.{append_assoc, length-append, length-map}
 use Rattle.std.proofs.lemmas.List.Elements.{filter_map-append}
 use Rattle.gear_packets.specs.Response.{AssignedJob, Message, Next, gives, faulty, waits, first_response}
-use Rattle.gear_packets.specs.Text.{unread, broken, Reading, reading, reading_within, behind, assignment_of, assignments_in, assignments}
+use Rattle.gear_packets.specs.Text.{unread, broken, Reading, reading, reading_within, read_after, assignment_of, assignments_in, assignments}
 use Rattle.gear_packets.specs.Reading.{fault_of, nothing_read}
 use Rattle.gear_packets.specs.declared.fault.StreamFault.{StreamFault}
 use Rattle.job_runner.specs.declared.end.EndCause.{EndCause}
@@ -20,7 +20,7 @@ use Rattle.job_runner.specs.Book.{Ledger}
 use Rattle.job_runner.specs.Course.{Duty, Session, session_of, Ends, GoesOnOrEnds, PortReason, known, IsServing}
 use Rattle.job_runner.specs.Listening.{SaysFirst, IsReadEnd}
 use Rattle.job_runner.specs.Run.{AreAnswered, Acts, EndTold, Link, NoFault, Reason, ReadReason}
-use Rattle.job_runner.specs.Loop.{EndsForNoJob, StepReason, Stands, Halts}
+use Rattle.job_runner.specs.Loop.{EndsForNoJob, StepReason, HasServed, Halts}
 use Rattle.byte_io.specs.Sides.{and_then}
 use Rattle.job_runner.specs.Path.{IsWaitEnd, Went, Ended, place_of}
 use Rattle.job_runner.proofs.Orders.{ends_at_rest}
@@ -29,7 +29,7 @@ use Rattle.job_runner.proofs.Reasons.{read_reason, outer_reason, port_served}
 
 -- ---- lists
 
-pub no_messages : (x : Reading) → behind [] x ≡ x
+pub no_messages : (x : Reading) → read_after [] x ≡ x
 no_messages x = refl
 
 few_within : (n : ℕ) (bytes : List ℕ) → ((rest : List ℕ) → length (reading_within n rest).messages ≤ n) → (o : Next) → first_response bytes ≡ o → length (reading_within (suc n) bytes).messages ≤ suc n
@@ -67,7 +67,7 @@ assignments_append xs ys = filter_map-append assignment_of xs ys
 
 -- ---- ends
 
--- more assignments_in may come behind those that were taken
+-- more assignments_in may come after those that were taken
 pub ends_later : (duty : Duty) (bytes : List ℕ) (told : List Telling) (taken rest all : List AssignedJob) (t : Tally) (b : Ledger) (reason : EndCause) → Ends duty bytes told taken t b reason → all ≡ taken ++ rest → Ends duty bytes told all t b reason
 ends_later duty bytes told taken rest all t b reason e more = record {
   answered = e.answered;
@@ -102,14 +102,14 @@ halts_at_rest duty Ran before bytes read written told given s b reason ran at jo
 
 -- ---- messages
 
-pub heard_next : (read : List ℕ) (given : List Message) (m : Message) (old new : Reading) → reading read ≡ behind given old → old ≡ behind (m ∷ []) new → reading read ≡ behind (given ++ m ∷ []) new
-heard_next read given m old new h e = h ∙ ap (behind given) e ∙ sym (ap (λ (x : List Message). let r : Reading = record { messages = x; ending = new.ending } in r) (append_assoc given (m ∷ []) new.messages))
+pub heard_next : (read : List ℕ) (given : List Message) (m : Message) (old new : Reading) → reading read ≡ read_after given old → old ≡ read_after (m ∷ []) new → reading read ≡ read_after (given ++ m ∷ []) new
+heard_next read given m old new h e = h ∙ ap (read_after given) e ∙ sym (ap (λ (x : List Message). let r : Reading = record { messages = x; ending = new.ending } in r) (append_assoc given (m ∷ []) new.messages))
 
 -- a message was served
-pub stands_next : (duty : Duty) (Ran Runs : List Telling → Type 0) (before : Option (List ℕ)) (read : List ℕ) (old new : Option (List ℕ)) (m : Message) (r r' : Reading) (s s' : State) (b b' : Ledger) (st : Stands (session_of duty before read) Ran old r s b) → r ≡ behind (m ∷ []) r'
+pub serving_next : (duty : Duty) (Ran Runs : List Telling → Type 0) (before : Option (List ℕ)) (read : List ℕ) (old new : Option (List ℕ)) (m : Message) (r r' : Reading) (s s' : State) (b b' : Ledger) (st : HasServed (session_of duty before read) Ran old r s b) → r ≡ read_after (m ∷ []) r'
     → (more : List ℕ) (since : List Telling) → Runs (st.told ++ since) → new ≡ and_then before more
-    → AreAnswered duty more (st.told ++ since) s' b' × (jobs_of (st.told ++ since) ≡ jobs_of st.told ++ assignments_in (m ∷ [])) → Went duty before new (st.given ++ m ∷ []) b' (place_of s') → Stands (session_of duty before read) Runs new r' s' b'
-stands_next duty Ran Runs before read old new m r r' s s' b b' st e more since ran at h went = record {
+    → AreAnswered duty more (st.told ++ since) s' b' × (jobs_of (st.told ++ since) ≡ jobs_of st.told ++ assignments_in (m ∷ [])) → Went duty before new (st.given ++ m ∷ []) b' (place_of s') → HasServed (session_of duty before read) Runs new r' s' b'
+serving_next duty Ran Runs before read old new m r r' s s' b b' st e more since ran at h went = record {
   bytes = more;
   told = st.told ++ since;
   given = st.given ++ m ∷ [];
@@ -123,14 +123,14 @@ stands_next duty Ran Runs before read old new m r r' s s' b b' st e more since r
   went = went;
 }
 
-pub says_behind : (read : List ℕ) (given : List Message) (m : Message) (r r' : Reading) → reading read ≡ behind given r → r ≡ behind (m ∷ []) r' → (reading read).messages ≡ (given ++ m ∷ []) ++ r'.messages
-says_behind read given m r r' h e = ap (λ (x : Reading). x.messages) (heard_next read given m r r' h e)
+pub says_after : (read : List ℕ) (given : List Message) (m : Message) (r r' : Reading) → reading read ≡ read_after given r → r ≡ read_after (m ∷ []) r' → (reading read).messages ≡ (given ++ m ∷ []) ++ r'.messages
+says_after read given m r r' h e = ap (λ (x : Reading). x.messages) (heard_next read given m r r' h e)
 
-all_behind : (read : List ℕ) (given : List Message) (m : Message) (r r' : Reading) → reading read ≡ behind given r → r ≡ behind (m ∷ []) r' → assignments read ≡ (assignments_in given ++ assignments_in (m ∷ [])) ++ assignments_in r'.messages
-all_behind read given m r r' h e = says_more read (given ++ m ∷ []) r'.messages (says_behind read given m r r' h e) ∙ ap (λ (x : List AssignedJob). x ++ assignments_in r'.messages) (assignments_append given (m ∷ []))
+all_after : (read : List ℕ) (given : List Message) (m : Message) (r r' : Reading) → reading read ≡ read_after given r → r ≡ read_after (m ∷ []) r' → assignments read ≡ (assignments_in given ++ assignments_in (m ∷ [])) ++ assignments_in r'.messages
+all_after read given m r r' h e = says_more read (given ++ m ∷ []) r'.messages (says_after read given m r r' h e) ∙ ap (λ (x : List AssignedJob). x ++ assignments_in r'.messages) (assignments_append given (m ∷ []))
 
 -- a session ended at a message
-pub halts_next : (duty : Duty) (Ran : List Telling → Type 0) (End : EndCause → List Telling → Type 0) (before : Option (List ℕ)) (read : List ℕ) (old new : Option (List ℕ)) (m : Message) (r r' : Reading) (s : State) (t' : Tally) (b b' : Ledger) (e : EndCause) (st : Stands (session_of duty before read) Ran old r s b) → r ≡ behind (m ∷ []) r'
+pub halts_next : (duty : Duty) (Ran : List Telling → Type 0) (End : EndCause → List Telling → Type 0) (before : Option (List ℕ)) (read : List ℕ) (old new : Option (List ℕ)) (m : Message) (r r' : Reading) (s : State) (t' : Tally) (b b' : Ledger) (e : EndCause) (st : HasServed (session_of duty before read) Ran old r s b) → r ≡ read_after (m ∷ []) r'
     → (more : List ℕ) (since : List Telling) → End e (st.told ++ since) → new ≡ and_then before more → Ends duty more (st.told ++ since) (jobs_of st.told ++ assignments_in (m ∷ [])) t' b' e → Ended (session_of duty before read) new b' e → Halts (session_of duty before read) End new t' b' e
 halts_next duty Ran End before read old new m r r' s t' b b' e st same more since ran at ends ended = record {
   bytes = more;
@@ -138,14 +138,14 @@ halts_next duty Ran End before read old new m r r' s t' b b' e st same more sinc
   ran = ran;
   at = at;
   ends = ends_later duty more (st.told ++ since) (jobs_of st.told ++ assignments_in (m ∷ [])) (assignments_in r'.messages) (assignments read) t' b' e ends
-      (all_behind read st.given m r r' st.rests.heard same ∙ ap (λ (x : List AssignedJob). (x ++ assignments_in (m ∷ [])) ++ assignments_in r'.messages) (sym st.rests.jobs_are));
+      (all_after read st.given m r r' st.rests.heard same ∙ ap (λ (x : List AssignedJob). (x ++ assignments_in (m ∷ [])) ++ assignments_in r'.messages) (sym st.rests.jobs_are));
   ended = ended;
 }
 
 told_count : (told : List Telling) (given : List Message) → jobs_of told ≡ assignments_in given → length told ≡ length (assignments_in given)
 told_count told given e = sym (length-map told (λ (x : Telling). x.job)) ∙ ap length e
 
-pub reason_next : (duty : Duty) (Ran : List Telling → Type 0) (before : Option (List ℕ)) (read : List ℕ) (old : Option (List ℕ)) (m : Message) (r r' : Reading) (s : State) (t' : Tally) (b b' : Ledger) (e : EndCause) (st : Stands (session_of duty before read) Ran old r s b) → r ≡ behind (m ∷ []) r'
+pub reason_next : (duty : Duty) (Ran : List Telling → Type 0) (before : Option (List ℕ)) (read : List ℕ) (old : Option (List ℕ)) (m : Message) (r r' : Reading) (s : State) (t' : Tally) (b b' : Ledger) (e : EndCause) (st : HasServed (session_of duty before read) Ran old r s b) → r ≡ read_after (m ∷ []) r'
     → StepReason duty.generation m s.tally t' b' e → ReadReason (session_of duty before read) t' b' e
 reason_next duty Ran before read old m r r' s t' b b' WriteFault st same h = tt
 reason_next duty Ran before read old m r r' s t' b b' Memory st same h = tt
@@ -153,12 +153,12 @@ reason_next duty Ran before read old m r r' s t' b b' cause.Retired st same h = 
 reason_next duty Ran before read old m r r' s t' b b' cause.Gone st same h = h
 reason_next duty Ran before read old m r r' s t' b b' cause.BadPacket st same h =
     let count : length (assignments read) ≡ (length (assignments_in st.given) + length (assignments_in (m ∷ []))) + length (assignments_in r'.messages) =
-    ap length (all_behind read st.given m r r' st.rests.heard same) ∙ length-append (assignments_in st.given ++ assignments_in (m ∷ [])) (assignments_in r'.messages) ∙ ap (λ (n : ℕ). n + length (assignments_in r'.messages)) (length-append (assignments_in st.given) (assignments_in (m ∷ []))) in
+    ap length (all_after read st.given m r r' st.rests.heard same) ∙ length-append (assignments_in st.given ++ assignments_in (m ∷ [])) (assignments_in r'.messages) ∙ ap (λ (n : ℕ). n + length (assignments_in r'.messages)) (length-append (assignments_in st.given) (assignments_in (m ∷ []))) in
     let grabbed : t'.grabbed ≡ length (assignments_in st.given) = h.0 ∙ st.rests.holds.even.grabbed ∙ told_count st.told st.given st.rests.jobs_are in
     let some = h.1 in
     inr (omega (arith, count, grabbed, some))
 reason_next duty Ran before read old m r r' s t' b b' cause.ServerError st same h =
-    (h.0, h.1, st.given, r'.messages, says_behind read st.given m r r' st.rests.heard same ∙ append_assoc st.given (m ∷ []) r'.messages ∙ ap (λ (x : Message). st.given ++ x ∷ r'.messages) h.2)
+    (h.0, h.1, st.given, r'.messages, says_after read st.given m r r' st.rests.heard same ∙ append_assoc st.given (m ∷ []) r'.messages ∙ ap (λ (x : Message). st.given ++ x ∷ r'.messages) h.2)
 reason_next duty Ran before read old m r r' s t' b b' cause.ReadFault st same h = absurd h
 reason_next duty Ran before read old m r r' s t' b b' cause.TurnsUsed st same h = absurd h
 reason_next duty Ran before read old m r r' s t' b b' cause.HistoryFull st same h = h
@@ -167,7 +167,7 @@ reason_next duty Ran before read old m r r' s t' b b' cause.Stopped st same h = 
 reason_next duty Ran before read old m r r' s t' b b' cause.Unserved st same h = tt
 
 -- a session that stands has counted no more than it read
-pub counted : (duty : Duty) (Ran : List Telling → Type 0) (before : Option (List ℕ)) (read : List ℕ) (old : Option (List ℕ)) (r : Reading) (s : State) (b : Ledger) (st : Stands (session_of duty before read) Ran old r s b) → length st.told ≤ length read
+pub counted : (duty : Duty) (Ran : List Telling → Type 0) (before : Option (List ℕ)) (read : List ℕ) (old : Option (List ℕ)) (r : Reading) (s : State) (b : Ledger) (st : HasServed (session_of duty before read) Ran old r s b) → length st.told ≤ length read
 counted duty Ran before read old r s b st =
     let said : (reading read).messages ≡ st.given ++ r.messages = ap (λ (x : Reading). x.messages) st.rests.heard in
     let lengths : length (reading read).messages ≡ length st.given + length r.messages = ap length said ∙ length-append st.given r.messages in
@@ -177,7 +177,7 @@ counted duty Ran before read old r s b st =
     omega (arith, lengths, few, fewer, count)
 
 -- the fault at which the stream ended
-pub broken_says : (read : List ℕ) (given : List Message) (r : Reading) (f : StreamFault) → reading read ≡ behind given r → Some f ≡ fault_of r.ending → fault_of (reading read).ending ≢ None
+pub broken_says : (read : List ℕ) (given : List Message) (r : Reading) (f : StreamFault) → reading read ≡ read_after given r → Some f ≡ fault_of r.ending → fault_of (reading read).ending ≢ None
 broken_says read given r f h e none =
     let same : fault_of (reading read).ending ≡ Some f = ap (λ (x : Reading). fault_of x.ending) h ∙ sym e in
     absurd (let clash = sym none ∙ same in cc)
@@ -186,35 +186,35 @@ pub as_waiting : (duty : Duty) (bytes : List ℕ) (done : List Telling) (s : Sta
 as_waiting duty bytes done s b e h = record { wrote = h.wrote; even = h.even; serving = subst (λ (p : Phase). IsServing (length duty.functions) p s.registered) e h.serving }
 
 -- a session that stands may count one job more
-pub tally_room : (duty : Duty) (Ran : List Telling → Type 0) (before : Option (List ℕ)) (read : List ℕ) (old : Option (List ℕ)) (r : Reading) (s : State) (b : Ledger) → Stands (session_of duty before read) Ran old r s b → length read < 2 ^ 60 → (s.tally.grabbed + 1 < 2 ^ 64) × (s.tally.answered + 1 < 2 ^ 64) × (s.tally.reported + 1 < 2 ^ 64)
+pub tally_room : (duty : Duty) (Ran : List Telling → Type 0) (before : Option (List ℕ)) (read : List ℕ) (old : Option (List ℕ)) (r : Reading) (s : State) (b : Ledger) → HasServed (session_of duty before read) Ran old r s b → length read < 2 ^ 60 → (s.tally.grabbed + 1 < 2 ^ 64) × (s.tally.answered + 1 < 2 ^ 64) × (s.tally.reported + 1 < 2 ^ 64)
 tally_room duty Ran before read old r s b st short =
     let few = counted duty Ran before read old r s b st in
     let even = st.rests.holds.even in
     (omega (arith, few, short, even.grabbed), omega (arith, few, short, even.answered), omega (arith, few, short, even.reported))
 
-pub port_room : (duty : Duty) (Ran : List Telling → Type 0) (before : Option (List ℕ)) (read : List ℕ) (old : Option (List ℕ)) (r : Reading) (s : State) (b : Ledger) → Stands (session_of duty before read) Ran old r s b → length read < 2 ^ 60 → (b.grabs + 1 < 2 ^ 64) × (b.begins + 1 < 2 ^ 64) × (b.reports + 1 < 2 ^ 64)
+pub port_room : (duty : Duty) (Ran : List Telling → Type 0) (before : Option (List ℕ)) (read : List ℕ) (old : Option (List ℕ)) (r : Reading) (s : State) (b : Ledger) → HasServed (session_of duty before read) Ran old r s b → length read < 2 ^ 60 → (b.grabs + 1 < 2 ^ 64) × (b.begins + 1 < 2 ^ 64) × (b.reports + 1 < 2 ^ 64)
 port_room duty Ran before read old r s b st short =
     let few = counted duty Ran before read old r s b st in
     let even = st.rests.holds.even in
     (omega (arith, few, short, even.grabs), omega (arith, few, short, even.begins), omega (arith, few, short, even.reports))
 
 -- a session that stands says first what it was given
-pub stands_says : (duty : Duty) (Ran : List Telling → Type 0) (before : Option (List ℕ)) (read : List ℕ) (old : Option (List ℕ)) (r : Reading) (s : State) (b : Ledger) (st : Stands (session_of duty before read) Ran old r s b) → SaysFirst read st.given
-stands_says duty Ran before read old r s b st = (r.messages, ap (λ (x : Reading). x.messages) st.rests.heard)
+pub serving_says : (duty : Duty) (Ran : List Telling → Type 0) (before : Option (List ℕ)) (read : List ℕ) (old : Option (List ℕ)) (r : Reading) (s : State) (b : Ledger) (st : HasServed (session_of duty before read) Ran old r s b) → SaysFirst read st.given
+serving_says duty Ran before read old r s b st = (r.messages, ap (λ (x : Reading). x.messages) st.rests.heard)
 
 -- and may halt
-pub stands_halts : (duty : Duty) (Ran : List Telling → Type 0) (End : EndCause → List Telling → Type 0) (before : Option (List ℕ)) (read : List ℕ) (old : Option (List ℕ)) (r : Reading) (s : State) (b : Ledger) (reason : EndCause) (st : Stands (session_of duty before read) Ran old r s b) → End reason st.told → IsWaitEnd reason → reason ≢ WriteFault → Halts (session_of duty before read) End old s.tally b reason
-stands_halts duty Ran End before read old r s b reason st ran is no-fault = halts_at_rest duty End before st.bytes read old st.told st.given s b reason ran st.at st.rests.jobs_are st.rests.holds st.went is (stands_says duty Ran before read old r s b st) no-fault
+pub serving_halts : (duty : Duty) (Ran : List Telling → Type 0) (End : EndCause → List Telling → Type 0) (before : Option (List ℕ)) (read : List ℕ) (old : Option (List ℕ)) (r : Reading) (s : State) (b : Ledger) (reason : EndCause) (st : HasServed (session_of duty before read) Ran old r s b) → End reason st.told → IsWaitEnd reason → reason ≢ WriteFault → Halts (session_of duty before read) End old s.tally b reason
+serving_halts duty Ran End before read old r s b reason st ran is no-fault = halts_at_rest duty End before st.bytes read old st.told st.given s b reason ran st.at st.rests.jobs_are st.rests.holds st.went is (serving_says duty Ran before read old r s b st) no-fault
 
 -- ---- reads
 
 -- a session stands by what its jobs told
-pub stands_as : (Ran Runs : List Telling → Type 0) (session : Session) (written : Option (List ℕ)) (r : Reading) (s : State) (b : Ledger) (st : Stands session Ran written r s b) → Runs st.told → Stands session Runs written r s b
-stands_as Ran Runs session written r s b st runs = record { bytes = st.bytes; told = st.told; given = st.given; ran = runs; at = st.at; rests = st.rests; went = st.went }
+pub serving_as : (Ran Runs : List Telling → Type 0) (session : Session) (written : Option (List ℕ)) (r : Reading) (s : State) (b : Ledger) (st : HasServed session Ran written r s b) → Runs st.told → HasServed session Runs written r s b
+serving_as Ran Runs session written r s b st runs = record { bytes = st.bytes; told = st.told; given = st.given; ran = runs; at = st.at; rests = st.rests; went = st.went }
 
 -- so it stands on if they told no more
-pub stands_on : (Runs : List Telling → Type 0) (told : List Telling) (session : Session) (written : Option (List ℕ)) (r : Reading) (s : State) (b : Ledger) → Runs told → Stands session (IsTold told) written r s b → Stands session Runs written r s b
-stands_on Runs told session written r s b runs st = stands_as (IsTold told) Runs session written r s b st (subst Runs (sym st.ran) runs)
+pub serving_on : (Runs : List Telling → Type 0) (told : List Telling) (session : Session) (written : Option (List ℕ)) (r : Reading) (s : State) (b : Ledger) → Runs told → HasServed session (IsTold told) written r s b → HasServed session Runs written r s b
+serving_on Runs told session written r s b runs st = serving_as (IsTold told) Runs session written r s b st (subst Runs (sym st.ran) runs)
 
 -- and ends so
 pub ends_for_none : {J : Type 0} (tells : J → J → AssignedJob → Option Told → Type 0) (fails : J → J → AssignedJob → NotDone → Type 0) (first last : J) (told : List Telling) (session : Session) (written : Option (List ℕ)) (t : Tally) (b : Ledger) (reason : EndCause) → AreTold tells first last told
@@ -222,11 +222,11 @@ pub ends_for_none : {J : Type 0} (tells : J → J → AssignedJob → Option Tol
 ends_for_none tells fails first last told session written t b reason ran h = record { bytes = h.bytes; told = h.told; ran = (last, subst (AreTold tells first last) (sym h.ran.0) ran, inl (refl, h.ran.1)); at = h.at; ends = h.ends; ended = h.ended }
 
 -- an end of a step at the order
-pub glanced : (duty : Duty) (Ran : List Telling → Type 0) (before : Option (List ℕ)) (read : List ℕ) (out : Option (List ℕ)) (told : List Telling) (given : List Message) (r : Reading) (s : State) (b : Ledger) (old new : Link) (res : Result (Unit {0}) EndCause) → Ran told → reading read ≡ behind given r → jobs_of told ≡ assignments_in given
+pub glanced : (duty : Duty) (Ran : List Telling → Type 0) (before : Option (List ℕ)) (read : List ℕ) (out : Option (List ℕ)) (told : List Telling) (given : List Message) (r : Reading) (s : State) (b : Ledger) (old new : Link) (res : Result (Unit {0}) EndCause) → Ran told → reading read ≡ read_after given r → jobs_of told ≡ assignments_in given
     → (more : List ℕ) × (out ≡ and_then before more) × Acts duty more told (jobs_of told) s b res
     → GoesOnOrEnds (Went duty before out given b (place_of s)) (Ended (session_of duty before read) out b) res
     → IfErr res (PortReason duty.generation b) → (res ≡ Err WriteFault → new.output.failures ≡ old.output.failures + 1) → (res ≡ Err Memory → NoFault old new)
-    → GoesOnOrEnds (Stands (session_of duty before read) Ran out r s b) (λ (e : EndCause). Halts (session_of duty before read) (EndsForNoJob Ran) out s.tally b e × Reason (session_of duty before read) old new s.tally b e) res
+    → GoesOnOrEnds (HasServed (session_of duty before read) Ran out r s b) (λ (e : EndCause). Halts (session_of duty before read) (EndsForNoJob Ran) out s.tally b e × Reason (session_of duty before read) old new s.tally b e) res
 glanced duty Ran before read out told given r s b old new (Ok u) ran heard jobs h gone reason fault none = record { bytes = h.0; told = told; given = given; ran = ran; at = h.1; rests = record { heard = heard; jobs_are = jobs; holds = h.2.0 }; went = gone }
 glanced duty Ran before read out told given r s b old new (Err e) ran heard jobs h gone reason fault none = (
   record {
@@ -273,5 +273,5 @@ assigns_nothing = ap (λ (r : Reading). assignments_in r.messages) reads_nothing
 pub begun_halts : (duty : Duty) (End : EndCause → List Telling → Type 0) (before out : Option (List ℕ)) (t : Tally) (b : Ledger) (e : EndCause) → End e [] → (more : List ℕ) × (out ≡ and_then before more) × Ends duty more [] [] t b e → Ended (session_of duty before []) out b e → Halts (session_of duty before []) End out t b e
 begun_halts duty End before out t b e ran h ended = record { bytes = h.0; told = []; ran = ran; at = h.1; ended = ended; ends = subst (λ (d : List AssignedJob). Ends duty h.0 [] d t b e) (sym assigns_nothing) h.2 }
 
-pub begun_stands : (duty : Duty) (Ran : List Telling → Type 0) (before out : Option (List ℕ)) (r : Reading) (s : State) (b : Ledger) → Ran [] → r ≡ nothing_read → (more : List ℕ) × (out ≡ and_then before more) × (AreAnswered duty more [] s b × (◌≡◌ {A = List AssignedJob} [] [])) → Went duty before out [] b (place_of s) → Stands (session_of duty before []) Ran out r s b
-begun_stands duty Ran before out r s b ran e h went = record { bytes = h.0; told = []; given = []; ran = ran; at = h.1; went = went; rests = record { heard = reads_nothing ∙ sym e; jobs_are = refl; holds = h.2.0 } }
+pub begun_serving : (duty : Duty) (Ran : List Telling → Type 0) (before out : Option (List ℕ)) (r : Reading) (s : State) (b : Ledger) → Ran [] → r ≡ nothing_read → (more : List ℕ) × (out ≡ and_then before more) × (AreAnswered duty more [] s b × (◌≡◌ {A = List AssignedJob} [] [])) → Went duty before out [] b (place_of s) → HasServed (session_of duty before []) Ran out r s b
+begun_serving duty Ran before out r s b ran e h went = record { bytes = h.0; told = []; given = []; ran = ran; at = h.1; went = went; rests = record { heard = reads_nothing ∙ sym e; jobs_are = refl; holds = h.2.0 } }

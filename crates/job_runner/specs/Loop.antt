@@ -47,7 +47,7 @@ StepReason generation m old new book cause.Unserved = Unit {0}
 StepReason generation m old new book other = PortReason generation book other
 
 -- Now that `written` is on the link, all messages that were given are served, by jobs that were run in this way.
-pub record Stands (session : Session) (Ran : List Telling → Type 0) (written : Option (List ℕ)) (reader : Reading) (s : State)
+pub record HasServed (session : Session) (Ran : List Telling → Type 0) (written : Option (List ℕ)) (reader : Reading) (s : State)
     (book : Ledger) : Type 0 where
   pub bytes : List ℕ
   pub told : List Telling

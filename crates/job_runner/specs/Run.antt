@@ -4,7 +4,7 @@ use Rattle.std.specs.Prelude.{OnOk, map}
 use Rattle.std.specs.List.{AllByRecursion}
 use Rattle.gear_packets.specs.Request.{Packet}
 use Rattle.gear_packets.specs.Response.{AssignedJob, Message, server_error}
-use Rattle.gear_packets.specs.Text.{Reading, reading, behind, assignments_in, assignments, sent, text_of, registered, work_requests}
+use Rattle.gear_packets.specs.Text.{Reading, reading, read_after, assignments_in, assignments, sent, text_of, registered, work_requests}
 use Rattle.gear_packets.specs.Reading.{fault_of}
 use Rattle.byte_io.specs.Sides.{Input, Output}
 use Rattle.job_runner.specs.declared.end.EndCause.{EndCause}
@@ -57,7 +57,7 @@ ToldSince tells fails old new since result =
 -- The bytes read say the messages that were given, and those that the reader still holds. Each job assigned so far told this.
 pub record Rests (session : Session) (bytes : List ℕ) (told : List Telling) (given : List Message) (reader : Reading) (s : State)
     (book : Ledger) : Type 0 where
-  pub heard : reading session.read ≡ behind given reader
+  pub heard : reading session.read ≡ read_after given reader
   pub jobs_are : jobs_of told ≡ assignments_in given
   pub holds : AreAnswered session.duty bytes told s book
 

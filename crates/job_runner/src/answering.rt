@@ -12,7 +12,7 @@ ghost use Rattle.job_runner.specs.Acting.{Replies, TellsAnswer};
 use crate::end::EndCause;
 use crate::jobs::{Jobs, NotDone};
 use crate::port::{GrabRefusal, PoolPort};
-use crate::reply::spell;
+use crate::reply::encode_reply;
 use crate::worker::Worker;
 use byte_io::{Sink, give_all};
 use gear_packets::Assignment;
@@ -71,17 +71,17 @@ pub fn answer<L: Sink, P: PoolPort, J: Jobs>(
         Err(NotDone::Unserved) => return Err(EndCause::Unserved),
         Err(NotDone::Memory) => return Err(EndCause::Memory),
     };
-    let Ok(spelled) = spell(worker.place.alloc, &handle, outcome) else {
+    let Ok(encoded) = encode_reply(worker.place.alloc, &handle, outcome) else {
         return Err(EndCause::Memory);
     };
     let Ok(()) = port.begin_report(worker.pass, ticket) else {
         return Err(EndCause::Gone);
     };
-    let Ok(()) = give_all(link, spelled.text.as_slice()) else {
+    let Ok(()) = give_all(link, encoded.text.as_slice()) else {
         return Err(EndCause::WriteFault);
     };
     tally.answered += 1;
-    match port.reported(worker.pass, ticket, spelled.end) {
+    match port.reported(worker.pass, ticket, encoded.end) {
         Ok(StayOrRetire::Stay) => {
             tally.reported += 1;
             Ok(())

@@ -2,7 +2,7 @@
 
 ghost use Rattle.std.specs.Prelude.{◌≡◌, ◌+◌, ◌-◌, ◌<◌, ◌≤◌, ◌^◌, ◌++◌, ℕ, List, length, IfErr, Option};
 ghost use Rattle.gear_packets.specs.Response.{Message};
-ghost use Rattle.gear_packets.specs.Text.{reading, behind};
+ghost use Rattle.gear_packets.specs.Text.{reading, read_after};
 ghost use Rattle.byte_io.specs.Sides.{and_then, counted};
 ghost use Rattle.job_runner.specs.Listening.{Hears, IsReadEnd, lulls_of, read_failures, finds_end};
 
@@ -28,7 +28,7 @@ pub fn hear<L: Source>(
     requires room { 0 < length buffer.old }
     requires countable { (L.input link.old).failures < 2 ^ 64 - 1 }
     ensures hears { (before : Option (List ℕ)) (read : List ℕ) (given : List Message) →
-        (L.input link.old).given ≡ and_then before read → reading read ≡ behind given reader.old →
+        (L.input link.old).given ≡ and_then before read → reading read ≡ read_after given reader.old →
         (more : List ℕ) × ((L.input link.new).given ≡ and_then before more)
         × (length more ≤ length read + length buffer.old) × Hears more given reader.new result }
     ensures output { L.output link.new ≡ L.output link.old }

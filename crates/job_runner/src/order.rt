@@ -94,7 +94,7 @@ fn asking<'n>(to: Option<&'n [u8]>) -> Option<Request<'n>>
 }
 
 /// Encodes the packets that lead from one function to another, and ask for a job of it. The only error is out of memory.
-fn spell_change<'n>(
+fn encode_change<'n>(
     alloc: Global,
     from: Option<&'n [u8]>,
     to: Option<&'n [u8]>,
@@ -127,7 +127,7 @@ fn write_change<L: Sink>(
 {
     let from = name_of(settings, from);
     let to = name_of(settings, to);
-    let Ok(text) = spell_change(alloc, from, to) else {
+    let Ok(text) = encode_change(alloc, from, to) else {
         return Err(EndCause::Memory);
     };
     let Ok(()) = give_all(link, text.as_slice()) else {

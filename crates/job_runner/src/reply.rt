@@ -16,7 +16,7 @@ use worker_state::EndKind;
 
 /// The text that answers a job, and how the job ended.
 #[derive(Drop)]
-pub struct Spelled {
+pub struct Encoded {
     /// All its packets.
     pub text: Vec<u8>,
     /// How the job ended.
@@ -55,7 +55,7 @@ fn end_kind(end: &End) -> EndKind
 }
 
 /// Encodes all that a job reported, unless a packet of it would be too large.
-fn spell_outcome(alloc: Global, handle: &Handle, outcome: &Outcome) -> Result<Vec<u8>, EncodeError>
+fn encode_outcome(alloc: Global, handle: &Handle, outcome: &Outcome) -> Result<Vec<u8>, EncodeError>
     ensures text { IfOk result (λ text. text.items ≡ text_of (told_packets handle.now (told_of outcome.now))) }
     ensures each { IfOk result (λ _. AllByRecursion IsSent (told_packets handle.now (told_of outcome.now))) }
     ensures refused { IfErr result
@@ -69,15 +69,15 @@ fn spell_outcome(alloc: Global, handle: &Handle, outcome: &Outcome) -> Result<Ve
     Ok(text)
 }
 
-/// Spells WORK_FAIL alone.
+/// Encodes WORK_FAIL alone.
 #[tactic(auto, unfolding(crate::specs::Told::answer_to, crate::specs::Told::kind_of_answer))]
-fn spell_failure(alloc: Global, handle: &Handle) -> Result<Spelled, AllocError>
-    ensures text { IfOk result (λ spelled. spelled.text.items ≡ text_of (answer_to handle.now None)) }
+fn encode_failure(alloc: Global, handle: &Handle) -> Result<Encoded, AllocError>
+    ensures text { IfOk result (λ encoded. encoded.text.items ≡ text_of (answer_to handle.now None)) }
     ensures each { IfOk result (λ _. AllByRecursion IsSent (answer_to handle.now None)) }
-    ensures kind { IfOk result (λ spelled. spelled.end ≡ kind_of_answer handle.now None) }
+    ensures kind { IfOk result (λ encoded. encoded.end ≡ kind_of_answer handle.now None) }
 {
     match encode(alloc, &Request::WorkFail(handle.copy())) {
-        Ok(text) => Ok(Spelled {
+        Ok(text) => Ok(Encoded {
             text,
             end: EndKind::Fail,
         }),
@@ -87,25 +87,25 @@ fn spell_failure(alloc: Global, handle: &Handle) -> Result<Spelled, AllocError>
 
 /// Encodes the answer to a job: what it reported, or WORK_FAIL alone if there is no such job, or a packet would be too large. The only
 /// error is out of memory.
-pub fn spell(
+pub fn encode_reply(
     alloc: Global,
     handle: &Handle,
     outcome: Option<Outcome>,
-) -> Result<Spelled, AllocError>
-    ensures text { IfOk result (λ spelled. spelled.text.items ≡ text_of (answer_to handle.now (option_map told_of outcome))) }
+) -> Result<Encoded, AllocError>
+    ensures text { IfOk result (λ encoded. encoded.text.items ≡ text_of (answer_to handle.now (option_map told_of outcome))) }
     ensures each { IfOk result (λ _. AllByRecursion IsSent (answer_to handle.now (option_map told_of outcome))) }
-    ensures kind { IfOk result (λ spelled. spelled.end ≡ kind_of_answer handle.now (option_map told_of outcome)) }
+    ensures kind { IfOk result (λ encoded. encoded.end ≡ kind_of_answer handle.now (option_map told_of outcome)) }
 {
     let Some(outcome) = outcome else {
-        return spell_failure(alloc, handle);
+        return encode_failure(alloc, handle);
     };
-    match spell_outcome(alloc, handle, &outcome) {
-        Ok(text) => Ok(Spelled {
+    match encode_outcome(alloc, handle, &outcome) {
+        Ok(text) => Ok(Encoded {
             text,
             end: end_kind(&outcome.end),
         }),
-        Err(EncodeError::TooLarge) => spell_failure(alloc, handle),
-        Err(EncodeError::NulInArgument) => spell_failure(alloc, handle),
+        Err(EncodeError::TooLarge) => encode_failure(alloc, handle),
+        Err(EncodeError::NulInArgument) => encode_failure(alloc, handle),
         Err(EncodeError::Memory) => Err(AllocError),
     }
 }

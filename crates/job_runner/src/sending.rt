@@ -1,7 +1,7 @@
 //! Packets, written to the link.
 
 ghost use Rattle.std.specs.Prelude.{◌≡◌, ◌+◌, ◌-◌, ◌<◌, ◌≤◌, ◌^◌, ◌++◌, [], ◌∷◌, OnOk, IfErr};
-ghost use Rattle.gear_packets.specs.Request.{IsSent, spelling};
+ghost use Rattle.gear_packets.specs.Request.{IsSent, encoding};
 ghost use Rattle.std.specs.List.{AllByRecursion};
 ghost use Rattle.std.specs.Option.{option_map, option_to_list};
 ghost use Rattle.gear_packets.specs.Requests.{packet_of};
@@ -17,7 +17,7 @@ use std::alloc::{AllocError, Global};
 /// Puts a packet that breaks no rule after a text. The only error is out of memory.
 fn add(alloc: Global, text: &mut Vec<u8>, request: &Request) -> Result<(), AllocError>
     requires accepted { IsAccepted (packet_of request.now) }
-    ensures spelled { OnOk result (text.new.items ≡ text.old.items ++ spelling (packet_of request.now)) }
+    ensures encoded { OnOk result (text.new.items ≡ text.old.items ++ encoding (packet_of request.now)) }
     ensures sent { OnOk result (IsSent (packet_of request.now)) }
 {
     match encode_into(alloc, text, request) {
@@ -34,7 +34,7 @@ pub fn add_if(
     request: &Option<Request>,
 ) -> Result<(), AllocError>
     requires accepted { AllByRecursion IsAccepted (option_to_list (option_map packet_of request.now)) }
-    ensures spelled { OnOk result (text.new.items ≡ text.old.items ++ text_of (option_to_list (option_map packet_of request.now))) }
+    ensures encoded { OnOk result (text.new.items ≡ text.old.items ++ text_of (option_to_list (option_map packet_of request.now))) }
     ensures sent { OnOk result (AllByRecursion IsSent (option_to_list (option_map packet_of request.now))) }
 {
     match request {

@@ -9,7 +9,7 @@ ghost use Rattle.job_runner.specs.Book.{no_calls};
 ghost use Rattle.job_runner.specs.Course.{GoesOnOrEnds, IsAccepted, PortReason, session_of};
 ghost use Rattle.job_runner.specs.Run.{Acts, EndTold, ReadReason, Reason, Served, ServedBy, seen_link, LinkKept};
 ghost use Rattle.job_runner.specs.Acting.{moment, Begins};
-ghost use Rattle.job_runner.specs.Loop.{first_state, duty_in, duty_of, session_in, EndsForNoJob, Stands, Halts};
+ghost use Rattle.job_runner.specs.Loop.{first_state, duty_in, duty_of, session_in, EndsForNoJob, HasServed, Halts};
 
 use crate::answering::Tally;
 use crate::end::{EndCause, SessionEnd};
@@ -29,7 +29,7 @@ use pool_settings::Settings;
 use std::alloc::{AllocError, Global};
 
 /// The name by which the server's lists show a worker.
-fn spell_worker(worker: &Worker<'_>) -> Result<String, AllocError>
+fn encode_worker(worker: &Worker<'_>) -> Result<String, AllocError>
     requires slot { worker.now.pass.now.slot < slots worker.now.place.settings.now }
     ensures text { IfOk result (λ text. string_bytes text
         ≡ worker_text worker.now.place.settings.now worker.now.pass.now.slot worker.now.pass.now.generation) }
@@ -63,7 +63,7 @@ fn begin<L: Sink, P: PoolPort>(
     ensures link { LinkKept (seen_link L.input L.output link.old) (seen_link L.input L.output link.new) result }
     ensures losses { (P.book port.new).losses ≡ (P.book port.old).losses }
 {
-    let Ok(name) = spell_worker(worker) else {
+    let Ok(name) = encode_worker(worker) else {
         return Err(EndCause::Memory);
     };
     match send(
@@ -86,18 +86,18 @@ fn drain<L: Sink, P: PoolPort, J: Jobs>(
     state: &mut State,
 ) -> Result<(), EndCause>
     requires link { (L.output link.old).failures < 2 ^ 64 - 1 }
-    requires stands { (first : J) × (before : Option (List ℕ)) × (read : List ℕ) × (length read < 2 ^ 60)
-        × Stands (session_in worker.now before read) (AreTold J.tells first jobs.old)
+    requires serving { (first : J) × (before : Option (List ℕ)) × (read : List ℕ) × (length read < 2 ^ 60)
+        × HasServed (session_in worker.now before read) (AreTold J.tells first jobs.old)
         (L.output link.old).got reader.old state.old (P.book port.old) }
     ensures leaves { (first : J) (before : Option (List ℕ)) (read : List ℕ)
-        → Stands (session_in worker.now before read) (AreTold J.tells first jobs.old)
+        → HasServed (session_in worker.now before read) (AreTold J.tells first jobs.old)
         (L.output link.old).got reader.old state.old (P.book port.old)
-        → GoesOnOrEnds (Stands (session_in worker.now before read) (AreTold J.tells first jobs.new)
+        → GoesOnOrEnds (HasServed (session_in worker.now before read) (AreTold J.tells first jobs.new)
         (L.output link.new).got reader.new state.new (P.book port.new))
         (Halts (session_in worker.now before read) (EndTold J.tells J.fails first jobs.new)
         (L.output link.new).got state.new.tally (P.book port.new)) result }
     ensures reason { (first : J) (before : Option (List ℕ)) (read : List ℕ)
-        → Stands (session_in worker.now before read) (AreTold J.tells first jobs.old)
+        → HasServed (session_in worker.now before read) (AreTold J.tells first jobs.old)
         (L.output link.old).got reader.old state.old (P.book port.old)
         → IfErr result (ReadReason (session_in worker.now before read) state.new.tally (P.book port.new)) }
     ensures link { LinkKept (seen_link L.input L.output link.old) (seen_link L.input L.output link.new) result }
@@ -129,9 +129,9 @@ fn listen<L: Source + Sink, P: PoolPort>(
     requires room { length buffer.old ≡ 4096 }
     ensures listens { (told : List Telling) (before start : Option (List ℕ)) (read : List ℕ)
         → (L.input link.old).given ≡ and_then start read
-        → Stands (session_in worker.now before read) (IsTold told) (L.output link.old).got reader.old state.old (P.book port.old)
+        → HasServed (session_in worker.now before read) (IsTold told) (L.output link.old).got reader.old state.old (P.book port.old)
         → (more : List ℕ) × ((L.input link.new).given ≡ and_then start more) × (length more ≤ length read + 4096)
-        × GoesOnOrEnds (Stands (session_in worker.now before more) (IsTold told)
+        × GoesOnOrEnds (HasServed (session_in worker.now before more) (IsTold told)
         (L.output link.new).got reader.new state.new (P.book port.new))
         (λ cause. Halts (session_in worker.now before more) (EndsForNoJob (IsTold told))
         (L.output link.new).got state.new.tally (P.book port.new) cause

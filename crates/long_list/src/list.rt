@@ -1,4 +1,4 @@
-//! A list that grows at its end and is forgotten from its front.
+//! A list that grows at its end and is forgotten from its start.
 ghost use Rattle.std.specs.Prelude.{◌≡◌, ◌+◌, ◌-◌, ◌^◌, ◌<◌, ◌≤◌, ◌↔◌, [], ◌∷◌, ◌++◌, length, slice_set, slice_index_or};
 ghost use Rattle.std.specs.Prelude.{IfSome, IfNone, IsSome, OnOk};
 ghost use Rattle.std.specs.VecDeque.{deque_len, deque_capacity};

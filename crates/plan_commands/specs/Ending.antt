@@ -1,6 +1,6 @@
 -- How a command ends, and what its sink has then.
 use Rattle.std.specs.Prelude.{◌≡◌, ◌⊎◌, ℕ, List}
-use Rattle.byte_io.specs.Sides.{HasFront, HasText, Output}
+use Rattle.byte_io.specs.Sides.{HasPrefix, HasText, Output}
 use Rattle.plan_commands.specs.Fault.{refused}
 use Rattle.plan_commands.specs.declared.ending.Exit.{Exit}
 use Rattle.plan_commands.specs.declared.fault.Fault.{Fault}
@@ -15,4 +15,4 @@ Stops fault old new exit = (new ≡ old) × (exit ≡ refused fault)
 abbrev pub Delivers : List ℕ → Exit → Output → Output → Exit → Type 0
 Delivers text done old new exit =
     (HasText old text new × (exit ≡ done))
-    ⊎ ((count : ℕ) × HasFront old text count new × (exit ≡ refused WriteFault))
+    ⊎ ((count : ℕ) × HasPrefix old text count new × (exit ≡ refused WriteFault))

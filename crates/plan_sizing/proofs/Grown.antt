@@ -11,7 +11,7 @@ use Rattle.plan_sizing.specs.Sizing.{Farm, IsFarm, AreMachines, grown}
 pub length_grown : (farm : Farm) (added : List ℕ) → length (grown farm added).live ≡ length farm.problem.live + length added
 length_grown farm added = omega (arith, length-append farm.problem.live (enumerate_from farm.slots added), length-enumerate_from farm.slots added)
 
--- the worker at a place behind the live ones
+-- the worker at a place after the live ones
 pub added_at : (farm : Farm) (added : List ℕ) (place : ℕ) → length farm.problem.live ≤ place → place < length farm.problem.live + length added
     → get_or (grown farm added).live place (0, 0) ≡ (farm.slots + (place - length farm.problem.live), get_or added (place - length farm.problem.live) 0)
 added_at farm added place past within =
@@ -60,7 +60,7 @@ live_below farm added slot low =
     list_any-append (λ worker. eqb worker.0 slot) farm.problem.live (enumerate_from farm.slots added)
     ∙ or_first (list_any (λ worker. eqb worker.0 slot) farm.problem.live) (list_any (λ worker. eqb worker.0 slot) (enumerate_from farm.slots added)) (new_not farm.slots slot added low)
 
--- who has a slot behind them
+-- who has a slot after them
 pub live_above : (farm : Farm) (added : List ℕ) (slot : ℕ) → IsFarm farm → farm.slots ≤ slot → list_any (λ worker. eqb worker.0 slot) (grown farm added).live ≡ ltb (slot - farm.slots) (length added)
 live_above farm added slot valid past =
     let test : ℕ × ℕ → Bool = λ worker. eqb worker.0 slot in

@@ -55,7 +55,7 @@ hired_on first f [] = refl
 hired_on first f (h ∷ hs) =
     omega (arith, sum_by-cons (λ (e : ℕ × Option ℕ). cond (is_on f e.1) 1 0) (first, Some h.1) (hired_entries (first + 1) hs), sum_by-cons (λ (e : ℕ × ℕ). cond (eqb e.1 f) 1 0) h hs, hired_on (first + 1) f hs)
 
--- slots that rise go on rising behind them
+-- slots that rise go on rising after them
 pub rises_on : (entries : List (ℕ × Option ℕ)) (first : ℕ) (hires : List (ℕ × ℕ)) → IsStrictlyIncreasing (slots_of entries) → All (λ entry. entry.0 < first) entries → IsStrictlyIncreasing (slots_of (entries ++ hired_entries first hires))
 rises_on entries first hires up below k inside =
     let n : ℕ = length entries in

@@ -6,7 +6,7 @@ use Rattle.text_pieces.specs.Cuts.{cut_first}
 use Rattle.text_pieces.proofs.Cutting.{split_by_first}
 use Rattle.gear_status.specs.Status.{Line, put}
 use Rattle.pool_commands.specs.Grammar.{load_from}
-use Rattle.pool_commands.specs.Words.{count_in, words_behind, words_of}
+use Rattle.pool_commands.specs.Words.{count_in, words_after, words_of}
 
 -- the words of a line by its parts
 abbrev words_by : List ℕ → Option (List ℕ × List ℕ) → List (List ℕ)
@@ -63,13 +63,13 @@ entry_set load name total running t r rest some is_t is_r =
     let named : ltb 0 (length name) ≡ true = grind (arith, nat_tests) in
     rw (named, sym is_t, sym is_r) refl
 
--- three words of a text, with what stands behind each of them, are a name with its numbers
+-- three words of a text, with what stands after each of them, are a name with its numbers
 pub entry_read :
     (load : List Line) (text name total running two three : List ℕ) (second third rest : Option (List ℕ)) (t r : ℕ)
-    → words_of text ≡ name ∷ words_behind second → second ≡ Some two → words_of two ≡ total ∷ words_behind third → third ≡ Some three
-    → words_of three ≡ running ∷ words_behind rest → 0 < length name → Some t ≡ count_in total → Some r ≡ count_in running
-    → load_from load (words_of text) ≡ load_from (put load (name, record { total = t; running = r; workers = 0 })) (words_behind rest)
+    → words_of text ≡ name ∷ words_after second → second ≡ Some two → words_of two ≡ total ∷ words_after third → third ≡ Some three
+    → words_of three ≡ running ∷ words_after rest → 0 < length name → Some t ≡ count_in total → Some r ≡ count_in running
+    → load_from load (words_of text) ≡ load_from (put load (name, record { total = t; running = r; workers = 0 })) (words_after rest)
 entry_read load text name total running two three second third rest t r cut_1 is_2 cut_2 is_3 cut_3 some is_t is_r =
-    let from_three : words_behind third ≡ running ∷ words_behind rest = ap words_behind is_3 ∙ cut_3 in
-    let from_two : words_behind second ≡ total ∷ running ∷ words_behind rest = ap words_behind is_2 ∙ (cut_2 ∙ ap (λ ws. total ∷ ws) from_three) in
-    ap (load_from load) (cut_1 ∙ ap (λ ws. name ∷ ws) from_two) ∙ entry_set load name total running t r (words_behind rest) some is_t is_r
+    let from_three : words_after third ≡ running ∷ words_after rest = ap words_after is_3 ∙ cut_3 in
+    let from_two : words_after second ≡ total ∷ running ∷ words_after rest = ap words_after is_2 ∙ (cut_2 ∙ ap (λ ws. total ∷ ws) from_three) in
+    ap (load_from load) (cut_1 ∙ ap (λ ws. name ∷ ws) from_two) ∙ entry_set load name total running t r (words_after rest) some is_t is_r

@@ -23,8 +23,8 @@ abbrev pub words_of : List ℕ → List (List ℕ)
 words_of line = slice_split is_space line
 
 -- the same of what comes after a space, if there is one
-abbrev pub words_behind : Option (List ℕ) → List (List ℕ)
-words_behind text = option_map_or words_of text []
+abbrev pub words_after : Option (List ℕ) → List (List ℕ)
+words_after text = option_map_or words_of text []
 
 -- any word but an empty one
 abbrev pub word_in : List ℕ → Option (List ℕ)

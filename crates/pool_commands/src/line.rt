@@ -28,7 +28,7 @@ struct Entry<'l> {
 
 /// The first word of a text, and what comes after the space after it, if there is one.
 fn cut_word(text: &[u8]) -> (&[u8], Option<&[u8]>)
-    ensures words { spec.words_of text.now ≡ result.0.now ∷ spec.words_behind (option_map (λ t. t.now) result.1) }
+    ensures words { spec.words_of text.now ≡ result.0.now ∷ spec.words_after (option_map (λ t. t.now) result.1) }
     ensures shorter { IfSome result.1 (λ t. length t.now < length text.now) }
 {
     match cut_first(b' ', text) {
@@ -43,7 +43,7 @@ fn cut_entry(text: &[u8]) -> Option<(Entry<'_>, Option<&[u8]>)>
         ((load : List Line) → grammar.load_from load (spec.words_of text.now) ≡ None)
         (λ cut. (load : List Line) → grammar.load_from load (spec.words_of text.now)
         ≡ grammar.load_from (put load (cut.0.name.now, record { total = cut.0.total; running = cut.0.running; workers = 0 }))
-        (spec.words_behind (option_map (λ t. t.now) cut.1))) }
+        (spec.words_after (option_map (λ t. t.now) cut.1))) }
     ensures shorter { IfSome result (λ cut. IfSome cut.1 (λ t. length t.now < length text.now)) }
 {
     let (name, rest) = cut_word(text);
@@ -64,23 +64,23 @@ fn cut_entry(text: &[u8]) -> Option<(Entry<'_>, Option<&[u8]>)>
 
 /// The load of these words, three for each name.
 fn load_in(alloc: Global, text: Option<&[u8]>) -> Result<Option<Load>, AllocError>
-    ensures { IfOk result (λ load. load ≡ grammar.load_from [] (spec.words_behind (option_map (λ t. t.now) text.entry))) }
+    ensures { IfOk result (λ load. load ≡ grammar.load_from [] (spec.words_after (option_map (λ t. t.now) text.entry))) }
 {
     let mut load = Load::new(alloc);
     let mut rest = text;
     while let Some(left) = rest {
-        let Some((entry, behind)) = cut_entry(left) else {
+        let Some((entry, after)) = cut_entry(left) else {
             return Ok(None);
         };
         load.set(entry.name, entry.total, entry.running, 0)?;
-        rest = behind;
+        rest = after;
     }
     Ok(Some(load))
 }
 
 /// The first words of a text, no more of them than show whether it has as many as a form of a fixed number of words.
 fn first_words<'l>(alloc: Global, text: Option<&'l [u8]>) -> Result<Vec<&'l [u8]>, AllocError>
-    ensures { IfOk result (λ words. map (λ w. w.now) words.items ≡ take 5 (spec.words_behind (option_map (λ t. t.now) text.entry))) }
+    ensures { IfOk result (λ words. map (λ w. w.now) words.items ≡ take 5 (spec.words_after (option_map (λ t. t.now) text.entry))) }
 {
     let mut words = Vec::new(alloc);
     let mut rest = text;
@@ -88,9 +88,9 @@ fn first_words<'l>(alloc: Global, text: Option<&'l [u8]>) -> Result<Vec<&'l [u8]
         let Some(left) = rest else {
             return Ok(words);
         };
-        let (word, behind) = cut_word(left);
+        let (word, after) = cut_word(left);
         words.push(word)?;
-        rest = behind;
+        rest = after;
     }
     Ok(words)
 }

@@ -24,7 +24,7 @@ use Rattle.worker_state.specs.declared.job.Standing.TheVariants as standing
 use Rattle.pool_core.specs.declared.event.Event.{Event}
 use Rattle.pool_core.specs.declared.event.Event.TheVariants as event
 use Rattle.pool_core.specs.Machine.{State, IsPossible, first, after, owed, with_standing, with_lost, slot_in, is_live_in, open_ticket, slot_after_run, next_ticket, orders_from, after_round, standing_in, job_at}
-use Rattle.pool_core.specs.Book.{Book, begin_refusal, join_refusal, grab_refusal, report_refusal, unless_forgotten, stands, has_closed_front, forget_first}
+use Rattle.pool_core.specs.Book.{Book, begin_refusal, join_refusal, grab_refusal, report_refusal, unless_forgotten, is_some_and, has_closed_prefix, forget_first}
 use Rattle.pool_core.specs.Kept.{IsKeptBook, IsSoundState, AreClosed, IsOpenTicket, closing_of, lost_of}
 use Rattle.pool_core.specs.Calls.{Forgets}
 use Rattle.pool_core.proofs.Refusals.{begin_possible, join_possible, grab_possible, report_possible}
@@ -37,9 +37,9 @@ use Rattle.pool_core.proofs.Sound.{sound_after}
 use Rattle.pool_core.proofs.Steps.{chapter_more, next_chapter_is}
 
 -- jobs that are reported or lost stay so
-pub front_after : (settings : Settings) (e : Event) (state : State) (forgotten : ℕ) → IsSoundState settings state → IsPossible settings e state → AreClosed state.standings forgotten → AreClosed (after settings e state).standings forgotten
-front_after settings e state forgotten h p front k from_one within =
-    let t = front k from_one within in
+pub prefix_after : (settings : Settings) (e : Event) (state : State) (forgotten : ℕ) → IsSoundState settings state → IsPossible settings e state → AreClosed state.standings forgotten → AreClosed (after settings e state).standings forgotten
+prefix_after settings e state forgotten h p prefix k from_one within =
+    let t = prefix k from_one within in
     (t.0, (extends_after settings e state h p).closed k t.0 t.1 t.2, t.2)
 
 pub kept_more : (settings : Settings) (chapters forgotten : ℕ) (events : List Event) (state : State) (owes reported lost capacity : ℕ) → IsKeptBook (record { settings = settings; events = events; state = state; chapters = chapters; forgotten = forgotten }) owes reported lost capacity
@@ -56,7 +56,7 @@ kept_more settings chapters forgotten events state owes reported lost capacity h
       owes_is = o;
       reported_is = r;
       lost_is = l;
-      front = front_after settings e state forgotten h.sound p h.front;
+      prefix = prefix_after settings e state forgotten h.sound p h.prefix;
       within = omega (arith, length-append events (e ∷ []), within);
       reserved = omega (arith, length-append events (e ∷ []), reserved);
     }
@@ -191,37 +191,37 @@ is_le_or k n false e = inl (ltb-false n k e)
 
 -- a job that goes on is not forgotten
 pub open_later : (standings : List Standing) (forgotten k : ℕ) → AreClosed standings forgotten → IsOpenTicket standings k → forgotten < k
-open_later standings forgotten k front o =
+open_later standings forgotten k prefix o =
     by_test forgotten k (nat_lt forgotten k) refl (λ within.
-    let t = front k o.from_one within in
+    let t = prefix k o.from_one within in
     let at = (standing_given standings k t.0 standing.Running t.1).2 in
     false≢true (sym t.2 ∙ (ap is_open (sym at) ∙ o.goes_on)))
 
 -- an open ticket was given, and is not forgotten
 pub open_given : (settings : Settings) (state : State) (forgotten : ℕ) → IsSoundState settings state → AreClosed state.standings forgotten → (w : WorkerName) (o : Option ℕ) → o ≡ open_ticket state w → (n : ℕ) → n ≡ length state.standings → IfSome o (λ k. (forgotten < k) × (k ≤ n))
-open_given settings state forgotten h front w None e n is = tt
-open_given settings state forgotten h front w (Some k) e n is =
-    let t = h.tickets w.slot k (sym e) in (open_later state.standings forgotten k front t, omega (arith, t.given, is))
+open_given settings state forgotten h prefix w None e n is = tt
+open_given settings state forgotten h prefix w (Some k) e n is =
+    let t = h.tickets w.slot k (sym e) in (open_later state.standings forgotten k prefix t, omega (arith, t.given, is))
 
 -- the ticket that a worker has is not forgotten
 pub held_later : (settings : Settings) (state : State) (forgotten : ℕ) → IsSoundState settings state → AreClosed state.standings forgotten → (w : WorkerName) (k : ℕ) → open_ticket state w ≡ Some k → forgotten < k
-held_later settings state forgotten h front w k own = open_later state.standings forgotten k front (h.tickets w.slot k own)
+held_later settings state forgotten h prefix w k own = open_later state.standings forgotten k prefix (h.tickets w.slot k own)
 
 -- what is asked of a ticket that a worker has is what the state says of it
 pub held_kept : (settings : Settings) (state : State) (forgotten : ℕ) → IsSoundState settings state → AreClosed state.standings forgotten → (w : WorkerName) (k : ℕ) → open_ticket state w ≡ Some k
     → unless_forgotten forgotten k (standing_in state.standings k) ≡ standing_in state.standings k
-held_kept settings state forgotten h front w k own =
-    cond-true (nat_lt forgotten k) (standing_in state.standings k) None (lt-ltb forgotten k (held_later settings state forgotten h front w k own))
+held_kept settings state forgotten h prefix w k own =
+    cond-true (nat_lt forgotten k) (standing_in state.standings k) None (lt-ltb forgotten k (held_later settings state forgotten h prefix w k own))
 
 pub begin_later : (settings : Settings) (chapters forgotten : ℕ) (events : List Event) (state : State) (owes reported lost capacity : ℕ) → IsKeptBook (record { settings = settings; events = events; state = state; chapters = chapters; forgotten = forgotten }) owes reported lost capacity
     → (w : WorkerName) (k : ℕ) → begin_refusal (record { settings = settings; events = events; state = state; chapters = 0; forgotten = forgotten }) w k ≡ None → forgotten < k
 begin_later settings chapters forgotten events state owes reported lost capacity h w k none =
-    held_later settings state forgotten h.sound h.front w k (open_is (open_ticket state w) k (begin_possible (record { settings = settings; events = events; state = state; chapters = 0; forgotten = forgotten }) w k none).1)
+    held_later settings state forgotten h.sound h.prefix w k (open_is (open_ticket state w) k (begin_possible (record { settings = settings; events = events; state = state; chapters = 0; forgotten = forgotten }) w k none).1)
 
 pub report_later : (settings : Settings) (chapters forgotten : ℕ) (events : List Event) (state : State) (owes reported lost capacity : ℕ) → IsKeptBook (record { settings = settings; events = events; state = state; chapters = chapters; forgotten = forgotten }) owes reported lost capacity
     → (w : WorkerName) (k : ℕ) → report_refusal (record { settings = settings; events = events; state = state; chapters = 0; forgotten = forgotten }) w k ≡ None → forgotten < k
 report_later settings chapters forgotten events state owes reported lost capacity h w k none =
-    held_later settings state forgotten h.sound h.front w k (open_is (open_ticket state w) k (report_possible (record { settings = settings; events = events; state = state; chapters = 0; forgotten = forgotten }) w k Complete none).1)
+    held_later settings state forgotten h.sound h.prefix w k (open_is (open_ticket state w) k (report_possible (record { settings = settings; events = events; state = state; chapters = 0; forgotten = forgotten }) w k Complete none).1)
 
 -- the counts after a report and after a loss are at most what was grabbed
 pub report_fits : (settings : Settings) (chapters forgotten : ℕ) (events : List Event) (state : State) (owes reported lost capacity : ℕ) → IsKeptBook (record { settings = settings; events = events; state = state; chapters = chapters; forgotten = forgotten }) owes reported lost capacity
@@ -251,21 +251,21 @@ kept_room settings chapters forgotten events state owes reported lost capacity h
       owes_is = h.owes_is;
       reported_is = h.reported_is;
       lost_is = h.lost_is;
-      front = h.front;
+      prefix = h.prefix;
       within = h.within;
       reserved = omega (arith, h.reserved, more);
     } in kept)
 
 -- one more ticket whose job is reported or lost
 closed_more : (standings : List Standing) (forgotten : ℕ) → AreClosed standings forgotten → (x : Standing) → standing_in standings (forgotten + 1) ≡ Some x → is_open x ≡ false → AreClosed standings (forgotten + 1)
-closed_more standings forgotten front x is closed k from_one within =
+closed_more standings forgotten prefix x is closed k from_one within =
     elim (is_le_or k forgotten (nat_lt forgotten k) refl) [
-      | inl t ↦ front k from_one t
+      | inl t ↦ prefix k from_one t
       | inr t ↦ let same : k ≡ forgotten + 1 = omega (arith, t, within) in (x, ap (standing_in standings) same ∙ is, closed)
     ]
 
 -- the job of the first ticket that is not forgotten is reported or lost
-closed_is : (o : Option Standing) → stands (λ x. not (is_open x)) o ≡ true → (x : Standing) × (o ≡ Some x) × (is_open x ≡ false)
+closed_is : (o : Option Standing) → is_some_and (λ x. not (is_open x)) o ≡ true → (x : Standing) × (o ≡ Some x) × (is_open x ≡ false)
 closed_is None h = absurd (false≢true h)
 closed_is (Some standing.Running) h = absurd (false≢true h)
 closed_is (Some standing.Reporting) h = absurd (false≢true h)
@@ -284,11 +284,11 @@ pub record Handed (book : Book) (job : Job) (standing : Standing) : Type 0 where
   pub standing_is : standing_in book.state.standings (book.forgotten + 1) ≡ Some standing
   pub closed : is_open standing ≡ false
 
-pub handed : (book : Book) → has_closed_front book ≡ true → (job : Job) (standing : Standing)
+pub handed : (book : Book) → has_closed_prefix book ≡ true → (job : Job) (standing : Standing)
     → book.forgotten < length book.state.jobs → job ≡ get_or book.state.jobs book.forgotten job
     → book.forgotten < length book.state.standings → standing ≡ get_or book.state.standings book.forgotten standing → Handed book job standing
-handed book front job standing job_within job_is within is =
-    let t = closed_is (standing_in book.state.standings (book.forgotten + 1)) front in
+handed book prefix job standing job_within job_is within is =
+    let t = closed_is (standing_in book.state.standings (book.forgotten + 1)) prefix in
     let there : standing_in book.state.standings (book.forgotten + 1) ≡ Some standing = next_at book.state.standings book.forgotten standing within is in
     let same : t.0 ≡ standing = let e = sym t.1 ∙ there in cc in
     record {
@@ -298,26 +298,26 @@ handed book front job standing job_within job_is within is =
     }
 
 -- what the call tells
-pub forget_tells : (book new : Book) → has_closed_front book ≡ true → (ticket : ℕ) (job : Job) (standing : Standing) → ticket ≡ book.forgotten + 1
+pub forget_tells : (book new : Book) → has_closed_prefix book ≡ true → (ticket : ℕ) (job : Job) (standing : Standing) → ticket ≡ book.forgotten + 1
     → book.forgotten < length book.state.jobs → job ≡ get_or book.state.jobs book.forgotten job
     → book.forgotten < length book.state.standings → standing ≡ get_or book.state.standings book.forgotten standing
     → new ≡ forget_first book → Forgets book new (Some (record { ticket = ticket; job = job; standing = standing }))
-forget_tells book new front ticket job standing is_ticket job_within job_is within is step =
-    let t = handed book front job standing job_within job_is within is in (
+forget_tells book new prefix ticket job standing is_ticket job_within job_is within is step =
+    let t = handed book prefix job standing job_within job_is within is in (
       (is_ticket, ap (job_at book.state.jobs) is_ticket ∙ t.job_is),
       (ap (standing_in book.state.standings) is_ticket ∙ t.standing_is, t.closed),
-      sym front,
+      sym prefix,
       step,
       tt,
     )
 
 -- both lists forget their first
 pub kept_forget : (settings : Settings) (chapters forgotten : ℕ) (events : List Event) (state : State) (owes reported lost capacity : ℕ) → IsKeptBook (record { settings = settings; events = events; state = state; chapters = chapters; forgotten = forgotten }) owes reported lost capacity
-    → has_closed_front (record { settings = settings; events = events; state = state; chapters = chapters; forgotten = forgotten }) ≡ true
+    → has_closed_prefix (record { settings = settings; events = events; state = state; chapters = chapters; forgotten = forgotten }) ≡ true
     → (jobs' : List Job) → jobs' ≡ state.jobs → (standings' : List Standing) → standings' ≡ state.standings → (forgotten' : ℕ) → forgotten' ≡ forgotten + 1
     → IsKeptBook (record { settings = settings; events = events; state = (record state { jobs = jobs'; standings = standings' }); chapters = chapters; forgotten = forgotten' }) owes reported lost capacity
-kept_forget settings chapters forgotten events state owes reported lost capacity h front jobs' is_jobs standings' is_standings forgotten' is_forgotten =
-    let t = closed_is (standing_in state.standings (forgotten + 1)) front in
+kept_forget settings chapters forgotten events state owes reported lost capacity h prefix jobs' is_jobs standings' is_standings forgotten' is_forgotten =
+    let t = closed_is (standing_in state.standings (forgotten + 1)) prefix in
     rw (is_jobs, is_standings, is_forgotten) (
     let kept : IsKeptBook (record { settings = settings; events = events; state = state; chapters = chapters; forgotten = (forgotten + 1) }) owes reported lost capacity = record {
       in_range = h.in_range;
@@ -326,7 +326,7 @@ kept_forget settings chapters forgotten events state owes reported lost capacity
       owes_is = h.owes_is;
       reported_is = h.reported_is;
       lost_is = h.lost_is;
-      front = closed_more state.standings forgotten h.front t.0 t.1 t.2;
+      prefix = closed_more state.standings forgotten h.prefix t.0 t.1 t.2;
       within = h.within;
       reserved = h.reserved;
     } in kept)
@@ -392,7 +392,7 @@ kept_chapter settings chapters forgotten events state owes reported lost capacit
       owes_is = h.owes_is;
       reported_is = h.reported_is;
       lost_is = h.lost_is;
-      front = h.front;
+      prefix = h.prefix;
       within = omega (arith, h.within);
       reserved = omega (arith, room);
     } in kept)
@@ -419,7 +419,7 @@ kept_first settings r capacity slots' is_slots times' is_times orders' is_orders
       owes_is = omega (arith, sum_by-replicate (one_if is_live) (slot_count settings) (Empty 0));
       reported_is = refl;
       lost_is = refl;
-      front = λ k from_one within. absurd (omega (arith, from_one, within));
+      prefix = λ k from_one within. absurd (omega (arith, from_one, within));
       within = omega arith;
       reserved = omega arith;
     } in kept)

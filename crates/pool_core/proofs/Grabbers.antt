@@ -34,10 +34,10 @@ pub record AreGrabbed (by : List WorkerName) (state : State) : Type 0 where
   pub own : (s k : ℕ) → OpensAt state.slots s k → slice_get by (k - 1) ≡ Some (named s (get_or state.slots s (Empty 0)))
   pub lost : (k : ℕ) (w : WorkerName) (cause : Cause) → standing_in state.standings k ≡ Some (standing.Lost w cause) → slice_get by (k - 1) ≡ Some w
 
-pub got_front : {X : Type 0} (xs ys : List X) (i : ℕ) (x : X) → slice_get xs i ≡ Some x → slice_get (xs ++ ys) i ≡ Some x
-got_front [] ys i x h = absurd (cc)
-got_front (y ∷ xs) ys zero x h = h
-got_front (y ∷ xs) ys (suc i) x h = got_front xs ys i x h
+pub got_prefix : {X : Type 0} (xs ys : List X) (i : ℕ) (x : X) → slice_get xs i ≡ Some x → slice_get (xs ++ ys) i ≡ Some x
+got_prefix [] ys i x h = absurd (cc)
+got_prefix (y ∷ xs) ys zero x h = h
+got_prefix (y ∷ xs) ys (suc i) x h = got_prefix xs ys i x h
 
 got_last : {X : Type 0} (xs : List X) (y : X) (i : ℕ) → i ≡ length xs → slice_get (xs ++ y ∷ []) i ≡ Some y
 got_last [] y zero e = refl
@@ -104,10 +104,10 @@ grabbed_grab settings by state w handle function now g p =
             ∙ subst (λ (n : ℕ). Some w ≡ Some (named n (get_or (set state.slots w.slot new) n (Empty 0)))) (sym t.0)
             (ap (λ (x : Slot). Some (named w.slot x)) (sym (get_or-set_at state.slots w.slot w.slot new (Empty 0) refl (worker_within state w p.0))))
         | inr t ↦
-            got_front by (w ∷ []) (k - 1) (named s (get_or state.slots s (Empty 0))) (g.own s k t.1)
+            got_prefix by (w ∷ []) (k - 1) (named s (get_or state.slots s (Empty 0))) (g.own s k t.1)
             ∙ ap (λ (x : Slot). Some (named s x)) (sym (get_or-set_other state.slots w.slot s new (Empty 0) t.0))
       ];
-      lost = λ k v cause is. got_front by (w ∷ []) (k - 1) v (g.lost k v cause (closed_pushed state.standings k (standing.Lost v cause) refl is));
+      lost = λ k v cause is. got_prefix by (w ∷ []) (k - 1) v (g.lost k v cause (closed_pushed state.standings k (standing.Lost v cause) refl is));
     }
 
 grabbed_begin : (settings : Settings) (by : List WorkerName) (state : State) (w : WorkerName) (j : ℕ) → AreGrabbed by state → AreGrabbed by (after settings (event.Begin w j) state)

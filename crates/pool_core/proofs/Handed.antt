@@ -10,16 +10,16 @@ use Rattle.pool_core.specs.Kept.{IsSoundState}
 use Rattle.pool_core.specs.Book.{Book}
 use Rattle.pool_core.specs.Laws.{ExtendsState, Called, Outcome, Leaves, AllCalled, last_of, all_forgotten, AreNext, JobsAreHandedOutOnce}
 use Rattle.pool_core.proofs.Sound.{sound_after}
-use Rattle.pool_core.proofs.Grabbers.{got_front}
+use Rattle.pool_core.proofs.Grabbers.{got_prefix}
 use Rattle.pool_core.proofs.Lasting.{same_jobs, same_slots, extends_after, extends_trans, chapter_sound}
 
-front_by : {X : Type 0} (xs ys : List X) (i : ℕ) (x : X) (b : Bool) → cond b None (slice_get xs i) ≡ Some x → cond b None (slice_get (xs ++ ys) i) ≡ Some x
-front_by xs ys i x true is = absurd (cc)
-front_by xs ys i x false is = got_front xs ys i x is
+prefix_by : {X : Type 0} (xs ys : List X) (i : ℕ) (x : X) (b : Bool) → cond b None (slice_get xs i) ≡ Some x → cond b None (slice_get (xs ++ ys) i) ≡ Some x
+prefix_by xs ys i x true is = absurd (cc)
+prefix_by xs ys i x false is = got_prefix xs ys i x is
 
 -- a job stays where more are grabbed
 job_stays : (old new : State) (k : ℕ) (x : Job) → ExtendsState old new → job_at old.jobs k ≡ Some x → job_at new.jobs k ≡ Some x
-job_stays old new k x h is = ap (λ (xs : List Job). job_at xs k) h.jobs.1 ∙ front_by old.jobs h.jobs.0 (k - 1) x (k == 0) is
+job_stays old new k x h is = ap (λ (xs : List Job). job_at xs k) h.jobs.1 ∙ prefix_by old.jobs h.jobs.0 (k - 1) x (k == 0) is
 
 -- a call leaves the state, or one that extends it, and it stays sound
 record Goes (old new : Book) : Type 0 where
@@ -77,9 +77,9 @@ said_none n m gs fs last e none h = subst (λ (k : ℕ). Said k (gs ++ fs) last)
 -- a call that hands out one
 said_one : (n m : ℕ) (f : Forgotten) (gs fs : List Forgotten) (old : State) (last : Book) → m ≡ n + 1 → gs ≡ f ∷ [] → ExtendsState old last.state
     → f.ticket ≡ n + 1 → job_at old.jobs f.ticket ≡ Some f.job → standing_in old.standings f.ticket ≡ Some f.standing → is_open f.standing ≡ false → Said m fs last → Said n (gs ++ fs) last
-said_one n m f gs fs old last e one h ticket job stands closed rest =
+said_one n m f gs fs old last e one h ticket job is_some_and closed rest =
     subst (λ (g : List Forgotten). Said n (g ++ fs) last) (sym one) (
-      (ticket, job_stays old last.state f.ticket f.job h job, h.closed f.ticket f.standing stands closed, closed, subst (λ (k : ℕ). AreNext k fs last.state) e rest.0),
+      (ticket, job_stays old last.state f.ticket f.job h job, h.closed f.ticket f.standing is_some_and closed, closed, subst (λ (k : ℕ). AreNext k fs last.state) e rest.0),
       omega (arith, e, rest.1),
     )
 

@@ -31,21 +31,21 @@ length-owners_from m [] = refl
 length-owners_from m (n ∷ ns) =
     length-append (replicate n m) (owners_from (m + 1) ns) ∙ omega (arith, length-copies n m, length-owners_from (m + 1) ns, sum_by-cons (λ (x : ℕ). x) n ns)
 
--- the mark at the place behind a front
-mark_at : (front marks : List Bool) (mark : Bool) → slice_index_or (front ++ mark ∷ marks) (length front) false ≡ mark
+-- the mark at the place after a prefix
+mark_at : (prefix marks : List Bool) (mark : Bool) → slice_index_or (prefix ++ mark ∷ marks) (length prefix) false ≡ mark
 mark_at [] marks mark = refl
-mark_at (b ∷ front) marks mark = mark_at front marks mark
+mark_at (b ∷ prefix) marks mark = mark_at prefix marks mark
 
-walk_from : (front : List Bool) (machines : List ℕ) (slots : List Slot) → length slots ≡ length machines
-    → filter (λ worker. slice_index_or (front ++ map is_live slots) worker.0 false) (enumerate_from (length front) machines) ≡ live_from (length front) machines slots
-walk_from front [] slots e = refl
-walk_from front (machine ∷ machines) [] e = absurd (omega arith)
-walk_from front (machine ∷ machines) (slot ∷ slots) e =
-    let here : slice_index_or (front ++ is_live slot ∷ map is_live slots) (length front) false ≡ is_live slot = mark_at front (map is_live slots) (is_live slot) in
-    let next : length (front ++ is_live slot ∷ []) ≡ length front + 1 = length-append front (is_live slot ∷ []) in
-    let later : filter (λ worker. slice_index_or (front ++ is_live slot ∷ map is_live slots) worker.0 false) (enumerate_from (length front + 1) machines) ≡ live_from (length front + 1) machines slots =
-    subst (λ (n : ℕ). filter (λ worker. slice_index_or (front ++ is_live slot ∷ map is_live slots) worker.0 false) (enumerate_from n machines) ≡ live_from n machines slots) next
-    (subst (λ (all : List Bool). filter (λ worker. slice_index_or all worker.0 false) (enumerate_from (length (front ++ is_live slot ∷ [])) machines) ≡ live_from (length (front ++ is_live slot ∷ [])) machines slots) (append_assoc front (is_live slot ∷ []) (map is_live slots)) (walk_from (front ++ is_live slot ∷ []) machines slots (omega arith))) in
+walk_from : (prefix : List Bool) (machines : List ℕ) (slots : List Slot) → length slots ≡ length machines
+    → filter (λ worker. slice_index_or (prefix ++ map is_live slots) worker.0 false) (enumerate_from (length prefix) machines) ≡ live_from (length prefix) machines slots
+walk_from prefix [] slots e = refl
+walk_from prefix (machine ∷ machines) [] e = absurd (omega arith)
+walk_from prefix (machine ∷ machines) (slot ∷ slots) e =
+    let here : slice_index_or (prefix ++ is_live slot ∷ map is_live slots) (length prefix) false ≡ is_live slot = mark_at prefix (map is_live slots) (is_live slot) in
+    let next : length (prefix ++ is_live slot ∷ []) ≡ length prefix + 1 = length-append prefix (is_live slot ∷ []) in
+    let later : filter (λ worker. slice_index_or (prefix ++ is_live slot ∷ map is_live slots) worker.0 false) (enumerate_from (length prefix + 1) machines) ≡ live_from (length prefix + 1) machines slots =
+    subst (λ (n : ℕ). filter (λ worker. slice_index_or (prefix ++ is_live slot ∷ map is_live slots) worker.0 false) (enumerate_from n machines) ≡ live_from n machines slots) next
+    (subst (λ (all : List Bool). filter (λ worker. slice_index_or all worker.0 false) (enumerate_from (length (prefix ++ is_live slot ∷ [])) machines) ≡ live_from (length (prefix ++ is_live slot ∷ [])) machines slots) (append_assoc prefix (is_live slot ∷ []) (map is_live slots)) (walk_from (prefix ++ is_live slot ∷ []) machines slots (omega arith))) in
     rw (here, later) refl
 
 -- what stands at a place that is there, whatever stands for one that is not
@@ -76,7 +76,7 @@ walk_meets machines slots listed all next n a b live so_far here =
     let rest = live_from (n + 1) (drop (n + 1) machines) (drop (n + 1) slots) in
     let more : take (next + 1) listed ≡ take next listed ++ (n, get_or machines n 0) ∷ [] = take_more listed next (0, 0) within ∙ ap (λ (w : ℕ × ℕ). take next listed ++ w ∷ []) found in (
       omega (arith, within),
-      ap (λ (front : List (ℕ × ℕ)). front ++ rest) more ∙ append_assoc (take next listed) ((n, get_or machines n 0) ∷ []) rest
+      ap (λ (prefix : List (ℕ × ℕ)). prefix ++ rest) more ∙ append_assoc (take next listed) ((n, get_or machines n 0) ∷ []) rest
           ∙ ap (λ (back : List (ℕ × ℕ)). take next listed ++ back) (sym (walk_live machines slots n a b live)) ∙ so_far,
     )
 
@@ -87,9 +87,9 @@ pub walk_passes : (machines : List ℕ) (slots : List Slot) (listed all : List (
 walk_passes machines slots listed all next n a b live so_far =
     ap (λ (back : List (ℕ × ℕ)). take next listed ++ back) (sym (walk_empty machines slots n a b live)) ∙ so_far
 
-get_behind : {X : Type 0} (xs ys : List X) (y : X) → slice_get (xs ++ y ∷ ys) (length xs) ≡ Some y
-get_behind [] ys y = refl
-get_behind (x ∷ xs) ys y = get_behind xs ys y
+get_after : {X : Type 0} (xs ys : List X) (y : X) → slice_get (xs ++ y ∷ ys) (length xs) ≡ Some y
+get_after [] ys y = refl
+get_after (x ∷ xs) ys y = get_after xs ys y
 
 -- a live worker that is not listed
 pub walk_misses : (machines : List ℕ) (slots : List Slot) (listed all : List (ℕ × ℕ)) (next n : ℕ) → n < length machines → n < length slots → next ≤ length listed → is_live (get_or slots n (Empty 0)) ≡ true
@@ -99,13 +99,13 @@ walk_misses machines slots listed all next n a b within live so_far same =
     let long : length (take next listed) ≡ next = omega (arith, within, length-take next listed) in
     let parts_are : listed ≡ take next listed ++ (n, get_or machines n 0) ∷ rest = same ∙ sym so_far ∙ ap (λ (back : List (ℕ × ℕ)). take next listed ++ back) (walk_live machines slots n a b live) in
     ap (λ (xs : List (ℕ × ℕ)). slice_get xs next) parts_are
-    ∙ subst (λ (i : ℕ). slice_get (take next listed ++ (n, get_or machines n 0) ∷ rest) i ≡ Some (n, get_or machines n 0)) long (get_behind (take next listed) rest (n, get_or machines n 0))
+    ∙ subst (λ (i : ℕ). slice_get (take next listed ++ (n, get_or machines n 0) ∷ rest) i ≡ Some (n, get_or machines n 0)) long (get_after (take next listed) rest (n, get_or machines n 0))
 
 -- the end of a walk
-pub walk_over : (machines : List ℕ) (slots : List Slot) (front all : List (ℕ × ℕ)) (n : ℕ) → length machines ≤ n → front ++ live_from n (drop n machines) (drop n slots) ≡ all → front ≡ all
-walk_over machines slots front all n over so_far =
+pub walk_over : (machines : List ℕ) (slots : List Slot) (prefix all : List (ℕ × ℕ)) (n : ℕ) → length machines ≤ n → prefix ++ live_from n (drop n machines) (drop n slots) ≡ all → prefix ≡ all
+walk_over machines slots prefix all n over so_far =
     let none : drop n machines ≡ [] = nil_from_length (drop n machines) (omega (arith, over, length-drop n machines)) in
-    sym (append-nil front) ∙ ap (λ (ms : List ℕ). front ++ live_from n ms (drop n slots)) (sym none) ∙ so_far
+    sym (append-nil prefix) ∙ ap (λ (ms : List ℕ). prefix ++ live_from n ms (drop n slots)) (sym none) ∙ so_far
 
 -- all that a walk met are listed where the list ends with it
 pub walk_end : (listed live : List (ℕ × ℕ)) (next : ℕ) → next ≤ length listed → take next listed ≡ live

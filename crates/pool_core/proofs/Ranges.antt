@@ -41,7 +41,7 @@ order_within what round (Empty last) order h few known = h
 order_within what round (Live generation runs ticket) order h few known =
     cond_both ((order.generation == generation) && same_what order.what what) order (record { generation = generation; round = round; what = what }) IsOrder (λ e. h) (λ e. record { generation = few; function = known refl })
 
--- the first live worker of a walk, and those behind it
+-- the first live worker of a walk, and those after it
 walk_parts : (p : (ℕ × ℕ) → Bool) (b : Bool) (worker : ℕ × ℕ) (rest : List (ℕ × ℕ)) → list_all p (if b then worker ∷ rest else rest) ≡ true → (b ≡ true → p worker ≡ true) × (list_all p rest ≡ true)
 walk_parts p true worker rest h = let t = and_parts (p worker) (list_all p rest) h in (λ e. t.0, t.1)
 walk_parts p false worker rest h = (λ e. absurd (false≢true e), h)

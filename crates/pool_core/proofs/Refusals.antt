@@ -16,7 +16,7 @@ use Rattle.pool_core.specs.declared.error.ExpireError.TheVariants as expire
 use Rattle.worker_state.specs.declared.job.EndKind.{EndKind}
 use Rattle.pool_core.specs.declared.event.Event.TheVariants as event
 use Rattle.pool_core.specs.Machine.{IsPossible, is_live_in, open_ticket, has_open, standing_in, slot_in, owed}
-use Rattle.pool_core.specs.Book.{Book, begin_refusal, report_refusal, grab_refusal, join_refusal, lose_refusal, expire_refusal, late_refusal, stands, has_room}
+use Rattle.pool_core.specs.Book.{Book, begin_refusal, report_refusal, grab_refusal, join_refusal, lose_refusal, expire_refusal, late_refusal, is_some_and, has_room}
 
 -- the tests that were passed
 all_three : {R : Type 0} (a b c : Bool) (x y z : R) → (if a then (if b then (if c then None else Some z) else Some y) else Some x) ≡ None → (a ≡ true) × (b ≡ true) × (c ≡ true)
@@ -25,14 +25,14 @@ all_three true true false x y z h = absurd (cc)
 all_three true false c x y z h = absurd (cc)
 all_three false b c x y z h = absurd (cc)
 
-running_is : (o : Option Standing) → stands is_running o ≡ true → o ≡ Some standing.Running
+running_is : (o : Option Standing) → is_some_and is_running o ≡ true → o ≡ Some standing.Running
 running_is None h = absurd (false≢true h)
 running_is (Some standing.Running) h = refl
 running_is (Some standing.Reporting) h = absurd (false≢true h)
 running_is (Some (standing.Reported end)) h = absurd (false≢true h)
 running_is (Some (standing.Lost worker cause)) h = absurd (false≢true h)
 
-reporting_is : (o : Option Standing) → stands is_reporting o ≡ true → o ≡ Some standing.Reporting
+reporting_is : (o : Option Standing) → is_some_and is_reporting o ≡ true → o ≡ Some standing.Reporting
 reporting_is None h = absurd (false≢true h)
 reporting_is (Some standing.Running) h = absurd (false≢true h)
 reporting_is (Some standing.Reporting) h = refl
@@ -41,12 +41,12 @@ reporting_is (Some (standing.Lost worker cause)) h = absurd (false≢true h)
 
 pub begin_possible : (book : Book) (w : WorkerName) (k : ℕ) → begin_refusal book w k ≡ None → IsPossible book.settings (event.Begin w k) book.state
 begin_possible book w k h =
-    let t = all_three (is_live_in book.state w) (has_open (open_ticket book.state w) k) (stands is_running (standing_in book.state.standings k)) begin.Gone begin.WrongTicket begin.AlreadyReporting h in
+    let t = all_three (is_live_in book.state w) (has_open (open_ticket book.state w) k) (is_some_and is_running (standing_in book.state.standings k)) begin.Gone begin.WrongTicket begin.AlreadyReporting h in
     (t.0, t.1, running_is (standing_in book.state.standings k) t.2)
 
 pub report_possible : (book : Book) (w : WorkerName) (k : ℕ) (end : EndKind) → report_refusal book w k ≡ None → IsPossible book.settings (event.Reported w k end) book.state
 report_possible book w k end h =
-    let t = all_three (is_live_in book.state w) (has_open (open_ticket book.state w) k) (stands is_reporting (standing_in book.state.standings k)) report.Gone report.WrongTicket report.NotReporting h in
+    let t = all_three (is_live_in book.state w) (has_open (open_ticket book.state w) k) (is_some_and is_reporting (standing_in book.state.standings k)) report.Gone report.WrongTicket report.NotReporting h in
     (t.0, t.1, reporting_is (standing_in book.state.standings k) t.2)
 
 full_or : {R : Type 0} (a b c : Bool) (x y z : R) → (if a then (if b then Some y else if c then None else Some z) else Some x) ≡ None → (a ≡ true) × (b ≡ false) × (c ≡ true)

@@ -20,7 +20,7 @@ use Rattle.pool_core.proofs.Tables.{standing_given, open_is}
 use Rattle.pool_core.proofs.Sound.{generation_last}
 use Rattle.pool_core.proofs.Lasting.{standing_from, histories_are_sound_lem}
 use Rattle.pool_core.proofs.Booked.{jobs_are_booked_once_lem}
-use Rattle.pool_core.proofs.Grabbers.{AreGrabbed, got_front, stood, closed_pushed, grabbed_after, grabbed_all, grabbed_first, held_by_grabber}
+use Rattle.pool_core.proofs.Grabbers.{AreGrabbed, got_prefix, stood, closed_pushed, grabbed_after, grabbed_all, grabbed_first, held_by_grabber}
 
 -- each reported job and each lost one has its event
 record AreTold (past : List Event) (state : State) : Type 0 where
@@ -33,7 +33,7 @@ happened_more e past next (earlier, later, is) =
 
 got_more : (past : List Event) (next : Event) (i : ℕ) (w : WorkerName) → slice_get (grabbers past) i ≡ Some w → slice_get (grabbers (past ++ next ∷ [])) i ≡ Some w
 got_more past next i w got =
-    ap (λ (ws : List WorkerName). slice_get ws i) (filter_map-append grabber_of past (next ∷ [])) ∙ got_front (grabbers past) (grabbers (next ∷ [])) i w got
+    ap (λ (ws : List WorkerName). slice_get ws i) (filter_map-append grabber_of past (next ∷ [])) ∙ got_prefix (grabbers past) (grabbers (next ∷ [])) i w got
 
 reported_more : (past : List Event) (next : Event) (k : ℕ) (end : EndKind) → IsReportedByGrabber past k end → IsReportedByGrabber (past ++ next ∷ []) k end
 reported_more past next k end (w, got, there) = (w, got_more past next (k - 1) w got, happened_more (event.Reported w k end) past next there)

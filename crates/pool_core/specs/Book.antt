@@ -61,9 +61,9 @@ pub record IsStep (event : Event) (old new : Book) : Type 0 where
   pub forgotten : new.forgotten ≡ old.forgotten
 
 -- the ticket was given, and its job is in such a state
-abbrev pub stands : (Standing → Bool) → Option Standing → Bool
-stands is_so None = false
-stands is_so (Some standing) = is_so standing
+abbrev pub is_some_and : (Standing → Bool) → Option Standing → Bool
+is_some_and is_so None = false
+is_some_and is_so (Some standing) = is_so standing
 
 -- what the pool can tell of a ticket: a forgotten one has no standing and no job
 abbrev pub unless_forgotten : {A : Type 0} → ℕ → ℕ → Option A → Option A
@@ -76,8 +76,8 @@ abbrev pub kept_job : Book → ℕ → Option Job
 kept_job book ticket = unless_forgotten book.forgotten ticket (job_at book.state.jobs ticket)
 
 -- the job of the first ticket that is not forgotten is there, and is reported or lost
-abbrev pub has_closed_front : Book → Bool
-has_closed_front book = stands (λ standing. not (is_open standing)) (standing_in book.state.standings (book.forgotten + 1))
+abbrev pub has_closed_prefix : Book → Bool
+has_closed_prefix book = is_some_and (λ standing. not (is_open standing)) (standing_in book.state.standings (book.forgotten + 1))
 
 -- there is room for q events beside those owed
 abbrev pub has_room : Book → ℕ → Bool
@@ -104,7 +104,7 @@ abbrev pub begin_refusal : Book → WorkerName → ℕ → Option BeginError
 begin_refusal book worker ticket =
     if is_live_in book.state worker
     then (if has_open (open_ticket book.state worker) ticket
-    then (if stands is_running (standing_in book.state.standings ticket) then None else Some begin.AlreadyReporting)
+    then (if is_some_and is_running (standing_in book.state.standings ticket) then None else Some begin.AlreadyReporting)
     else Some begin.WrongTicket)
     else Some begin.Gone
 
@@ -112,7 +112,7 @@ abbrev pub report_refusal : Book → WorkerName → ℕ → Option ReportError
 report_refusal book worker ticket =
     if is_live_in book.state worker
     then (if has_open (open_ticket book.state worker) ticket
-    then (if stands is_reporting (standing_in book.state.standings ticket) then None else Some report.NotReporting)
+    then (if is_some_and is_reporting (standing_in book.state.standings ticket) then None else Some report.NotReporting)
     else Some report.WrongTicket)
     else Some report.Gone
 
@@ -123,7 +123,7 @@ lose_refusal book worker = if is_live_in book.state worker then None else Some l
 abbrev pub late_refusal : Book → WorkerName → ℕ → Option ℕ → Option ExpireError
 late_refusal book worker now None = Some expire.NoJob
 late_refusal book worker now (Some ticket) =
-    if stands is_reporting (standing_in book.state.standings ticket) then Some expire.Reporting
+    if is_some_and is_reporting (standing_in book.state.standings ticket) then Some expire.Reporting
     else if nat_le (slice_index book.state.grab_times worker.slot + book.settings.job_timeout_ms) now then None
     else Some expire.NotLate
 

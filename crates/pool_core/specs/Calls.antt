@@ -35,7 +35,7 @@ use Rattle.pool_core.specs.Machine.{slot_in, next_ticket, standing_in, job_at}
 use Rattle.pool_core.specs.Kept.{IsChapter}
 use Rattle.pool_core.specs.Book.{Book, IsStep, IsInputOf, KeepsPlan, has_round, join_refusal, load_refusal, round_refusal, view_refusal}
 use Rattle.pool_core.specs.Book.{grab_refusal, begin_refusal, report_refusal, lose_refusal, expire_refusal, chapter_refusal, stay_or_retire}
-use Rattle.pool_core.specs.Book.{ran_of, next_chapter, has_closed_front, forget_first}
+use Rattle.pool_core.specs.Book.{ran_of, next_chapter, has_closed_prefix, forget_first}
 
 -- The call is this event, or it is refused and changes nothing.
 abbrev pub Makes : {A E : Type 0} → Event → Book → Book → Result A E → Type 0
@@ -120,7 +120,7 @@ abbrev pub Forgets : Book → Book → Option Forgotten → Type 0
 Forgets old new result =
     IfSome result (λ f. (f.ticket ≡ old.forgotten + 1) × (job_at old.state.jobs f.ticket ≡ Some f.job))
     × IfSome result (λ f. (standing_in old.state.standings f.ticket ≡ Some f.standing) × (is_open f.standing ≡ false))
-    × (is_some result ≡ has_closed_front old)
+    × (is_some result ≡ has_closed_prefix old)
     × OnSome result (new ≡ forget_first old)
     × IfNone result (new ≡ old)
 

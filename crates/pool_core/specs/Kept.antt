@@ -70,6 +70,6 @@ pub record IsKeptBook (book : Book) (owes reported lost capacity : ℕ) : Type 0
   pub owes_is : owes ≡ owed book.state
   pub reported_is : reported ≡ count_by is_reported book.state.standings
   pub lost_is : lost ≡ count_by is_lost book.state.standings
-  pub front : AreClosed book.state.standings book.forgotten
+  pub prefix : AreClosed book.state.standings book.forgotten
   pub within : length book.events + owes ≤ book.settings.history
   pub reserved : length book.events + owes ≤ capacity

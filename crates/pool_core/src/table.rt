@@ -4,7 +4,7 @@ ghost use Rattle.std.specs.Prelude.{if◌then◌else◌, IfSome, IfOk, OnOk, rep
 ghost use Rattle.worker_state.specs.Slots as slots;
 ghost use Rattle.pool_core.specs.Machine.{slot_in, standing_in, job_at, with_lost};
 ghost use Rattle.pool_core.specs.Machine as machine;
-ghost use Rattle.pool_core.specs.Book.{stands, unless_forgotten};
+ghost use Rattle.pool_core.specs.Book.{is_some_and, unless_forgotten};
 ghost use Rattle.std.specs.Option.{option_copied};
 ghost use Rattle.pool_core.specs.Kept.{closing_of, lost_of};
 ghost use Rattle.worker_state.specs.Orders.{no_order};
@@ -83,7 +83,7 @@ pub fn put_standing(standings: &mut LongList<Standing>, ticket: Ticket, to: Stan
 
 /// Whether the job of a ticket is being run.
 pub fn is_running(standing: Option<Standing>) -> bool
-    ensures { result ≡ stands slots.is_running standing }
+    ensures { result ≡ is_some_and slots.is_running standing }
 {
     match standing {
         None => false,
@@ -93,7 +93,7 @@ pub fn is_running(standing: Option<Standing>) -> bool
 
 /// Whether the answer to the job of a ticket is being written.
 pub fn is_reporting(standing: Option<Standing>) -> bool
-    ensures { result ≡ stands slots.is_reporting standing }
+    ensures { result ≡ is_some_and slots.is_reporting standing }
 {
     match standing {
         None => false,

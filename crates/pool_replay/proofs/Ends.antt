@@ -10,7 +10,7 @@ use Rattle.pool_replay.specs.Step.{StepOf}
 use Rattle.pool_replay.specs.Transcript.{IsTranscript, AnswersLine, first_desk}
 use Rattle.text_pieces.specs.Lines.{ended}
 
--- a run may end at any line for want of memory
+-- a run may end at any line if memory runs out
 pub gives_up : (p : Settings) (number : ℕ) (desk : Desk) (lines : List (List ℕ)) (line : List ℕ) (rest : List (List ℕ))
     → lines ≡ line ∷ rest → IsTranscript p number desk lines [] end.Memory
 gives_up p number desk lines line rest cut =
@@ -33,9 +33,9 @@ one_more p number desk lines line rest command answer next out how cut is step m
     subst (λ ls. IsTranscript p number desk ls (ended answer ++ out) how) (sym cut)
     (more.0, inr (command, answer, out, next, is, step, refl, more.1))
 
--- ---- behind what was printed so far
+-- ---- after what was printed so far
 
--- each transcript from here on, behind what was printed, is one from the first line on
+-- each transcript from here on, after what was printed, is one from the first line on
 abbrev pub LeadsOn : Settings → List (List ℕ) → List ℕ → ℕ → Desk → List (List ℕ) → Type 0
 LeadsOn p all printed number desk lines =
     (out : List ℕ) (how : End) → IsTranscript p number desk lines out how → IsTranscript p 1 (first_desk p) all (printed ++ out) how

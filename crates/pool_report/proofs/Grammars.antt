@@ -24,7 +24,7 @@ use Rattle.pool_report.proofs.Whole.{Below, worker_read}
 use Rattle.pool_report.proofs.Written.{lines_read}
 use Rattle.pool_report.proofs.GrammarsBack.{out, report_back}
 
--- ---- what is spelled, read
+-- ---- what is encoded, read
 
 module _ (p : Settings) (valid : AreSettings p) where
   below_of : (o : Option ℕ) → IsFunctionOrNone p o → Below (length p.functions) o
@@ -93,18 +93,18 @@ module _ (p : Settings) (valid : AreSettings p) where
       let rest = needs_lead sums.functions set b es [] a 0 is.2 in
       (rest.0, leads_on p _ _ _ (short_line sums.need sums.have) (flat_map needed_line sums.functions) first rest.1)
 
-  -- stranded functions and the end, behind what has told an answer
-  closed : (front : List ℕ) (left : List Stranded) (s : Stage) (b : Option ℕ) (es : List (ℕ × Option ℕ)) (set : Option (List ℕ)) (a c : ℕ) → is_complete s ≡ true
-      → Leads p start (ended (codes "report 1") ++ front) (at s b es set a c 0) → AreLeft p 0 left
-      → meaning p (ended (codes "report 1") ++ front ++ flat_map stranded_line left ++ ended (codes "end")) ≡ Ok (out p b es set)
-  closed front left s b es set a c complete on there =
+  -- stranded functions and the end, after what has told an answer
+  closed : (prefix : List ℕ) (left : List Stranded) (s : Stage) (b : Option ℕ) (es : List (ℕ × Option ℕ)) (set : Option (List ℕ)) (a c : ℕ) → is_complete s ≡ true
+      → Leads p start (ended (codes "report 1") ++ prefix) (at s b es set a c 0) → AreLeft p 0 left
+      → meaning p (ended (codes "report 1") ++ prefix ++ flat_map stranded_line left ++ ended (codes "end")) ≡ Ok (out p b es set)
+  closed prefix left s b es set a c complete on there =
       let rest = left_lead left s b es set a c 0 complete there in
       let d = at rest.0 b es set a c rest.1 in
       let e = at stage.Done b es set a c rest.1 in
       let done : Leads p d (ended (codes "end")) e = leads_line p d e (ended (codes "end")) last lines_read.end (rw rest.2 refl) in
-      let text = ended (codes "report 1") ++ front ++ flat_map stranded_line left ++ ended (codes "end") in
-      let all = leads_on p start d e (ended (codes "report 1") ++ front ++ flat_map stranded_line left) (ended (codes "end"))
-      (leads_on p start (at s b es set a c 0) d (ended (codes "report 1") ++ front) (flat_map stranded_line left) on rest.3) done in
+      let text = ended (codes "report 1") ++ prefix ++ flat_map stranded_line left ++ ended (codes "end") in
+      let all = leads_on p start d e (ended (codes "report 1") ++ prefix ++ flat_map stranded_line left) (ended (codes "end"))
+      (leads_on p start (at s b es set a c 0) d (ended (codes "report 1") ++ prefix) (flat_map stranded_line left) on rest.3) done in
       let read = all 1 [] in
       ap (λ (t : List ℕ). meaning_from p 1 start (slice_split is_line_feed t)) (sym (append-nil text)) ∙ read.1
 

@@ -14,7 +14,7 @@ use Rattle.pool_settings.specs.Settings.{AreSettings, Settings}
 use Rattle.pool_settings.specs.Slots as slots
 use Rattle.pool_settings.proofs.OneToOne.{names_paired, slots_paired}
 use Rattle.pool_report.specs.Grammar.{AreEntries, AreLeft, AreNeeded, IsFunctionOrNone, IsReportOf, IsSet, IsSetOrNone, listed_worker}
-use Rattle.pool_report.specs.Law.{Spells}
+use Rattle.pool_report.specs.Law.{Encodes}
 use Rattle.pool_report.specs.Lines.{ReportLine, backlog, head, last, line_of, needed, no_plan, short, stranded, task}
 use Rattle.pool_report.specs.Reading.{Draft, is_complete, meaning, meaning_from, place, place_function, start}
 use Rattle.text_pieces.specs.Lines.{ended, is_line_feed}
@@ -23,7 +23,7 @@ use Rattle.pool_report.specs.declared.stage.Misread.{Misread}
 use Rattle.pool_report.specs.declared.stage.Misread.TheVariants as misread
 use Rattle.pool_report.specs.declared.stage.Stage.{Stage}
 use Rattle.pool_report.specs.declared.stage.Stage.TheVariants as stage
-use Rattle.pool_report.proofs.Spelled.{lines_spelled}
+use Rattle.pool_report.proofs.Encoded.{lines_encoded}
 use Rattle.text_pieces.proofs.Lines.{first_part}
 use Rattle.pool_report.proofs.Walks.{at}
 
@@ -57,19 +57,19 @@ joined (x ∷ xs) = by (is_line_feed x) refl (first_part xs) (joined xs)
         let tail : text_of (parts.0 ∷ parts.1) ≡ xs = rw parts.2 at rest in
         rw (other, parts.2) (onto x parts.0 parts.1 ∙ ap (λ (t : List ℕ). x ∷ t) tail)
 
--- ---- what was read, back to what is spelled
+-- ---- what was read, back to what is encoded
 
 module _ (p : Settings) where
   -- one line more was read: what it tells and where it leads
   step_back : (n : ℕ) (d : Draft) (line next : List ℕ) (rest : List (List ℕ)) (answer : Answer) → meaning_from p n d (line ∷ next ∷ rest) ≡ Ok answer
-      → (told : ReportLine) × (more : Draft) × Spells (ended line) told × (place p d told ≡ Ok more) × (meaning_from p (n + 1) more (next ∷ rest) ≡ Ok answer)
+      → (told : ReportLine) × (more : Draft) × Encodes (ended line) told × (place p d told ≡ Ok more) × (meaning_from p (n + 1) more (next ∷ rest) ≡ Ok answer)
   step_back n d line next rest answer e = by (line_of line) refl
     where
       Step : Type 0
-      Step = (told : ReportLine) × (more : Draft) × Spells (ended line) told × (place p d told ≡ Ok more) × (meaning_from p (n + 1) more (next ∷ rest) ≡ Ok answer)
+      Step = (told : ReportLine) × (more : Draft) × Encodes (ended line) told × (place p d told ≡ Ok more) × (meaning_from p (n + 1) more (next ∷ rest) ≡ Ok answer)
 
       placed : (told : ReportLine) → line_of line ≡ Some told → (r : Result Draft Misread) → place p d told ≡ r → Step
-      placed told is (Ok more) on = (told, more, lines_spelled line told is, on, rw (is, on) at e)
+      placed told is (Ok more) on = (told, more, lines_encoded line told is, on, rw (is, on) at e)
       placed told is (Err misread.Bad) on = absurd (not_ok _ answer (rw (is, on) at e))
       placed told is (Err misread.Unknown) on = absurd (not_ok _ answer (rw (is, on) at e))
       placed told is (Err misread.Memory) on = absurd (not_ok _ answer (rw (is, on) at e))
@@ -81,7 +81,7 @@ module _ (p : Settings) where
   abbrev pub out : Option ℕ → List (ℕ × Option ℕ) → Option (List ℕ) → Answer
   out b es set = option_map_or (λ k. Planned es k set) b (NoPlan (unwrap_or set []))
 
-  -- nothing stands behind `end`
+  -- nothing stands after `end`
   done_back : (parts : List (List ℕ)) (n : ℕ) (b : Option ℕ) (es : List (ℕ × Option ℕ)) (set : Option (List ℕ)) (a c l : ℕ) (answer : Answer)
       → meaning_from p n (at stage.Done b es set a c l) parts ≡ Ok answer → (text_of parts ≡ []) × (answer ≡ out b es set)
   done_back [] n b es set a c l answer e = absurd (not_ok _ answer e)
@@ -132,34 +132,34 @@ module _ (p : Settings) where
         → is_complete s ≡ true → place p (at s b es set a c l) last ≡ Ok more → more ≡ at stage.Done b es set a c l
     last_placed s b es set a c l more complete e = sym (same_ok _ _ (rw complete at e))
 
-    -- a line more in front of what stands behind it
-    in_front : (line front text behind : List ℕ) → ended line ≡ front → text ≡ behind → line ++ 10 ∷ text ≡ front ++ behind
-    in_front line front text behind is same = ap (λ (t : List ℕ). line ++ 10 ∷ t) same ∙ sym (append_assoc line (10 ∷ []) behind) ∙ ap (λ (t : List ℕ). t ++ behind) is
+    -- a line more before what stands after it
+    in_prefix : (line prefix text after : List ℕ) → ended line ≡ prefix → text ≡ after → line ++ 10 ∷ text ≡ prefix ++ after
+    in_prefix line prefix text after is same = ap (λ (t : List ℕ). line ++ 10 ∷ t) same ∙ sym (append_assoc line (10 ∷ []) after) ∙ ap (λ (t : List ℕ). t ++ after) is
 
     -- the line is that of a stranded function, or the last
     left_from : (s : Stage) (b : Option ℕ) (es : List (ℕ × Option ℕ)) (set : Option (List ℕ)) (a c l : ℕ) (line text name : List ℕ) (more : Draft) (Goes : Draft → Type 0)
-        → is_complete s ≡ true → Spells (ended line) (stranded name) → place p (at s b es set a c l) (stranded name) ≡ Ok more → Goes more
+        → is_complete s ≡ true → Encodes (ended line) (stranded name) → place p (at s b es set a c l) (stranded name) ≡ Ok more → Goes more
         → ((f : ℕ) → Goes (at stage.Leftovers b es set a c f) → Tail f (out b es set) text) → Tail l (out b es set) (line ++ 10 ∷ text)
-    left_from s b es set a c l line text name more Goes complete spelled placed goes again =
+    left_from s b es set a c l line text name more Goes complete encoded placed goes again =
         let at_f = stranded_placed s b es set a c l name more complete placed in
         let f = at_f.0 in
         let known = function_back name f at_f.1 in
         let rest = again (f + 1) (subst Goes at_f.3 goes) in
-        let one : Stranded = record { function = name; waiting = spelled.0 } in (
+        let one : Stranded = record { function = name; waiting = encoded.0 } in (
           one ∷ rest.0,
-          (f, at_f.2, known.0, sym known.1, spelled.2, rest.1),
-          in_front line (stranded_line one) text (flat_map stranded_line rest.0 ++ ended (codes "end")) spelled.3 rest.2
+          (f, at_f.2, known.0, sym known.1, encoded.2, rest.1),
+          in_prefix line (stranded_line one) text (flat_map stranded_line rest.0 ++ ended (codes "end")) encoded.3 rest.2
               ∙ sym (append_assoc (stranded_line one) (flat_map stranded_line rest.0) (ended (codes "end"))),
           rest.3,
         )
 
     last_from : (s : Stage) (b : Option ℕ) (es : List (ℕ × Option ℕ)) (set : Option (List ℕ)) (a c l : ℕ) (line : List ℕ) (parts : List (List ℕ)) (n : ℕ) (more : Draft)
-        → is_complete s ≡ true → Spells (ended line) last → place p (at s b es set a c l) last ≡ Ok more → meaning_from p n more parts ≡ Ok answer
+        → is_complete s ≡ true → Encodes (ended line) last → place p (at s b es set a c l) last ≡ Ok more → meaning_from p n more parts ≡ Ok answer
         → (m : ℕ) → Tail m (out b es set) (line ++ 10 ∷ text_of parts)
-    last_from s b es set a c l line parts n more complete spelled placed goes m =
+    last_from s b es set a c l line parts n more complete encoded placed goes m =
         let is = last_placed s b es set a c l more complete placed in
         let done = done_back parts n b es set a c l answer (subst (λ (d : Draft). meaning_from p n d parts ≡ Ok answer) is goes) in
-        ([], tt, in_front line (ended (codes "end")) (text_of parts) [] spelled done.0 ∙ append-nil (ended (codes "end")), done.1)
+        ([], tt, in_prefix line (ended (codes "end")) (text_of parts) [] encoded done.0 ∙ append-nil (ended (codes "end")), done.1)
 
     left_back : (parts : List (List ℕ)) (n : ℕ) (b : Option ℕ) (es : List (ℕ × Option ℕ)) (set : Option (List ℕ)) (a c l : ℕ)
         → meaning_from p n (at stage.Leftovers b es set a c l) parts ≡ Ok answer → Tail l (out b es set) (text_of parts)
@@ -169,23 +169,23 @@ module _ (p : Settings) where
         let s = step_back n (at stage.Leftovers b es set a c l) line next rest answer e in
         case s.0 s.1 s.2 s.3 s.4 (λ f h. left_back (next ∷ rest) (n + 1) b es set a c f h)
       where
-        case : (told : ReportLine) (more : Draft) → Spells (ended line) told → place p (at stage.Leftovers b es set a c l) told ≡ Ok more
+        case : (told : ReportLine) (more : Draft) → Encodes (ended line) told → place p (at stage.Leftovers b es set a c l) told ≡ Ok more
             → meaning_from p (n + 1) more (next ∷ rest) ≡ Ok answer
             → ((f : ℕ) → meaning_from p (n + 1) (at stage.Leftovers b es set a c f) (next ∷ rest) ≡ Ok answer → Tail f (out b es set) (text_of (next ∷ rest)))
             → Tail l (out b es set) (line ++ 10 ∷ text_of (next ∷ rest))
-        case head more spelled h goes again = absurd (not_ok _ more h)
-        case (backlog k) more spelled h goes again = absurd (not_ok _ more h)
-        case no_plan more spelled h goes again = absurd (not_ok _ more h)
-        case (task worker function) more spelled h goes again = absurd (not_ok _ more h)
-        case short more spelled h goes again = absurd (not_ok _ more h)
-        case (needed name) more spelled h goes again = absurd (not_ok _ more h)
-        case (stranded name) more spelled h goes again =
-            left_from stage.Leftovers b es set a c l line (text_of (next ∷ rest)) name more (λ d. meaning_from p (n + 1) d (next ∷ rest) ≡ Ok answer) refl spelled h goes again
-        case last more spelled h goes again = last_from stage.Leftovers b es set a c l line (next ∷ rest) (n + 1) more refl spelled h goes l
+        case head more encoded h goes again = absurd (not_ok _ more h)
+        case (backlog k) more encoded h goes again = absurd (not_ok _ more h)
+        case no_plan more encoded h goes again = absurd (not_ok _ more h)
+        case (task worker function) more encoded h goes again = absurd (not_ok _ more h)
+        case short more encoded h goes again = absurd (not_ok _ more h)
+        case (needed name) more encoded h goes again = absurd (not_ok _ more h)
+        case (stranded name) more encoded h goes again =
+            left_from stage.Leftovers b es set a c l line (text_of (next ∷ rest)) name more (λ d. meaning_from p (n + 1) d (next ∷ rest) ≡ Ok answer) refl encoded h goes again
+        case last more encoded h goes again = last_from stage.Leftovers b es set a c l line (next ∷ rest) (n + 1) more refl encoded h goes l
 
     -- ---- the set
 
-    -- lines of functions of a set, and the lines behind them
+    -- lines of functions of a set, and the lines after them
     abbrev SetTail : ℕ → Option ℕ → List (ℕ × Option ℕ) → List ℕ → List ℕ → Type 0
     SetTail c b es set text =
         (lines : List Needed) × (more : List ℕ) × (left : List Stranded) × AreNeeded p c lines more × AreLeft p 0 left
@@ -207,7 +207,7 @@ module _ (p : Settings) where
         by None none = absurd (not_ok _ more (rw none at e))
         by (Some f) found = order f found (ltb f c) refl
 
-    -- the lines behind a set end it
+    -- the lines after a set end it
     set_ends : (c : ℕ) (b : Option ℕ) (es : List (ℕ × Option ℕ)) (set text : List ℕ) → Tail 0 (out b es (Some set)) text → SetTail c b es set text
     set_ends c b es set text tail = ([], [], tail.0, tt, tail.1, tail.2, tail.3 ∙ ap (λ (fs : List ℕ). out b es (Some fs)) (sym (append-nil set)))
 
@@ -222,65 +222,65 @@ module _ (p : Settings) where
         Goes : Draft → Type 0
         Goes d = meaning_from p (n + 1) d (next ∷ rest) ≡ Ok answer
 
-        in_set : (name : List ℕ) (more : Draft) (spelled : Spells (ended line) (needed name)) → place p (at stage.Set b es (Some set) a c 0) (needed name) ≡ Ok more → Goes more
+        in_set : (name : List ℕ) (more : Draft) (encoded : Encodes (ended line) (needed name)) → place p (at stage.Set b es (Some set) a c 0) (needed name) ≡ Ok more → Goes more
             → ((f : ℕ) → Goes (at stage.Set b es (Some (set ++ f ∷ [])) a (f + 1) 0) → SetTail (f + 1) b es (set ++ f ∷ []) (text_of (next ∷ rest)))
             → SetTail c b es set (line ++ 10 ∷ text_of (next ∷ rest))
-        in_set name more spelled h goes again =
+        in_set name more encoded h goes again =
             let at_f = needed_placed b es set a c name more h in
             let f = at_f.0 in
             let known = function_back name f at_f.1 in
             let tail = again f (subst Goes at_f.3 goes) in
-            let one : Needed = record { function = name; need = spelled.0 } in (
+            let one : Needed = record { function = name; need = encoded.0 } in (
               one ∷ tail.0,
               f ∷ tail.1,
               tail.2,
-              (at_f.2, known.0, sym known.1, spelled.2, tail.3),
+              (at_f.2, known.0, sym known.1, encoded.2, tail.3),
               tail.4,
-              in_front line (needed_line one) (text_of (next ∷ rest)) (flat_map needed_line tail.0 ++ (flat_map stranded_line tail.2 ++ ended (codes "end"))) spelled.3 tail.5
+              in_prefix line (needed_line one) (text_of (next ∷ rest)) (flat_map needed_line tail.0 ++ (flat_map stranded_line tail.2 ++ ended (codes "end"))) encoded.3 tail.5
                   ∙ sym (append_assoc (needed_line one) (flat_map needed_line tail.0) (flat_map stranded_line tail.2 ++ ended (codes "end"))),
               tail.6 ∙ ap (λ (fs : List ℕ). out b es (Some fs)) (append_assoc set (f ∷ []) tail.1),
             )
 
-        case : (told : ReportLine) (more : Draft) → Spells (ended line) told → place p (at stage.Set b es (Some set) a c 0) told ≡ Ok more → Goes more
+        case : (told : ReportLine) (more : Draft) → Encodes (ended line) told → place p (at stage.Set b es (Some set) a c 0) told ≡ Ok more → Goes more
             → ((f : ℕ) → Goes (at stage.Set b es (Some (set ++ f ∷ [])) a (f + 1) 0) → SetTail (f + 1) b es (set ++ f ∷ []) (text_of (next ∷ rest)))
             → SetTail c b es set (line ++ 10 ∷ text_of (next ∷ rest))
-        case head more spelled h goes again = absurd (not_ok _ more h)
-        case (backlog k) more spelled h goes again = absurd (not_ok _ more h)
-        case no_plan more spelled h goes again = absurd (not_ok _ more h)
-        case (task worker function) more spelled h goes again = absurd (not_ok _ more h)
-        case short more spelled h goes again = absurd (not_ok _ more h)
-        case (needed name) more spelled h goes again = in_set name more spelled h goes again
-        case (stranded name) more spelled h goes again =
-            set_ends c b es set (line ++ 10 ∷ text_of (next ∷ rest)) (left_from stage.Set b es (Some set) a c 0 line (text_of (next ∷ rest)) name more Goes refl spelled h goes
+        case head more encoded h goes again = absurd (not_ok _ more h)
+        case (backlog k) more encoded h goes again = absurd (not_ok _ more h)
+        case no_plan more encoded h goes again = absurd (not_ok _ more h)
+        case (task worker function) more encoded h goes again = absurd (not_ok _ more h)
+        case short more encoded h goes again = absurd (not_ok _ more h)
+        case (needed name) more encoded h goes again = in_set name more encoded h goes again
+        case (stranded name) more encoded h goes again =
+            set_ends c b es set (line ++ 10 ∷ text_of (next ∷ rest)) (left_from stage.Set b es (Some set) a c 0 line (text_of (next ∷ rest)) name more Goes refl encoded h goes
             (λ f g. left_back (next ∷ rest) (n + 1) b es (Some set) a c f g))
-        case last more spelled h goes again =
-            set_ends c b es set (line ++ 10 ∷ text_of (next ∷ rest)) (last_from stage.Set b es (Some set) a c 0 line (next ∷ rest) (n + 1) more refl spelled h goes 0)
+        case last more encoded h goes again =
+            set_ends c b es set (line ++ 10 ∷ text_of (next ∷ rest)) (last_from stage.Set b es (Some set) a c 0 line (next ∷ rest) (n + 1) more refl encoded h goes 0)
 
-    -- the line `short`, and the set behind it
+    -- the line `short`, and the set after it
     abbrev ShortTail : Option ℕ → List (ℕ × Option ℕ) → List ℕ → Type 0
     ShortTail b es text =
         (sums : Short) × (set : List ℕ) × (left : List Stranded) × IsSet p sums set × AreLeft p 0 left
         × (text ≡ short_lines sums ++ (flat_map stranded_line left ++ ended (codes "end"))) × (answer ≡ out b es (Some set))
 
-    short_from : (parts : List (List ℕ)) (n : ℕ) (b : Option ℕ) (es : List (ℕ × Option ℕ)) (a : ℕ) (line : List ℕ) → Spells (ended line) short
+    short_from : (parts : List (List ℕ)) (n : ℕ) (b : Option ℕ) (es : List (ℕ × Option ℕ)) (a : ℕ) (line : List ℕ) → Encodes (ended line) short
         → meaning_from p n (at stage.Set b es (Some []) a 0 0) parts ≡ Ok answer → ShortTail b es (line ++ 10 ∷ text_of parts)
-    short_from parts n b es a line spelled e =
+    short_from parts n b es a line encoded e =
         let tail = set_back parts n b es [] a 0 e in
-        let sums : Short = record { need = spelled.0; have = spelled.1; functions = tail.0 } in
-        let behind = flat_map stranded_line tail.2 ++ ended (codes "end") in (
+        let sums : Short = record { need = encoded.0; have = encoded.1; functions = tail.0 } in
+        let after = flat_map stranded_line tail.2 ++ ended (codes "end") in (
           sums,
           tail.1,
           tail.2,
-          (spelled.2, spelled.3, tail.3),
+          (encoded.2, encoded.3, tail.3),
           tail.4,
-          in_front line (short_line spelled.0 spelled.1) (text_of parts) (flat_map needed_line tail.0 ++ behind) spelled.4 tail.5
-              ∙ sym (append_assoc (short_line spelled.0 spelled.1) (flat_map needed_line tail.0) behind),
+          in_prefix line (short_line encoded.0 encoded.1) (text_of parts) (flat_map needed_line tail.0 ++ after) encoded.4 tail.5
+              ∙ sym (append_assoc (short_line encoded.0 encoded.1) (flat_map needed_line tail.0) after),
           tail.6,
         )
 
     -- ---- workers
 
-    -- lines of workers, with a set behind them or none
+    -- lines of workers, with a set after them or none
     abbrev TasksTail : ℕ → ℕ → List (ℕ × Option ℕ) → List ℕ → Type 0
     TasksTail k next es text =
         (more : List (ℕ × Option ℕ)) × (sums : Option Short) × (set : Option (List ℕ)) × (left : List Stranded)
@@ -331,8 +331,8 @@ module _ (p : Settings) where
         let own = (slots_paired p valid).named worker slot found in
         let machine = name_at p.machines (slots.machine_of p slot) in
         let number = slots.worker_number p slot in
-        let spelled : worker ≡ name_of_worker (listed_worker p (slot, o)) = sym own.1 ∙ sym (append_assoc machine (codes "/") (decimal number)) in
-        ap (λ (w : List ℕ). task_line w function) spelled ∙ ap (λ (f : Option (List ℕ)). task_line (name_of_worker (listed_worker p (slot, o))) f) (sym named.1)
+        let encoded : worker ≡ name_of_worker (listed_worker p (slot, o)) = sym own.1 ∙ sym (append_assoc machine (codes "/") (decimal number)) in
+        ap (λ (w : List ℕ). task_line w function) encoded ∙ ap (λ (f : Option (List ℕ)). task_line (name_of_worker (listed_worker p (slot, o))) f) (sym named.1)
 
     tasks_end : (k next : ℕ) (es : List (ℕ × Option ℕ)) (text : List ℕ) → Tail 0 (out (Some k) es None) text → TasksTail k next es text
     tasks_end k next es text tail =
@@ -366,16 +366,16 @@ module _ (p : Settings) where
         Again = (slot : ℕ) (o : Option ℕ) → Goes (at stage.Tasks (Some k) (es ++ (slot, o) ∷ []) None (slot + 1) 0 0)
             → TasksTail k (slot + 1) (es ++ (slot, o) ∷ []) (text_of (next ∷ rest))
 
-        of_worker : (worker : List ℕ) (function : Option (List ℕ)) (more : Draft) (spelled : Spells (ended line) (task worker function))
+        of_worker : (worker : List ℕ) (function : Option (List ℕ)) (more : Draft) (encoded : Encodes (ended line) (task worker function))
             → place p (at stage.Tasks (Some k) es None a 0 0) (task worker function) ≡ Ok more → Goes more → Again
             → TasksTail k a es (line ++ 10 ∷ text_of (next ∷ rest))
-        of_worker worker function more spelled h goes again =
+        of_worker worker function more encoded h goes again =
             let there = task_placed k es a worker function more h in
             let slot = there.0 in
             let o = there.1 in
             let tail = again slot o (subst Goes there.5 goes) in
             let below = ((slots_paired p valid).named worker slot there.2).0 in
-            let behind = short_if tail.1 ++ (flat_map stranded_line tail.3 ++ ended (codes "end")) in
+            let after = short_if tail.1 ++ (flat_map stranded_line tail.3 ++ ended (codes "end")) in
             let lines = flat_map worker_line (map (listed_worker p) tail.0) in (
               (slot, o) ∷ tail.0,
               tail.1,
@@ -384,25 +384,25 @@ module _ (p : Settings) where
               (there.3, below, there.4.0, tail.4),
               tail.5,
               tail.6,
-              in_front line (worker_line (listed_worker p (slot, o))) (text_of (next ∷ rest)) (lines ++ behind) (spelled.2 ∙ line_at worker function slot o there.2 there.4) tail.7
-                  ∙ sym (append_assoc (worker_line (listed_worker p (slot, o))) lines behind),
+              in_prefix line (worker_line (listed_worker p (slot, o))) (text_of (next ∷ rest)) (lines ++ after) (encoded.2 ∙ line_at worker function slot o there.2 there.4) tail.7
+                  ∙ sym (append_assoc (worker_line (listed_worker p (slot, o))) lines after),
               tail.8 ∙ ap (λ (more : List (ℕ × Option ℕ)). Planned more k tail.2) (append_assoc es ((slot, o) ∷ []) tail.0),
             )
 
-        case : (told : ReportLine) (more : Draft) → Spells (ended line) told → place p (at stage.Tasks (Some k) es None a 0 0) told ≡ Ok more → Goes more → Again
+        case : (told : ReportLine) (more : Draft) → Encodes (ended line) told → place p (at stage.Tasks (Some k) es None a 0 0) told ≡ Ok more → Goes more → Again
             → TasksTail k a es (line ++ 10 ∷ text_of (next ∷ rest))
-        case head more spelled h goes again = absurd (not_ok _ more h)
-        case (backlog j) more spelled h goes again = absurd (not_ok _ more h)
-        case no_plan more spelled h goes again = absurd (not_ok _ more h)
-        case (task worker function) more spelled h goes again = of_worker worker function more spelled h goes again
-        case short more spelled h goes again =
-            tasks_short k a es (line ++ 10 ∷ text_of (next ∷ rest)) (short_from (next ∷ rest) (n + 1) (Some k) es a line spelled (subst Goes (sym (same_ok _ _ h)) goes))
-        case (needed name) more spelled h goes again = absurd (not_ok _ more h)
-        case (stranded name) more spelled h goes again =
-            tasks_end k a es (line ++ 10 ∷ text_of (next ∷ rest)) (left_from stage.Tasks (Some k) es None a 0 0 line (text_of (next ∷ rest)) name more Goes refl spelled h goes
+        case head more encoded h goes again = absurd (not_ok _ more h)
+        case (backlog j) more encoded h goes again = absurd (not_ok _ more h)
+        case no_plan more encoded h goes again = absurd (not_ok _ more h)
+        case (task worker function) more encoded h goes again = of_worker worker function more encoded h goes again
+        case short more encoded h goes again =
+            tasks_short k a es (line ++ 10 ∷ text_of (next ∷ rest)) (short_from (next ∷ rest) (n + 1) (Some k) es a line encoded (subst Goes (sym (same_ok _ _ h)) goes))
+        case (needed name) more encoded h goes again = absurd (not_ok _ more h)
+        case (stranded name) more encoded h goes again =
+            tasks_end k a es (line ++ 10 ∷ text_of (next ∷ rest)) (left_from stage.Tasks (Some k) es None a 0 0 line (text_of (next ∷ rest)) name more Goes refl encoded h goes
             (λ f g. left_back (next ∷ rest) (n + 1) (Some k) es None a 0 f g))
-        case last more spelled h goes again =
-            tasks_end k a es (line ++ 10 ∷ text_of (next ∷ rest)) (last_from stage.Tasks (Some k) es None a 0 0 line (next ∷ rest) (n + 1) more refl spelled h goes 0)
+        case last more encoded h goes again =
+            tasks_end k a es (line ++ 10 ∷ text_of (next ∷ rest)) (last_from stage.Tasks (Some k) es None a 0 0 line (next ∷ rest) (n + 1) more refl encoded h goes 0)
 
     -- ---- the first lines
 
@@ -416,16 +416,16 @@ module _ (p : Settings) where
         Goes : Draft → Type 0
         Goes d = meaning_from p (n + 1) d (next ∷ rest) ≡ Ok answer
 
-        case : (told : ReportLine) (more : Draft) → Spells (ended line) told → place p (at stage.Bare None [] None 0 0 0) told ≡ Ok more → Goes more
+        case : (told : ReportLine) (more : Draft) → Encodes (ended line) told → place p (at stage.Bare None [] None 0 0 0) told ≡ Ok more → Goes more
             → ShortTail None [] (line ++ 10 ∷ text_of (next ∷ rest))
-        case head more spelled h goes = absurd (not_ok _ more h)
-        case (backlog j) more spelled h goes = absurd (not_ok _ more h)
-        case no_plan more spelled h goes = absurd (not_ok _ more h)
-        case (task worker function) more spelled h goes = absurd (not_ok _ more h)
-        case short more spelled h goes = short_from (next ∷ rest) (n + 1) None [] 0 line spelled (subst Goes (sym (same_ok _ _ h)) goes)
-        case (needed name) more spelled h goes = absurd (not_ok _ more h)
-        case (stranded name) more spelled h goes = absurd (not_ok _ more h)
-        case last more spelled h goes = absurd (not_ok _ more h)
+        case head more encoded h goes = absurd (not_ok _ more h)
+        case (backlog j) more encoded h goes = absurd (not_ok _ more h)
+        case no_plan more encoded h goes = absurd (not_ok _ more h)
+        case (task worker function) more encoded h goes = absurd (not_ok _ more h)
+        case short more encoded h goes = short_from (next ∷ rest) (n + 1) None [] 0 line encoded (subst Goes (sym (same_ok _ _ h)) goes)
+        case (needed name) more encoded h goes = absurd (not_ok _ more h)
+        case (stranded name) more encoded h goes = absurd (not_ok _ more h)
+        case last more encoded h goes = absurd (not_ok _ more h)
 
     regroup : (a b w s l e : List ℕ) → a ++ (b ++ (w ++ (s ++ (l ++ e)))) ≡ ((a ++ ((b ++ w) ++ s)) ++ l) ++ e
     regroup a b w s l e = sym (
@@ -441,20 +441,20 @@ module _ (p : Settings) where
         ∙ ap (λ (t : List ℕ). a ++ t) (append_assoc b s (l ++ e))
         )
 
-    planned_whole : (k : ℕ) (line text whole : List ℕ) → Spells (ended line) (backlog k) → TasksTail k 0 [] text
+    planned_whole : (k : ℕ) (line text whole : List ℕ) → Encodes (ended line) (backlog k) → TasksTail k 0 [] text
         → whole ≡ ended (codes "report 1") ++ (line ++ 10 ∷ text) → IsReportOf p whole answer
-    planned_whole k line text whole spelled tail is =
+    planned_whole k line text whole encoded tail is =
         let lines = flat_map worker_line (map (listed_worker p) tail.0) in
         let rest = flat_map stranded_line tail.3 in
-        let same = is ∙ ap (λ (t : List ℕ). ended (codes "report 1") ++ t) (in_front line (backlog_line k) text (lines ++ (short_if tail.1 ++ (rest ++ ended (codes "end")))) spelled.2 tail.7)
+        let same = is ∙ ap (λ (t : List ℕ). ended (codes "report 1") ++ t) (in_prefix line (backlog_line k) text (lines ++ (short_if tail.1 ++ (rest ++ ended (codes "end")))) encoded.2 tail.7)
         ∙ regroup (ended (codes "report 1")) (backlog_line k) lines (short_if tail.1) rest (ended (codes "end")) in
-        subst (IsReportOf p whole) (sym tail.8) (tail.1, tail.3, same, spelled.0, spelled.1, tail.4, tail.5, tail.6)
+        subst (IsReportOf p whole) (sym tail.8) (tail.1, tail.3, same, encoded.0, encoded.1, tail.4, tail.5, tail.6)
 
-    none_whole : (line text whole : List ℕ) → Spells (ended line) no_plan → ShortTail None [] text
+    none_whole : (line text whole : List ℕ) → Encodes (ended line) no_plan → ShortTail None [] text
         → whole ≡ ended (codes "report 1") ++ (line ++ 10 ∷ text) → IsReportOf p whole answer
-    none_whole line text whole spelled tail is =
+    none_whole line text whole encoded tail is =
         let rest = flat_map stranded_line tail.2 in
-        let same = is ∙ ap (λ (t : List ℕ). ended (codes "report 1") ++ t) (in_front line (ended (codes "noplan")) text (short_lines tail.0 ++ (rest ++ ended (codes "end"))) spelled tail.5)
+        let same = is ∙ ap (λ (t : List ℕ). ended (codes "report 1") ++ t) (in_prefix line (ended (codes "noplan")) text (short_lines tail.0 ++ (rest ++ ended (codes "end"))) encoded tail.5)
         ∙ regroup_none (ended (codes "report 1")) (ended (codes "noplan")) (short_lines tail.0) rest (ended (codes "end")) in
         subst (IsReportOf p whole) (sym tail.6) (tail.0, tail.2, same, tail.3, tail.4)
 
@@ -469,17 +469,17 @@ module _ (p : Settings) where
         Goes : Draft → Type 0
         Goes d = meaning_from p (n + 1) d (next ∷ rest) ≡ Ok answer
 
-        case : (told : ReportLine) (more : Draft) → Spells (ended line) told → place p (at stage.Verdict None [] None 0 0 0) told ≡ Ok more → Goes more → IsReportOf p whole answer
-        case head more spelled h goes = absurd (not_ok _ more h)
-        case (backlog k) more spelled h goes =
-            planned_whole k line (text_of (next ∷ rest)) whole spelled (tasks_back (next ∷ rest) (n + 1) k [] 0 (subst Goes (sym (same_ok _ _ h)) goes)) is
-        case no_plan more spelled h goes =
-            none_whole line (text_of (next ∷ rest)) whole spelled (bare_back (next ∷ rest) (n + 1) (subst Goes (sym (same_ok _ _ h)) goes)) is
-        case (task worker function) more spelled h goes = absurd (not_ok _ more h)
-        case short more spelled h goes = absurd (not_ok _ more h)
-        case (needed name) more spelled h goes = absurd (not_ok _ more h)
-        case (stranded name) more spelled h goes = absurd (not_ok _ more h)
-        case last more spelled h goes = absurd (not_ok _ more h)
+        case : (told : ReportLine) (more : Draft) → Encodes (ended line) told → place p (at stage.Verdict None [] None 0 0 0) told ≡ Ok more → Goes more → IsReportOf p whole answer
+        case head more encoded h goes = absurd (not_ok _ more h)
+        case (backlog k) more encoded h goes =
+            planned_whole k line (text_of (next ∷ rest)) whole encoded (tasks_back (next ∷ rest) (n + 1) k [] 0 (subst Goes (sym (same_ok _ _ h)) goes)) is
+        case no_plan more encoded h goes =
+            none_whole line (text_of (next ∷ rest)) whole encoded (bare_back (next ∷ rest) (n + 1) (subst Goes (sym (same_ok _ _ h)) goes)) is
+        case (task worker function) more encoded h goes = absurd (not_ok _ more h)
+        case short more encoded h goes = absurd (not_ok _ more h)
+        case (needed name) more encoded h goes = absurd (not_ok _ more h)
+        case (stranded name) more encoded h goes = absurd (not_ok _ more h)
+        case last more encoded h goes = absurd (not_ok _ more h)
 
     start_back : (parts : List (List ℕ)) (n : ℕ) → meaning_from p n start parts ≡ Ok answer → IsReportOf p (text_of parts) answer
     start_back [] n e = absurd (not_ok _ answer e)
@@ -491,17 +491,17 @@ module _ (p : Settings) where
         Goes : Draft → Type 0
         Goes d = meaning_from p (n + 1) d (next ∷ rest) ≡ Ok answer
 
-        case : (told : ReportLine) (more : Draft) → Spells (ended line) told → place p start told ≡ Ok more → Goes more → IsReportOf p (line ++ 10 ∷ text_of (next ∷ rest)) answer
-        case head more spelled h goes =
+        case : (told : ReportLine) (more : Draft) → Encodes (ended line) told → place p start told ≡ Ok more → Goes more → IsReportOf p (line ++ 10 ∷ text_of (next ∷ rest)) answer
+        case head more encoded h goes =
             verdict_back (next ∷ rest) (n + 1) (subst Goes (sym (same_ok _ _ h)) goes) (line ++ 10 ∷ text_of (next ∷ rest))
-            (in_front line (ended (codes "report 1")) (text_of (next ∷ rest)) (text_of (next ∷ rest)) spelled refl)
-        case (backlog k) more spelled h goes = absurd (not_ok _ more h)
-        case no_plan more spelled h goes = absurd (not_ok _ more h)
-        case (task worker function) more spelled h goes = absurd (not_ok _ more h)
-        case short more spelled h goes = absurd (not_ok _ more h)
-        case (needed name) more spelled h goes = absurd (not_ok _ more h)
-        case (stranded name) more spelled h goes = absurd (not_ok _ more h)
-        case last more spelled h goes = absurd (not_ok _ more h)
+            (in_prefix line (ended (codes "report 1")) (text_of (next ∷ rest)) (text_of (next ∷ rest)) encoded refl)
+        case (backlog k) more encoded h goes = absurd (not_ok _ more h)
+        case no_plan more encoded h goes = absurd (not_ok _ more h)
+        case (task worker function) more encoded h goes = absurd (not_ok _ more h)
+        case short more encoded h goes = absurd (not_ok _ more h)
+        case (needed name) more encoded h goes = absurd (not_ok _ more h)
+        case (stranded name) more encoded h goes = absurd (not_ok _ more h)
+        case last more encoded h goes = absurd (not_ok _ more h)
 
     pub report_back : (text : List ℕ) → meaning p text ≡ Ok answer → IsReportOf p text answer
     report_back text e = subst (λ (t : List ℕ). IsReportOf p t answer) (joined text) (start_back (slice_split is_line_feed text) 1 e)

@@ -18,7 +18,7 @@ use Rattle.pool_report.specs.declared.stage.Stage.TheVariants as stage
 use Rattle.pool_report.proofs.Steps.{taken_line}
 use Rattle.pool_report.proofs.Written.{lines_read}
 
--- The text leads from one draft to another, whatever stands behind it.
+-- The text leads from one draft to another, whatever stands after it.
 abbrev pub Leads : Settings → Draft → List ℕ → Draft → Type 0
 Leads p d text more =
     (n : ℕ) (rest : List ℕ) → (m : ℕ) × (meaning_from p n d (slice_split is_line_feed (text ++ rest)) ≡ meaning_from p m more (slice_split is_line_feed rest))

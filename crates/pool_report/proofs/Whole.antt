@@ -121,18 +121,18 @@ module _ (p : Settings) (valid : AreSettings p) where
         are_known (λ f. (stranded_at p i f).waiting) left 0 (numbers_from_0 left) (rising left (IsStrictlyIncreasing-filter (is_stranded i) (functions i) (range-rises (length i.least))))
         (recursion_from_All (λ f. f < length p.functions) left left_below) (λ f. waiting_few i.waiting f sound.counted)
 
-    -- what stands behind the set
-    closed : (s : Stage) (k : Option ℕ) (entries : List (ℕ × Option ℕ)) (set : Option (List ℕ)) (a b : ℕ) (front : List ℕ) → is_complete s ≡ true
-        → Leads p start (ended (codes "report 1") ++ front) (at s k entries set a b 0)
-        → meaning p (ended (codes "report 1") ++ front ++ flat_map stranded_line (stranded_all p i) ++ ended (codes "end")) ≡ Ok (answer_of (at s k entries set a b 0))
-    closed s k entries set a b front complete on =
+    -- what stands after the set
+    closed : (s : Stage) (k : Option ℕ) (entries : List (ℕ × Option ℕ)) (set : Option (List ℕ)) (a b : ℕ) (prefix : List ℕ) → is_complete s ≡ true
+        → Leads p start (ended (codes "report 1") ++ prefix) (at s k entries set a b 0)
+        → meaning p (ended (codes "report 1") ++ prefix ++ flat_map stranded_line (stranded_all p i) ++ ended (codes "end")) ≡ Ok (answer_of (at s k entries set a b 0))
+    closed s k entries set a b prefix complete on =
         let rest = leftovers p i (λ f. (stranded_at p i f).waiting) left s k entries set a b 0 (λ f. refl) complete known_left in
         let d = at rest.0 k entries set a b rest.1 in
         let e = at stage.Done k entries set a b rest.1 in
         let done : Leads p d (ended (codes "end")) e = leads_line p d e (ended (codes "end")) last lines_read.end (rw rest.2 refl) in
-        let all = leads_on p start d e (ended (codes "report 1") ++ front ++ flat_map stranded_line (stranded_all p i)) (ended (codes "end"))
-        (leads_on p start (at s k entries set a b 0) d (ended (codes "report 1") ++ front) (flat_map stranded_line (stranded_all p i)) on rest.3) done in
-        let text = ended (codes "report 1") ++ front ++ flat_map stranded_line (stranded_all p i) ++ ended (codes "end") in
+        let all = leads_on p start d e (ended (codes "report 1") ++ prefix ++ flat_map stranded_line (stranded_all p i)) (ended (codes "end"))
+        (leads_on p start (at s k entries set a b 0) d (ended (codes "report 1") ++ prefix) (flat_map stranded_line (stranded_all p i)) on rest.3) done in
+        let text = ended (codes "report 1") ++ prefix ++ flat_map stranded_line (stranded_all p i) ++ ended (codes "end") in
         let read = all 1 [] in
         ap (λ t. meaning_from p 1 start (slice_split is_line_feed t)) (sym (append-nil text)) ∙ read.1
 

@@ -67,18 +67,18 @@ IsTheOnlyOne settings i answer =
 
 -- The text is a line with its line feed, written as what it says: its words, its names and its numbers without leading zeros, with one
 -- space between them.
-abbrev pub Spells : List ℕ → ReportLine → Type 0
-Spells text head = text ≡ ended (codes "report 1")
-Spells text (backlog k) = (k < 2 ^ 33) × (k ≢ 2 ^ 32) × (text ≡ backlog_line k)
-Spells text no_plan = text ≡ ended (codes "noplan")
-Spells text (task worker function) = IsTrue (is_worker worker) × HasName function × (text ≡ task_line worker function)
-Spells text short = (need : ℕ) × (have : ℕ) × (need < 2 ^ 64) × (have < 2 ^ 64) × (text ≡ short_line need have)
-Spells text (needed f) =
+abbrev pub Encodes : List ℕ → ReportLine → Type 0
+Encodes text head = text ≡ ended (codes "report 1")
+Encodes text (backlog k) = (k < 2 ^ 33) × (k ≢ 2 ^ 32) × (text ≡ backlog_line k)
+Encodes text no_plan = text ≡ ended (codes "noplan")
+Encodes text (task worker function) = IsTrue (is_worker worker) × HasName function × (text ≡ task_line worker function)
+Encodes text short = (need : ℕ) × (have : ℕ) × (need < 2 ^ 64) × (have < 2 ^ 64) × (text ≡ short_line need have)
+Encodes text (needed f) =
     (need : ℕ) × IsTrue (is_name f) × (need < 2 ^ 64) × (text ≡ needed_line (record { function = f; need = need }))
-Spells text (stranded f) =
+Encodes text (stranded f) =
     (waiting : ℕ) × IsTrue (is_name f) × (waiting < 2 ^ 32) × (text ≡ stranded_line (record { function = f; waiting = waiting }))
-Spells text last = text ≡ ended (codes "end")
+Encodes text last = text ≡ ended (codes "end")
 
 -- A line says something only as it is written.
-abbrev pub AreLinesSpelled : Type 0
-AreLinesSpelled = (line : List ℕ) (told : ReportLine) → line_of line ≡ Some told → Spells (ended line) told
+abbrev pub AreLinesEncoded : Type 0
+AreLinesEncoded = (line : List ℕ) (told : ReportLine) → line_of line ≡ Some told → Encodes (ended line) told

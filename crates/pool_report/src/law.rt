@@ -4,7 +4,7 @@ ghost use Rattle.std.specs.Prelude.{◌≡◌, Ok};
 ghost use Rattle.plan_model.specs.Shown.{Shown};
 ghost use Rattle.pool_report.specs.Answered.{report_text};
 ghost use Rattle.pool_report.specs.Grammar.{AreTextsReports};
-ghost use Rattle.pool_report.specs.Law.{AreLinesRead, AreLinesSpelled, AreNamesFound, IsOf, IsTheOnlyOne, retold};
+ghost use Rattle.pool_report.specs.Law.{AreLinesRead, AreLinesEncoded, AreNamesFound, IsOf, IsTheOnlyOne, retold};
 ghost use Rattle.pool_report.specs.Reading.{meaning};
 
 use plan_model::{Answer, Input};
@@ -18,8 +18,8 @@ pub fn lines_read_back()
 
 /// The law of writing, which does nothing when it runs: a line says something only if it is written as that
 /// is, by its words, its names and its numbers without leading zeros. [`lines_read_back`] is the other way round.
-pub fn lines_are_spelled()
-    ensures { AreLinesSpelled }
+pub fn lines_are_encoded()
+    ensures { AreLinesEncoded }
 {}
 
 /// The law of the names, which does nothing that is seen: the name of a function, and that of a worker as a

@@ -41,7 +41,7 @@ mod stage;
 
 pub use error::{ReadError, WriteError};
 pub use law::{
-    lines_are_spelled, lines_read_back, names_read_back, report_reads_back, texts_are_reports,
+    lines_are_encoded, lines_read_back, names_read_back, report_reads_back, texts_are_reports,
 };
 pub use line::{Line, after_word, count_after, read_line};
 pub use lines::{push_needed_line, push_short_line, push_worker_line};

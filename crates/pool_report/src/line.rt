@@ -89,9 +89,9 @@ fn read_idle(rest: &[u8]) -> Option<Line<'_>>
 pub fn count_after<'t>(word: &[u8], rest: &'t [u8]) -> Option<(&'t [u8], u64)>
     ensures { option_map (λ parts. (parts.0.now, parts.1)) result ≡ spec.count_after word.now rest.now }
 {
-    let (front, digits) = cut_last(b' ', rest)?;
+    let (prefix, digits) = cut_last(b' ', rest)?;
     let number = plain_number_u64(digits)?;
-    let (text, found) = cut_last(b' ', front)?;
+    let (text, found) = cut_last(b' ', prefix)?;
     if found == word {
         Some((text, number))
     } else {

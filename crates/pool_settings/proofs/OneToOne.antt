@@ -12,7 +12,7 @@ use Rattle.pool_settings.specs.Settings.{AreSettings, Settings}
 use Rattle.pool_settings.specs.Slots.{first_slot, machine_of, parts_of, slot_at, slot_named, slots, worker_name}
 use Rattle.text_pieces.specs.Numbers.{plain_number_below}
 use Rattle.text_pieces.proofs.Cutting.{never, parts_of_last, same}
-use Rattle.text_pieces.proofs.Digits.{plain_spelled}
+use Rattle.text_pieces.proofs.Digits.{plain_encoded}
 use Rattle.pool_settings.proofs.Searches.{place_is}
 use Rattle.pool_settings.proofs.SlotSums.{IsAt, machine_found, sum-room}
 use Rattle.pool_settings.proofs.WorkerNames as workers
@@ -78,7 +78,7 @@ module _ (p : Settings) (valid : AreSettings p) where
           let held = names_back p.machines parts.0 machine place in
           let found = slot_back machine n slot (rw (cut, place, number) at e) held.0 in (
             found.0,
-            found.1 ∙ ap (λ (m : List ℕ). m ++ 47 ∷ decimal n) held.1 ∙ ap (λ (ds : List ℕ). parts.0 ++ 47 ∷ ds) (sym (plain_spelled (2 ^ 32) parts.1 n (omega arith) number).0) ∙ sym (parts_of_last 47 name parts cut).0,
+            found.1 ∙ ap (λ (m : List ℕ). m ++ 47 ∷ decimal n) held.1 ∙ ap (λ (ds : List ℕ). parts.0 ++ 47 ∷ ds) (sym (plain_encoded (2 ^ 32) parts.1 n (omega arith) number).0) ∙ sym (parts_of_last 47 name parts cut).0,
           )
 
       placed : (parts : List ℕ × List ℕ) → parts_of name ≡ Some parts → (o : Option ℕ) → place_of p.machines parts.0 ≡ o

@@ -96,8 +96,8 @@ all_named p at [] h = refl
 all_named p at (e ∷ es) h =
     let parts = none_of (unless (p e.0) (at e)) _ h in
     let here : p e.0 ≡ true = is_good (p e.0) (at e) parts.0 in
-    let behind : list_all (λ e. p e.0) es ≡ true = all_named p at es parts.1 in
-    rw (here, behind)
+    let after : list_all (λ e. p e.0) es ≡ true = all_named p at es parts.1 in
+    rw (here, after)
 
 All-from_list_all : {X : Type 0} (p : X → Bool) (xs : List X) → list_all p xs ≡ true → All (λ x. IsTrue (p x)) xs
 All-from_list_all p xs h k d below = by (p (get_or xs k d)) refl

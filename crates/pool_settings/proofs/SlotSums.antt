@@ -45,10 +45,10 @@ owner_at m (w ∷ ws) slot h = elim (cases_lt slot w) [
   )
   | inr later ↦ (
       let next = owner_at (m + 1) ws (slot - w) (omega (arith, sum-cons w ws)) in
-      let behind : get_or (replicate w m ++ owners_from (m + 1) ws) slot 0 ≡ get_or (owners_from (m + 1) ws) (slot - w) 0 =
+      let after : get_or (replicate w m ++ owners_from (m + 1) ws) slot 0 ≡ get_or (owners_from (m + 1) ws) (slot - w) 0 =
       get_or-append_right (replicate w m) (owners_from (m + 1) ws) w slot 0 (length-replicate w m) later in (
         suc next.0,
-        behind ∙ next.1 ∙ omega arith,
+        after ∙ next.1 ∙ omega arith,
         record { there = omega (arith, next.2.there); from = omega (arith, next.2.from, sum-cons w (take next.0 ws)); to = omega (arith, next.2.to, sum-cons w (take next.0 ws)) },
       ))
 ]

@@ -37,7 +37,7 @@ blank_fault bytes tree blank read =
     let same : tree ≡ no_members = cc in
     subst (λ t. first_fault t ≡ Some (error.Version, Key version_key)) (sym same) refl
 
--- settings that are refused for want of memory alone are not blank
+-- settings that are refused if memory runs out alone are not blank
 pub memory_refused : (bytes : List ℕ) (tree : Members) (fault : SettingsFault) → tree_of bytes ≡ Some tree → RefusesTree tree fault
     → error_of fault ≡ error.Memory → ¬ IsBlank bytes
 memory_refused bytes tree (fault.At e at) read refuses memory blank = absurd (refuses.0 memory)

@@ -49,15 +49,15 @@ abbrev pub last_line : List ℕ → List ℕ
 last_line text = option_map_or (λ cut. cut.1) (cut_last 10 text) text
 
 -- the line and the column after these bytes, both from 1
-abbrev pub line_behind : List ℕ → ℕ
-line_behind before = length (filter is_line_feed before) + 1
+abbrev pub line_after : List ℕ → ℕ
+line_after before = length (filter is_line_feed before) + 1
 
-abbrev pub column_behind : List ℕ → ℕ
-column_behind before = length (filter begins_character (last_line before)) + 1
+abbrev pub column_after : List ℕ → ℕ
+column_after before = length (filter begins_character (last_line before)) + 1
 
 -- a text that is at fault after these bytes
 abbrev pub text_fault : List ℕ → reading.Fault
-text_fault before = (error.Text, place.Text (line_behind before) (column_behind before))
+text_fault before = (error.Text, place.Text (line_after before) (column_after before))
 
 -- The fault of a text is the first of its tree; and of a text without a tree a place in it, which is after the last character if
 -- the text is not UTF-8.

@@ -14,8 +14,8 @@ ghost use Rattle.std.specs.Prelude.{Option};
 
 use crate::bounds::MAX_WORKERS;
 use crate::keys::bad_limit;
+use crate::name_rules::{is_machine_name, is_name};
 use crate::place::{Place, Section};
-use crate::spelling::{is_machine_name, is_name};
 use crate::tree::{number_between, table_at, value_at};
 use toml::{Table, Value};
 

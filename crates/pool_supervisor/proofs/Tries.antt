@@ -102,8 +102,8 @@ pub one_attempt : (settings : Settings) (allows : Rule) (lines : List Attempt) (
     → Fills settings allows (slots settings) joined filled → Tells settings line filled now → Attempts settings allows lines (lines ++ line ∷ []) before now
 one_attempt settings allows lines line before joined filled now joins fills tells =
     let try : Try = record { joined = joins.links; looks = fills.looks; asked = tells.asked; line = line } in
-    let behind = called_both joined filled now (flat_map dials_of fills.looks) tells.asked fills.calls tells.calls in
-    let all = called_both before joined now (map closed joins.links) (flat_map dials_of fills.looks ++ tells.asked) joins.calls behind in
+    let after = called_both joined filled now (flat_map dials_of fills.looks) tells.asked fills.calls tells.calls in
+    let all = called_both before joined now (map closed joins.links) (flat_map dials_of fills.looks ++ tells.asked) joins.calls after in
     record {
       tries = try ∷ [];
       lines = refl;
@@ -111,10 +111,10 @@ one_attempt settings allows lines line before joined filled now joins fills tell
       each = ((fills.all, fills.each, tells.follows), tt);
     }
 
--- the same attempts, behind other lines
-pub attempts_behind : (settings : Settings) (allows : Rule) (lines more : List Attempt) (before now : Option (List DialCall)) → Attempts settings allows [] more before now
+-- the same attempts, after other lines
+pub attempts_after : (settings : Settings) (allows : Rule) (lines more : List Attempt) (before now : Option (List DialCall)) → Attempts settings allows [] more before now
     → Attempts settings allows lines (lines ++ more) before now
-attempts_behind settings allows lines more before now made = record { tries = made.tries; lines = ap (λ (l : List Attempt). lines ++ l) made.lines; calls = made.calls; each = made.each }
+attempts_after settings allows lines more before now made = record { tries = made.tries; lines = ap (λ (l : List Attempt). lines ++ l) made.lines; calls = made.calls; each = made.each }
 
 pub more_attempts : (settings : Settings) (allows : Rule) (old mid new : List Attempt) (before between now : Option (List DialCall)) → Attempts settings allows old mid before between
     → Attempts settings allows mid new between now → Attempts settings allows old new before now

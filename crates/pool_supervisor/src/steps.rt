@@ -5,7 +5,7 @@ ghost use Rattle.pool_settings.specs.Slots.{slots as slot_count};
 ghost use Rattle.worker_state.specs.Slots.{is_live};
 ghost use Rattle.worker_state.specs.declared.slot.Slot.TheVariants.{Empty};
 ghost use Rattle.pool_core.specs.Machine.{slot_in};
-ghost use Rattle.pool_core.specs.Book.{has_closed_front};
+ghost use Rattle.pool_core.specs.Book.{has_closed_prefix};
 ghost use Rattle.pool_core.specs.Calls.{Adopts, EndsChapter, Expires};
 ghost use Rattle.pool_supervisor.specs.Published.{ArePosted, round_order, stop_order};
 ghost use Rattle.pool_supervisor.specs.Reached.{IsReached, IsRoundOf};
@@ -105,7 +105,7 @@ impl<'e, N: RunId> RunBoard<'e, N> {
         ensures only { held.new ≡ record held.old { forgotten = held.new.forgotten } }
         ensures more { held.old.forgotten ≤ held.new.forgotten }
         ensures most { result ≡ true → held.new.forgotten ≡ held.old.forgotten + most_forgotten }
-        ensures all { result ≡ false → has_closed_front held.new ≡ false }
+        ensures all { result ≡ false → has_closed_prefix held.new ≡ false }
     {
         for _number in 0..MOST_FORGOTTEN {
             if held.forget().is_none() {

@@ -12,10 +12,10 @@ enum Closed {
 
 impl Labelled for Closed {
     ghost use Rattle.std.specs.Prelude.{codes};
-    ghost use Rattle.refusal.specs.Label.{label as spelled};
+    ghost use Rattle.refusal.specs.Label.{label as encoded};
     ghost use Rattle.refusal.specs.declared.tests.Closed.TheVariants.{Locked, Memory};
 
-    ghost label = { elim [ Locked ↦ spelled 1 (codes "Locked") | Memory ↦ spelled 2 (codes "Memory") ] };
+    ghost label = { elim [ Locked ↦ encoded 1 (codes "Locked") | Memory ↦ encoded 2 (codes "Memory") ] };
 
     fn label(&self) -> Label {
         match self {

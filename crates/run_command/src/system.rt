@@ -27,7 +27,7 @@ pub fn time_in_seconds<R: Clock>(rt: &R) -> Option<Timestamp> {
 /// The system as the host of a run: its threads, TCP, its monotonic clock, and its standard error.
 ///
 /// If the run is watched, each function without a job, each attempt, each end of a worker, and what the run came to are written to standard
-/// error when they are reported, each line behind the time, as RFC 3339 writes it; else nothing is. A line whose write fails is left out. A
+/// error when they are reported, each line after the time, as RFC 3339 writes it; else nothing is. A line whose write fails is left out. A
 /// write waits while nobody reads standard error, and so do the attempts; workers go on.
 #[derive(Drop)]
 pub struct System<R> {
@@ -65,7 +65,7 @@ impl<R: Wait> System<R> {
 }
 
 impl<R: Clock + Eprint + Alloc<A = Global>> System<R> {
-    /// Writes a line to standard error, behind the time.
+    /// Writes a line to standard error, after the time.
     fn write(&self, line: &str) {
         let written = match time_in_seconds(&self.rt) {
             Some(time) => self.rt.eprintln(format_args!("{time} {line}")),

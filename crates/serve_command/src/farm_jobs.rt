@@ -165,19 +165,23 @@ fn host_line(
 
 impl<'e, H: FarmHost> Jobs for FarmJobs<'e, H> {
     ghost use Rattle.std.specs.Prelude.{◌≡◌};
-    ghost use Rattle.http_jobs.specs.Serving.{IsDoneBy, IsNotDoneBy, stands};
+    ghost use Rattle.http_jobs.specs.Serving.{IsDoneBy, IsNotDoneBy, visible};
     ghost use Rattle.serve_command.specs.Farm.{timeout_in};
 
     ghost tells = { λ before after job told. (after.farm ≡ before.farm)
         × IsDoneBy before.jobs.service (timeout_in before.farm.now job.function)
-        (stands H.Call.input H.Call.output H.Call.quiet before.jobs.kept (H.Dials.calls before.jobs.dial) (H.Times.shown before.jobs.clock))
-        (stands H.Call.input H.Call.output H.Call.quiet after.jobs.kept (H.Dials.calls after.jobs.dial) (H.Times.shown after.jobs.clock))
+        (visible H.Call.input H.Call.output H.Call.quiet before.jobs.kept (H.Dials.calls before.jobs.dial)
+        (H.Times.shown before.jobs.clock))
+        (visible H.Call.input H.Call.output H.Call.quiet after.jobs.kept (H.Dials.calls after.jobs.dial)
+        (H.Times.shown after.jobs.clock))
         after.jobs.service after.jobs.timeout_ms job told };
 
     ghost fails = { λ before after job error. (after.farm ≡ before.farm)
         × IsNotDoneBy before.jobs.service (timeout_in before.farm.now job.function)
-        (stands H.Call.input H.Call.output H.Call.quiet before.jobs.kept (H.Dials.calls before.jobs.dial) (H.Times.shown before.jobs.clock))
-        (stands H.Call.input H.Call.output H.Call.quiet after.jobs.kept (H.Dials.calls after.jobs.dial) (H.Times.shown after.jobs.clock))
+        (visible H.Call.input H.Call.output H.Call.quiet before.jobs.kept (H.Dials.calls before.jobs.dial)
+        (H.Times.shown before.jobs.clock))
+        (visible H.Call.input H.Call.output H.Call.quiet after.jobs.kept (H.Dials.calls after.jobs.dial)
+        (H.Times.shown after.jobs.clock))
         after.jobs.service after.jobs.timeout_ms job error };
 
     fn run(&mut self, alloc: Global, job: Assignment) -> Result<Option<Outcome>, NotDone> {

@@ -63,7 +63,7 @@ fn door_of<R: Net<Stream = TcpStream, Listener = TcpListener>>(
     })
 }
 
-/// The system as the host of a farm, and of a run as [`System`] is. Connections are opened over TCP. Each line of a farm is put behind
+/// The system as the host of a farm, and of a run as [`System`] is. Connections are opened over TCP. Each line of a farm is put after
 /// the time, as RFC 3339 writes it, and into the queue.
 #[derive(Drop)]
 pub struct FarmSystem<'m, R> {
@@ -84,13 +84,13 @@ impl<'m, R: Env + Alloc + Copy> FarmSystem<'m, R> {
 }
 
 impl<'m, R: Clock + Alloc<A = Global>> FarmSystem<'m, R> {
-    /// The time, as RFC 3339 writes it. None if the clock cannot be read, or for want of memory.
+    /// The time, as RFC 3339 writes it. None if the clock cannot be read, or if memory runs out.
     fn time_text(&self) -> Option<String> {
         let time = time_in_seconds(&self.rt)?;
         format!(in self.rt.alloc(); "{time}").ok()
     }
 
-    /// A line behind the time, with its line feed. The only error is out of memory.
+    /// A line after the time, with its line feed. The only error is out of memory.
     fn stamped(&self, line: Result<String, AllocError>) -> Result<String, AllocError> {
         let line = line?;
         match time_in_seconds(&self.rt) {

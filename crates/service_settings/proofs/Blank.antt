@@ -26,7 +26,7 @@ blank_fault settings bytes tree blank read =
     let same : tree ≡ no_members = cc in
     subst (λ t. first_fault settings t ≡ Some (error.Version, at_key version_key)) (sym same) refl
 
--- services that are refused for want of memory alone are not blank
+-- services that are refused if memory runs out alone are not blank
 pub memory_refused : (settings : Settings) (bytes : List ℕ) (tree : Members) (f : ServicesFault) → tree_of bytes ≡ Some tree → RefusesTree settings tree f
     → error_of f ≡ error.Memory → ¬ IsBlank bytes
 memory_refused settings bytes tree (fault.At e at) read refuses memory blank = absurd (refuses.0 memory)

@@ -10,9 +10,9 @@ use Rattle.text_pieces.specs.Cuts.{cut_last}
 use Rattle.text_pieces.specs.Numbers.{plain_number_below}
 use Rattle.service_settings.specs.Services.{Url}
 
--- what comes after these bytes at the front of a text
+-- what comes after these bytes at the start of a text
 abbrev pub after : List ℕ → List ℕ → Option (List ℕ)
-after front text = if bytes_eq (take (length front) text) front then Some (drop (length front) text) else None
+after prefix text = if bytes_eq (take (length prefix) text) prefix then Some (drop (length prefix) text) else None
 
 -- what comes before these bytes at the end of a text
 abbrev pub before : List ℕ → List ℕ → Option (List ℕ)
@@ -84,12 +84,12 @@ abbrev pub path_of : List ℕ → List ℕ
 path_of rest = without_slash (drop (prefix_len is_no_slash rest) rest)
 
 -- the authority and the path of what follows the scheme
-abbrev pub parts_behind : List ℕ → Option (List ℕ × List ℕ)
-parts_behind rest =
+abbrev pub parts_after : List ℕ → Option (List ℕ × List ℕ)
+parts_after rest =
     if is_authority (authority_of rest) && is_path (path_of rest) then Some (authority_of rest, path_of rest) else None
 
 abbrev pub parts_of : List ℕ → Option (List ℕ × List ℕ)
-parts_of text = option_and_then parts_behind (after (codes "http://") text)
+parts_of text = option_and_then parts_after (after (codes "http://") text)
 
 -- ---- what a URL means
 

@@ -16,11 +16,11 @@ pub struct UrlParts<'t> {
     pub path: &'t str,
 }
 
-/// What comes after these bytes at the front of a text.
-fn after<'t>(front: &[u8], text: &'t [u8]) -> Option<&'t [u8]>
-    ensures { option_map (λ t. t.now) result ≡ spec.after front.now text.now }
+/// What comes after these bytes at the start of a text.
+fn after<'t>(prefix: &[u8], text: &'t [u8]) -> Option<&'t [u8]>
+    ensures { option_map (λ t. t.now) result ≡ spec.after prefix.now text.now }
 {
-    text.strip_prefix(front)
+    text.strip_prefix(prefix)
 }
 
 /// What comes before these bytes at the end of a text.
@@ -137,14 +137,14 @@ fn without_slash(path: &[u8]) -> &[u8]
     ensures { result.now ≡ spec.without_slash path.now }
 {
     match before(b"/", path) {
-        Some(front) => front,
+        Some(prefix) => prefix,
         None => path,
     }
 }
 
 /// The parts of what follows the scheme.
-fn parts_behind(rest: &[u8]) -> Option<UrlParts<'_>>
-    ensures parts { option_map (λ p. (p.authority.now, p.path.now)) result ≡ spec.parts_behind rest.now }
+fn parts_after(rest: &[u8]) -> Option<UrlParts<'_>>
+    ensures parts { option_map (λ p. (p.authority.now, p.path.now)) result ≡ spec.parts_after rest.now }
     ensures authority { IfSome result (λ p. spec.is_authority p.authority.now ≡ true) }
     ensures path { IfSome result (λ p. spec.is_path p.path.now ≡ true) }
 {
@@ -168,7 +168,7 @@ pub fn parts_of(text: &[u8]) -> Option<UrlParts<'_>>
     ensures authority { IfSome result (λ p. spec.is_authority p.authority.now ≡ true) }
     ensures path { IfSome result (λ p. spec.is_path p.path.now ≡ true) }
 {
-    parts_behind(after(b"http://", text)?)
+    parts_after(after(b"http://", text)?)
 }
 
 /// Whether a text begins as a URL with encryption does.

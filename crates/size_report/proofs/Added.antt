@@ -12,7 +12,7 @@ use Rattle.size_report.specs.Lines.{on}
 use Rattle.size_report.specs.Text.{added_on, on_if, on_line}
 use Rattle.size_report.specs.declared.stage.Kind.TheVariants as kind
 use Rattle.size_report.specs.declared.stage.Stage.TheVariants as stage
-use Rattle.size_report.proofs.Spelled.{on_told}
+use Rattle.size_report.proofs.Encoded.{on_told}
 use Rattle.size_report.proofs.Walks.{Leads, at, leads_line, leads_none, leads_on}
 
 -- from this machine on, none below the one before it
@@ -65,9 +65,9 @@ parted (x ∷ xs) k rises = elim (cases_eq x k) [
       ))
 ]
 
-drop_front : (P : ℕ → Type 0) (n k : ℕ) (ys : List ℕ) → AllByRecursion P (replicate n k ++ ys) → AllByRecursion P ys
-drop_front P zero k ys h = h
-drop_front P (suc n) k ys h = drop_front P n k ys h.1
+drop_prefix : (P : ℕ → Type 0) (n k : ℕ) (ys : List ℕ) → AllByRecursion P (replicate n k ++ ys) → AllByRecursion P ys
+drop_prefix P zero k ys h = h
+drop_prefix P (suc n) k ys h = drop_prefix P n k ys h.1
 
 module _ (p : Settings) (valid : AreSettings p) (added : List ℕ) where
   abbrev listing : List ℕ → ℕ → Type 0
@@ -85,7 +85,7 @@ module _ (p : Settings) (valid : AreSettings p) (added : List ℕ) where
       let text = flat_map (on_if p added) (range_with_len (k + 1) many) in
       let here : added_on added k ≡ c = same k (omega arith) in
       let sizes : length xs ≡ c + length ys = ap length part.1.shape ∙ omega (arith, length-append (replicate c k) ys, length-replicate c k) in
-      let later : AllByRecursion (λ x. x < length p.machines) ys = drop_front (λ x. x < length p.machines) c k ys (subst (AllByRecursion (λ x. x < length p.machines)) part.1.shape below) in
+      let later : AllByRecursion (λ x. x < length p.machines) ys = drop_prefix (λ x. x < length p.machines) c k ys (subst (AllByRecursion (λ x. x < length p.machines)) part.1.shape below) in
       let listed : listing ys (k + 1) = λ m from. same m (omega (arith, from)) ∙ part.1.same m (omega (arith, from)) in
       elim (cases_lt 0 c) [
         | inl some ↦ (

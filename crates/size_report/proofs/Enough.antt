@@ -24,7 +24,7 @@ use Rattle.size_report.proofs.Added.{ascends, on_lead}
 use Rattle.size_report.proofs.Plans.{IsListed, IsOpen, listed, tasks_lead}
 use Rattle.size_report.proofs.Retold.{lines_same, shown_still}
 use Rattle.size_report.proofs.Sets.{set_lead}
-use Rattle.size_report.proofs.Spelled.{add_told}
+use Rattle.size_report.proofs.Encoded.{add_told}
 use Rattle.size_report.proofs.Walks.{Leads, asked, at, closed, leads_line, leads_none, leads_on}
 use Rattle.text_pieces.specs.Lines.{ended}
 
@@ -38,9 +38,9 @@ pub record IsTheirs (p : Settings) (farm : Farm) : Type 0 where
 module _ (p : Settings) (farm : Farm) (valid : AreSettings p) (sound : IsFarm farm) (theirs : IsTheirs p farm) (added : List ℕ) (entries : List (ℕ × Option ℕ)) where
   module _ (machines : IsNonDecreasing added) (rises : IsStrictlyIncreasing (slots_of entries)) where
     -- the lines up to the last worker's
-    front_lead : (short : Option (List ℕ)) → IsShownAddition farm added entries short
+    prefix_lead : (short : Option (List ℕ)) → IsShownAddition farm added entries short
         → (t : Stage) × (a : ℕ) × (b : ℕ) × IsOpen t × Leads p asked (add_line (length added) ++ on_lines p added ++ flat_map (task_if p added) entries) (at t kind.Enough added (listed_plan entries) None a b 0)
-    front_lead short shown =
+    prefix_lead short shown =
         let room : length added ≤ 4096 = omega (arith, shown.few) in
         let rows : length farm.problem.may ≡ length p.machines = ap length theirs.may ∙ valid.may_paired in
         let there : All (λ m. m < length p.machines) added = subst (λ n. All (λ m. m < n) added) rows shown.permitted.machines in
@@ -62,24 +62,24 @@ module _ (p : Settings) (farm : Farm) (valid : AreSettings p) (sound : IsFarm fa
 
     pub enough_read : (short : Option (List ℕ)) → IsShownAddition farm added entries short → size_meaning p (size_text p farm (Enough added entries short)) ≡ Ok (retold (Enough added entries short))
     enough_read None shown =
-        let front = add_line (length added) ++ on_lines p added ++ flat_map (task_if p added) entries in
-        let read = front_lead None shown in
+        let prefix = add_line (length added) ++ on_lines p added ++ flat_map (task_if p added) entries in
+        let read = prefix_lead None shown in
         let d = at read.0 kind.Enough added (listed_plan entries) None read.1 read.2 0 in
-        closed p farm.level sound.some sound.small (front ++ []) read.0 kind.Enough added (listed_plan entries) None read.1 read.2 0 read.3.complete (leads_on p asked d d front [] read.4 (leads_none p d))
+        closed p farm.level sound.some sound.small (prefix ++ []) read.0 kind.Enough added (listed_plan entries) None read.1 read.2 0 read.3.complete (leads_on p asked d d prefix [] read.4 (leads_none p d))
     enough_read (Some set) shown =
-        let front = add_line (length added) ++ on_lines p added ++ flat_map (task_if p added) entries in
-        let read = front_lead (Some set) shown in
+        let prefix = add_line (length added) ++ on_lines p added ++ flat_map (task_if p added) entries in
+        let read = prefix_lead (Some set) shown in
         let d = at read.0 kind.Enough added (listed_plan entries) None read.1 read.2 0 in
         let rest = set_lead p farm valid sound theirs.functions theirs.least (length added) set read.0 kind.Enough added (listed_plan entries) read.1 read.2 shown.evidence.1 read.3.set in
-        closed p farm.level sound.some sound.small (front ++ short_lines (short_of p farm set)) stage.Set kind.Enough added (listed_plan entries) (Some set) read.1 read.2 rest.0 refl
-        (leads_on p asked d _ front (short_lines (short_of p farm set)) read.4 rest.1)
+        closed p farm.level sound.some sound.small (prefix ++ short_lines (short_of p farm set)) stage.Set kind.Enough added (listed_plan entries) (Some set) read.1 read.2 rest.0 refl
+        (leads_on p asked d _ prefix (short_lines (short_of p farm set)) read.4 rest.1)
 
     pub enough_read_back : (short : Option (List ℕ)) → IsShownAddition farm added entries short → IsReadBack p farm (Enough added entries short)
     enough_read_back short shown =
         let lines = ended (codes "size 1") ++ level_line farm.level in
-        let front = add_line (length added) ++ on_lines p added in
+        let prefix = add_line (length added) ++ on_lines p added in
         record {
           same = enough_read short shown;
           shown = shown_still farm added entries short rises shown;
-          text = ap (λ t. lines ++ (front ++ t ++ short_if (option_map (short_of p farm) short)) ++ ended (codes "end")) (lines_same p added entries);
+          text = ap (λ t. lines ++ (prefix ++ t ++ short_if (option_map (short_of p farm) short)) ++ ended (codes "end")) (lines_same p added entries);
         }

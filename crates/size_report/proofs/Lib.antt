@@ -1,7 +1,7 @@
 pub mod Steps
 pub mod Places
 pub mod Written
-pub mod Spelled
+pub mod Encoded
 pub mod Walks
 pub mod Bounds
 pub mod Never

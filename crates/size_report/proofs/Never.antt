@@ -13,7 +13,7 @@ use Rattle.size_report.specs.Text.{above_most_line, no_machine_line, obstacle_li
 use Rattle.size_report.specs.declared.stage.Kind.TheVariants as kind
 use Rattle.size_report.specs.declared.stage.Stage.TheVariants as stage
 use Rattle.size_report.proofs.Bounds.{IsTold, obstacle_told}
-use Rattle.size_report.proofs.Spelled.{above_told, nobody_told}
+use Rattle.size_report.proofs.Encoded.{above_told, nobody_told}
 use Rattle.size_report.proofs.Walks.{Leads, asked, at, closed, leads_line}
 
 module _ (p : Settings) (valid : AreSettings p) where

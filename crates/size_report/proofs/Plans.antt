@@ -29,7 +29,7 @@ use Rattle.size_report.specs.declared.stage.Kind.{Kind}
 use Rattle.size_report.specs.declared.stage.Stage.{Stage}
 use Rattle.size_report.specs.declared.stage.Stage.TheVariants as stage
 use Rattle.size_report.proofs.Named.{back}
-use Rattle.size_report.proofs.Spelled.{work_told}
+use Rattle.size_report.proofs.Encoded.{work_told}
 use Rattle.size_report.proofs.Walks.{Leads, at, leads_line, leads_none, leads_on}
 use Rattle.size_report.proofs.Written.{listed_slots}
 
@@ -76,7 +76,7 @@ listed farm added entries sound permitted rises = All-from_get_or (IsListed (far
 
 -- ---- their lines
 
--- what may stand behind the lines of the workers
+-- what may stand after the lines of the workers
 pub record IsOpen (s : Stage) : Type 0 where
   pub tasks : before_tasks s ≡ true
   pub set : before_set s ≡ true

@@ -23,7 +23,7 @@ use Rattle.size_report.specs.declared.stage.Kind.{Kind}
 use Rattle.size_report.specs.declared.stage.Stage.{Stage}
 use Rattle.size_report.specs.declared.stage.Stage.TheVariants as stage
 use Rattle.size_report.proofs.Bounds.{need_small}
-use Rattle.size_report.proofs.Spelled.{needed_told, sums_told}
+use Rattle.size_report.proofs.Encoded.{needed_told, sums_told}
 use Rattle.size_report.proofs.Walks.{Leads, at, leads_line, leads_none, leads_on}
 
 pub sum_small : (farm : Farm) (set : List ℕ) → IsFarm farm → ((f : ℕ) → need farm f < 2 ^ 32) → IsStrictlyIncreasing set → All (λ f. f < length farm.problem.least) set

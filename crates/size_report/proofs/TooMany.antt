@@ -12,7 +12,7 @@ use Rattle.size_report.specs.declared.stage.Kind.TheVariants as kind
 use Rattle.size_report.specs.declared.stage.Stage.TheVariants as stage
 use Rattle.size_report.proofs.Bounds.{need_small}
 use Rattle.size_report.proofs.Sets.{set_lead, sum_small}
-use Rattle.size_report.proofs.Spelled.{too_many_told}
+use Rattle.size_report.proofs.Encoded.{too_many_told}
 use Rattle.size_report.proofs.Walks.{Leads, asked, at, closed, leads_line, leads_on}
 
 pub too_many_read : (p : Settings) (farm : Farm) (many : ℕ) (set : List ℕ) → AreSettings p → IsFarm farm → length farm.problem.least ≡ length p.functions

@@ -13,11 +13,11 @@ use Rattle.size_report.specs.declared.stage.Kind.{Kind}
 use Rattle.size_report.specs.declared.stage.Kind.TheVariants as kind
 use Rattle.size_report.specs.declared.stage.Stage.{Stage}
 use Rattle.size_report.specs.declared.stage.Stage.TheVariants as stage
-use Rattle.size_report.proofs.Spelled.{Tells, end_told, head_told, level_told}
+use Rattle.size_report.proofs.Encoded.{Tells, end_told, head_told, level_told}
 use Rattle.size_report.proofs.Steps.{taken_line}
 use Rattle.text_pieces.specs.Lines.{ended, is_line_feed}
 
--- The text leads from one draft to another, whatever stands behind it.
+-- The text leads from one draft to another, whatever stands after it.
 abbrev pub Leads : Settings → Draft → List ℕ → Draft → Type 0
 Leads p d text more =
     (n : ℕ) (rest : List ℕ) → (m : ℕ) × (meaning_from p n d (slice_split is_line_feed (text ++ rest)) ≡ meaning_from p m more (slice_split is_line_feed rest))
@@ -57,8 +57,8 @@ module _ (p : Settings) where
       let head : Leads p start (ended (codes "size 1")) one = leads_line start one (ended (codes "size 1")) first head_told refl in
       let second : Leads p one (level_line level_asked) asked = leads_line one asked (level_line level_asked) level (level_told level_asked some small) refl in
       let done : Leads p d (ended (codes "end")) e = leads_line d e (ended (codes "end")) (shared last) end_told (rw complete refl) in
-      let front = ended (codes "size 1") ++ level_line level_asked in
-      let all = leads_on start d e (front ++ answer) (ended (codes "end")) (leads_on start asked d front answer (leads_on start one asked (ended (codes "size 1")) (level_line level_asked) head second) on) done in
-      let text = front ++ answer ++ ended (codes "end") in
+      let prefix = ended (codes "size 1") ++ level_line level_asked in
+      let all = leads_on start d e (prefix ++ answer) (ended (codes "end")) (leads_on start asked d prefix answer (leads_on start one asked (ended (codes "size 1")) (level_line level_asked) head second) on) done in
+      let text = prefix ++ answer ++ ended (codes "end") in
       let read = all 1 [] in
       ap (λ t. meaning_from p 1 start (slice_split is_line_feed t)) (sym (append-nil text)) ∙ read.1

@@ -62,8 +62,8 @@ fn is_small(number: u64) -> bool
 fn read_above_most(rest: &[u8]) -> Option<Line<'_>>
     ensures { option_map size_line_view result ≡ spec.above_most_in rest.now }
 {
-    let (front, most) = count_after(b"most", rest)?;
-    let (function, need) = count_after(b"need", front)?;
+    let (prefix, most) = count_after(b"most", rest)?;
+    let (function, need) = count_after(b"need", prefix)?;
     if is_name(function) && is_small(need) && is_small(most) {
         Some(Line::AboveMost(function, need as u32, most as u32))
     } else {

@@ -5,10 +5,10 @@ use Rattle.std.specs.List.{list_all, position_or_len, slice_split}
 use Rattle.std.proofs.lemmas.Bool.{and_parts, eq-eqb, eqb-true, false≢true, ltb-false, ltb-true, ne_eqb}
 use Rattle.std.proofs.lemmas.Bool.Decides.{nat_tests}
 use Rattle.std.proofs.lemmas.List.{take_all}
-use Rattle.text_pieces.specs.Cuts.{cut_first, cut_last, put_front}
+use Rattle.text_pieces.specs.Cuts.{cut_first, cut_last, put_prefix}
 use Rattle.text_pieces.specs.Laws.{AreCutsJoined, has_byte, parts_by}
 
--- all that is left behind n bytes
+-- all that is left after n bytes
 pub rest_taken : (n : ℕ) (text : List ℕ) → take (length text - n) (drop n text) ≡ drop n text
 rest_taken n text = take_all _ (drop n text) (omega (arith, length-drop n text))
 
@@ -44,7 +44,7 @@ found_at c (b ∷ bs) (suc n) at below = by (found_at c bs n) (eqb b c) refl
     by again true is = let k : 0 ≡ suc n = rw is at at in absurd (omega (arith, k))
     by again false other =
         let k : 1 + position_or_len (is_byte c) bs ≡ suc n = rw other at at in
-        rw other (ap (option_map (put_front b)) (again (omega (arith, k)) (omega arith)))
+        rw other (ap (option_map (put_prefix b)) (again (omega (arith, k)) (omega arith)))
 
 found_nowhere : (c : ℕ) (text : List ℕ) → length text ≤ position_or_len (is_byte c) text → cut_first c text ≡ None
 found_nowhere c [] none = refl
@@ -54,7 +54,7 @@ found_nowhere c (b ∷ bs) none = by (found_nowhere c bs) (eqb b c) refl
     by again true is = let k : length (b ∷ bs) ≤ 0 = rw is at none in absurd (omega (arith, k))
     by again false other =
         let k : length (b ∷ bs) ≤ 1 + position_or_len (is_byte c) bs = rw other at none in
-        rw other (ap (option_map (put_front b)) (again (omega (arith, k))))
+        rw other (ap (option_map (put_prefix b)) (again (omega (arith, k))))
 
 pub cut_position : (c : ℕ) (text : List ℕ) (n : ℕ) → position (is_byte c) text ≡ Some n
     → Some (take n text, take (length text - (n + 1)) (drop (n + 1) text)) ≡ cut_first c text
@@ -74,11 +74,11 @@ cut_no_position c text e = by (ltb (position_or_len (is_byte c) text) (length te
     by true inside = let k : Some (position_or_len (is_byte c) text) ≡ None = rw inside at e in absurd (never (position_or_len (is_byte c) text) (sym k))
     by false outside = sym (found_nowhere c text (ltb-false _ _ outside))
 
-pub first_of_parts : (c : ℕ) (front back : List ℕ) → has_byte c front ≡ false → cut_first c (front ++ c ∷ back) ≡ Some (front, back)
+pub first_of_parts : (c : ℕ) (prefix back : List ℕ) → has_byte c prefix ≡ false → cut_first c (prefix ++ c ∷ back) ≡ Some (prefix, back)
 first_of_parts c [] back h = rw (eq-eqb c c refl) refl
-first_of_parts c (b ∷ front) back h =
-    let parts = or_parts (eqb b c) (has_byte c front) h in
-    rw (parts.0, first_of_parts c front back parts.1) refl
+first_of_parts c (b ∷ prefix) back h =
+    let parts = or_parts (eqb b c) (has_byte c prefix) h in
+    rw (parts.0, first_of_parts c prefix back parts.1) refl
 
 pub parts_of_first : (c : ℕ) (text : List ℕ) (parts : List ℕ × List ℕ) → cut_first c text ≡ Some parts
     → (text ≡ parts.0 ++ c ∷ parts.1) × (has_byte c parts.0 ≡ false)
@@ -92,7 +92,7 @@ parts_of_first c (b ∷ bs) parts e = by (parts_of_first c bs) (eqb b c) refl (c
         let here : ([], bs) ≡ parts = same ([], bs) parts (rw is at e) in
         rw (← here) (ap (λ x. x ∷ bs) (eqb-true b c is), refl)
     by again false other (Some inner) cut =
-        let here : put_front b inner ≡ parts = same (put_front b inner) parts (rw (other, cut) at e) in
+        let here : put_prefix b inner ≡ parts = same (put_prefix b inner) parts (rw (other, cut) at e) in
         rw (← here) (ap (λ x. b ∷ x) (again inner cut).0, rw other (again inner cut).1)
     by again false other None cut = absurd (never parts (rw (other, cut) at e))
 
@@ -109,15 +109,15 @@ nowhere_last c [] h = refl
 nowhere_last c (b ∷ bs) h = by (nowhere_last c bs) (cut_last c bs) refl (eqb b c) refl
   where
     by : (cut_last c bs ≡ None → has_byte c bs ≡ false) → (o : Option (List ℕ × List ℕ)) → cut_last c bs ≡ o → (d : Bool) → eqb b c ≡ d → has_byte c (b ∷ bs) ≡ false
-    by again (Some parts) cut d is = absurd (never (put_front b parts) (sym (rw cut at h)))
+    by again (Some parts) cut d is = absurd (never (put_prefix b parts) (sym (rw cut at h)))
     by again None cut true is =
         let made : List ℕ × List ℕ = ([], bs) in
         absurd (never made (sym (rw (cut, is) at h)))
     by again None cut false other = rw other (again cut)
 
-pub last_of_parts : (c : ℕ) (front back : List ℕ) → cut_last c back ≡ None → cut_last c (front ++ c ∷ back) ≡ Some (front, back)
+pub last_of_parts : (c : ℕ) (prefix back : List ℕ) → cut_last c back ≡ None → cut_last c (prefix ++ c ∷ back) ≡ Some (prefix, back)
 last_of_parts c [] back none = rw (none, eq-eqb c c refl) refl
-last_of_parts c (b ∷ front) back none = rw (last_of_parts c front back none) refl
+last_of_parts c (b ∷ prefix) back none = rw (last_of_parts c prefix back none) refl
 
 pub parts_of_last : (c : ℕ) (text : List ℕ) (parts : List ℕ × List ℕ) → cut_last c text ≡ Some parts
     → (text ≡ parts.0 ++ c ∷ parts.1) × (has_byte c parts.1 ≡ false)
@@ -133,11 +133,11 @@ parts_of_last c (b ∷ bs) parts e = by (parts_of_last c bs) (cut_last c bs) ref
     by : ((inner : List ℕ × List ℕ) → cut_last c bs ≡ Some inner → (bs ≡ inner.0 ++ c ∷ inner.1) × (has_byte c inner.1 ≡ false))
         → (o : Option (List ℕ × List ℕ)) → cut_last c bs ≡ o → (b ∷ bs ≡ parts.0 ++ c ∷ parts.1) × (has_byte c parts.1 ≡ false)
     by again (Some inner) is =
-        let cut : put_front b inner ≡ parts = same (put_front b inner) parts (rw is at e) in
+        let cut : put_prefix b inner ≡ parts = same (put_prefix b inner) parts (rw is at e) in
         rw (← cut) (ap (λ x. b ∷ x) (again inner is).0, (again inner is).1)
     by again None none = here (eqb b c) refl none
 
--- a text is cut at its byte at i, where none such stands behind it
+-- a text is cut at its byte at i, where none such stands after it
 pub cut_here : (c : ℕ) (text : List ℕ) (i : ℕ) → i < length text → get_or text i 0 ≡ c → cut_last c (drop (suc i) text) ≡ None
     → cut_last c text ≡ Some (take i text, drop (suc i) text)
 cut_here c [] i h here none = absurd (omega arith)
@@ -153,11 +153,11 @@ none_in c p (b ∷ bs) out all =
     let parts = and_parts (p b) (list_all p bs) all in
     rw (ne_eqb b c (λ e. false≢true (sym out ∙ ap p (sym e) ∙ parts.0)), none_in c p bs out parts.1) refl
 
-pub none_joined : (c : ℕ) (front back : List ℕ) → has_byte c front ≡ false → has_byte c back ≡ false → has_byte c (front ++ back) ≡ false
+pub none_joined : (c : ℕ) (prefix back : List ℕ) → has_byte c prefix ≡ false → has_byte c back ≡ false → has_byte c (prefix ++ back) ≡ false
 none_joined c [] back h k = k
-none_joined c (b ∷ front) back h k =
-    let parts = or_parts (eqb b c) (has_byte c front) h in
-    rw (parts.0, none_joined c front back parts.1 k) refl
+none_joined c (b ∷ prefix) back h k =
+    let parts = or_parts (eqb b c) (has_byte c prefix) h in
+    rw (parts.0, none_joined c prefix back parts.1 k) refl
 
 -- ---- the parts between all such bytes
 
@@ -175,13 +175,13 @@ split_by_first c (b ∷ bs) = by (split_by_first c bs) (eqb b c) refl (cut_first
 
 pub cuts_joined : AreCutsJoined
 cuts_joined = record {
-  first = λ c text front back. (
-    λ cut. parts_of_first c text (front, back) cut,
-    λ joined. ap (cut_first c) joined.0 ∙ first_of_parts c front back joined.1,
+  first = λ c text prefix back. (
+    λ cut. parts_of_first c text (prefix, back) cut,
+    λ joined. ap (cut_first c) joined.0 ∙ first_of_parts c prefix back joined.1,
   );
   split = split_by_first;
-  last = λ c text front back. (
-    λ cut. parts_of_last c text (front, back) cut,
-    λ joined. ap (cut_last c) joined.0 ∙ last_of_parts c front back (last_nowhere c back joined.1),
+  last = λ c text prefix back. (
+    λ cut. parts_of_last c text (prefix, back) cut,
+    λ joined. ap (cut_last c) joined.0 ∙ last_of_parts c prefix back (last_nowhere c back joined.1),
   );
 }

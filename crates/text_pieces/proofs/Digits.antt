@@ -70,8 +70,8 @@ lead_of bs lead zero_first =
     eqb-true (length bs) 1 one
 
 -- plain digits that are read are the number as it is written
-pub plain_spelled : (bound : ℕ) (bs : List ℕ) (n : ℕ) → bound ≤ 2 ^ 64 → plain_number_below bound bs ≡ Some n → (bs ≡ decimal n) × (n < bound)
-plain_spelled bound bs n wide e = by (is_plain bs) refl (ltb (digits_value 10 bs) bound) refl
+pub plain_encoded : (bound : ℕ) (bs : List ℕ) (n : ℕ) → bound ≤ 2 ^ 64 → plain_number_below bound bs ≡ Some n → (bs ≡ decimal n) × (n < bound)
+plain_encoded bound bs n wide e = by (is_plain bs) refl (ltb (digits_value 10 bs) bound) refl
   where
     by : (a : Bool) → is_plain bs ≡ a → (d : Bool) → ltb (digits_value 10 bs) bound ≡ d → (bs ≡ decimal n) × (n < bound)
     by true p true s =
@@ -125,7 +125,7 @@ uncut c n small out = last_nowhere c (decimal n) (none_in_decimal c n small out)
 pub read_back : AreNumbersReadBack
 read_back = record {
   plain = λ bound digits n wide. (
-    plain_spelled bound digits n wide,
+    plain_encoded bound digits n wide,
     λ written. ap (plain_number_below bound) written.0 ∙ plain_decimal bound n written.1 (omega (arith, wide, written.1)),
   );
   same = plain_allowed;

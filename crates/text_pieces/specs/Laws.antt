@@ -13,10 +13,10 @@ abbrev pub parts_by : ℕ → List ℕ → List (List ℕ)
 parts_by c text = option_map_or (λ cut. cut.0 ∷ slice_split (λ b. b == c) cut.1) (cut_first c text) (text ∷ [])
 
 pub record AreCutsJoined : Type 0 where
-  pub first : (c : ℕ) (text front back : List ℕ)
-      → (cut_first c text ≡ Some (front, back)) ↔ ((text ≡ front ++ c ∷ back) × (has_byte c front ≡ false))
-  pub last : (c : ℕ) (text front back : List ℕ)
-      → (cut_last c text ≡ Some (front, back)) ↔ ((text ≡ front ++ c ∷ back) × (has_byte c back ≡ false))
+  pub first : (c : ℕ) (text prefix back : List ℕ)
+      → (cut_first c text ≡ Some (prefix, back)) ↔ ((text ≡ prefix ++ c ∷ back) × (has_byte c prefix ≡ false))
+  pub last : (c : ℕ) (text prefix back : List ℕ)
+      → (cut_last c text ≡ Some (prefix, back)) ↔ ((text ≡ prefix ++ c ∷ back) × (has_byte c back ≡ false))
   pub split : (c : ℕ) (text : List ℕ) → slice_split (λ b. b == c) text ≡ parts_by c text
 
 pub record AreNumbersReadBack : Type 0 where

@@ -5,7 +5,7 @@ use Rattle.std.specs.Borrow.{Bor}
 use Rattle.gear_packets.specs.Request.{Packet, can_do, cant_do}
 use Rattle.gear_packets.specs.Text.{is_same_name, register}
 
--- the name behind a reference
+-- the name after a reference
 abbrev pub seen_name : Option (Bor (List ℕ)) → Option (List ℕ)
 seen_name name = option_map (λ n. n.now) name
 

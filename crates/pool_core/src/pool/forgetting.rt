@@ -1,6 +1,6 @@
 //! Jobs that are kept no longer.
 ghost use Rattle.std.specs.Prelude.{◌≡◌};
-ghost use Rattle.pool_core.specs.Book.{has_closed_front};
+ghost use Rattle.pool_core.specs.Book.{has_closed_prefix};
 ghost use Rattle.pool_core.specs.Calls.{Forgets};
 
 use super::Pool;
@@ -10,8 +10,8 @@ use worker_state::Ticket;
 
 impl Pool {
     /// Whether the job of the first ticket that is not forgotten is reported or lost.
-    fn has_closed_front(&self) -> bool
-        ensures { result ≡ has_closed_front self.now }
+    fn has_closed_prefix(&self) -> bool
+        ensures { result ≡ has_closed_prefix self.now }
     {
         match self.standings.get(self.standings.forgotten()) {
             None => false,
@@ -27,7 +27,7 @@ impl Pool {
     pub fn forget(&mut self) -> Option<Forgotten>
         ensures { Forgets self.old self.new result }
     {
-        if !self.has_closed_front() {
+        if !self.has_closed_prefix() {
             return None;
         }
         let job = self.jobs.forget()?;

@@ -169,7 +169,7 @@ fn other_bodies(rt: HostRuntime) {
 }
 
 /// The request is encoded by these bytes, and is what they are read as, whatever follows them.
-fn expect_spelled(
+fn expect_encoded(
     rt: &impl Abort,
     alloc: Global,
     request: &Request,
@@ -183,8 +183,8 @@ fn expect_spelled(
         return Err("not read".into());
     };
     assert_eq!(rt; size, bytes.len());
-    let spelled_again = encode(alloc, &again).ok().ok_or("not spelled again")?;
-    assert!(rt; spelled_again.as_slice() == bytes);
+    let encoded_again = encode(alloc, &again).ok().ok_or("not spelled again")?;
+    assert!(rt; encoded_again.as_slice() == bytes);
     Ok(())
 }
 
@@ -230,7 +230,7 @@ fn requests_of_a_session(rt: HostRuntime) -> Result<(), Fail> {
         ),
     ];
     for (request, bytes) in &sent {
-        expect_spelled(&rt, alloc, request, bytes)?;
+        expect_encoded(&rt, alloc, request, bytes)?;
     }
     Ok(())
 }

@@ -246,10 +246,10 @@ pub fn checks(
 
 /// The first example's report, with a text in the place of so many bytes.
 fn changed(alloc: Global, at: usize, len: usize, to: &[u8]) -> Result<Vec<u8>, AllocError> {
-    let (front, rest) = TWO_REPORT.split_at(at.min(TWO_REPORT.len()));
+    let (prefix, rest) = TWO_REPORT.split_at(at.min(TWO_REPORT.len()));
     let (_, back) = rest.split_at(len.min(rest.len()));
     let mut report = Vec::new(alloc);
-    report.extend_from_slice(front)?;
+    report.extend_from_slice(prefix)?;
     report.extend_from_slice(to)?;
     report.extend_from_slice(back)?;
     Ok(report)

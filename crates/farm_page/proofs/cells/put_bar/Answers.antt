@@ -3,7 +3,7 @@ use Rattle.std.specs.Prelude.{codes}
 use Rattle.std.specs.Fmt.{decimal}
 use Rattle.std.proofs.lemmas.Result.{on_ok_weaker}
 use Rattle.farm_page.specs.Rows.{share}
-use Rattle.farm_page.proofs.Walks.{behind}
+use Rattle.farm_page.proofs.Walks.{after}
 use Rattle.farm_page.proofs.cells.put_bar.Goals as goal
 
 pub returns : goal.returns
@@ -14,4 +14,4 @@ returns c =
     let t2 : List ℕ = codes "\"/><rect class=\"least\" width=\"2\" height=\"8\" x=\"" in
     let t3 : List ℕ = decimal (share c.args.least c.args.workers.all) in
     let t4 : List ℕ = codes "\"/></svg></td>" in
-    on_ok_weaker c.put_tags-3.result (λ told. behind old _ _ (t0 ++ t1 ++ t2 ++ t3) t4 (behind old _ _ (t0 ++ t1 ++ t2) t3 (behind old _ _ (t0 ++ t1) t2 (behind old _ _ (t0) t1 c.in_ok-put_tags.ensures (c.in_ok-put_number.ensures ∙ ap (λ n. c.put_tags.new.self ++ decimal n) (c.from.ensures ∙ c.share.ensures))) c.in_ok-put_tags-2.ensures) (c.in_ok-put_number-2.ensures ∙ ap (λ n. c.put_tags-2.new.self ++ decimal n) (c.from-2.ensures ∙ c.share-2.ensures))) told) c.put_tags-3.ensures
+    on_ok_weaker c.put_tags-3.result (λ told. after old _ _ (t0 ++ t1 ++ t2 ++ t3) t4 (after old _ _ (t0 ++ t1 ++ t2) t3 (after old _ _ (t0 ++ t1) t2 (after old _ _ (t0) t1 c.in_ok-put_tags.ensures (c.in_ok-put_number.ensures ∙ ap (λ n. c.put_tags.new.self ++ decimal n) (c.from.ensures ∙ c.share.ensures))) c.in_ok-put_tags-2.ensures) (c.in_ok-put_number-2.ensures ∙ ap (λ n. c.put_tags-2.new.self ++ decimal n) (c.from-2.ensures ∙ c.share-2.ensures))) told) c.put_tags-3.ensures

@@ -2,7 +2,7 @@ use Rattle.std.proofs.Common.{List, ℕ, ◌++◌, ◌∙◌, ap}
 use Rattle.std.specs.Prelude.{codes}
 use Rattle.std.proofs.lemmas.Result.{on_ok_weaker}
 use Rattle.farm_page.specs.Escaping.{page_text}
-use Rattle.farm_page.proofs.Walks.{behind}
+use Rattle.farm_page.proofs.Walks.{after}
 use Rattle.farm_page.proofs.cells.put_words.Goals as goal
 
 pub returns : goal.returns
@@ -12,4 +12,4 @@ returns c =
     let t1 : List ℕ = c.args.lead.now in
     let t2 : List ℕ = page_text c.args.words.now in
     let t3 : List ℕ = codes "</td>" in
-    on_ok_weaker c.put_tags-3.result (λ told. behind old _ _ (t0 ++ t1 ++ t2) t3 (behind old _ _ (t0 ++ t1) t2 (behind old _ _ t0 t1 c.in_ok-put_tags.ensures c.in_ok-put_tags-2.ensures) (c.in_ok-put_text.ensures ∙ ap (λ t. c.put_tags-2.new.self ++ page_text t) c.as_bytes.ensures.value)) told) c.put_tags-3.ensures
+    on_ok_weaker c.put_tags-3.result (λ told. after old _ _ (t0 ++ t1 ++ t2) t3 (after old _ _ (t0 ++ t1) t2 (after old _ _ t0 t1 c.in_ok-put_tags.ensures c.in_ok-put_tags-2.ensures) (c.in_ok-put_text.ensures ∙ ap (λ t. c.put_tags-2.new.self ++ page_text t) c.as_bytes.ensures.value)) told) c.put_tags-3.ensures

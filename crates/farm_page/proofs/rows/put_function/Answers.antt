@@ -6,7 +6,7 @@ use Rattle.farm_page.specs.Metric.{function_value}
 use Rattle.farm_page.specs.declared.cells.Gap.TheVariants.{Any}
 use Rattle.farm_page.specs.declared.cells.Mark.TheVariants.{Plain}
 use Rattle.farm_page.specs.declared.metric.Metric.TheVariants.{FunctionMost}
-use Rattle.farm_page.proofs.Walks.{behind}
+use Rattle.farm_page.proofs.Walks.{after}
 use Rattle.farm_page.proofs.rows.put_function.Goals as goal
 
 pub returns : goal.returns
@@ -18,4 +18,4 @@ returns c =
     let t3 : List ℕ = cell_if (function_value c.args.function.now FunctionMost) Any in
     let t4 : List ℕ = jobs_cells c.args.function.now in
     let t5 : List ℕ = codes "</tr>\n" in
-    on_ok_weaker c.put_tags.result (λ told. behind old _ _ (t0 ++ t1 ++ t2 ++ t3 ++ t4) t5 (behind old _ _ (t0 ++ t1 ++ t2 ++ t3) t4 (behind old _ _ (t0 ++ t1 ++ t2) t3 (behind old _ _ (t0 ++ t1) t2 (behind old _ _ (t0) t1 (c.in_ok-put_row_name.ensures ∙ ap (λ t. old ++ row_name t) c.as_str.ensures.value) c.in_ok-put_workers.ensures) (c.in_ok-put_cell.ensures ∙ ap (λ n. c.put_workers.new.out ++ cell Plain n) c.from.ensures)) (c.in_ok-put_cell_if.ensures ∙ ap (λ n. c.put_cell.new.out ++ cell_if n Any) c.function_value-most.ensures)) c.in_ok-put_jobs.ensures) told) c.put_tags.ensures
+    on_ok_weaker c.put_tags.result (λ told. after old _ _ (t0 ++ t1 ++ t2 ++ t3 ++ t4) t5 (after old _ _ (t0 ++ t1 ++ t2 ++ t3) t4 (after old _ _ (t0 ++ t1 ++ t2) t3 (after old _ _ (t0 ++ t1) t2 (after old _ _ (t0) t1 (c.in_ok-put_row_name.ensures ∙ ap (λ t. old ++ row_name t) c.as_str.ensures.value) c.in_ok-put_workers.ensures) (c.in_ok-put_cell.ensures ∙ ap (λ n. c.put_workers.new.out ++ cell Plain n) c.from.ensures)) (c.in_ok-put_cell_if.ensures ∙ ap (λ n. c.put_cell.new.out ++ cell_if n Any) c.function_value-most.ensures)) c.in_ok-put_jobs.ensures) told) c.put_tags.ensures

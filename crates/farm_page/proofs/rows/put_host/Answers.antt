@@ -3,7 +3,7 @@ use Rattle.std.specs.Prelude.{codes}
 use Rattle.std.proofs.lemmas.Result.{on_ok_weaker}
 use Rattle.farm_page.specs.Rows.{bar, cell, reached_cell, row_name}
 use Rattle.farm_page.specs.declared.cells.Mark.TheVariants.{Plain}
-use Rattle.farm_page.proofs.Walks.{behind}
+use Rattle.farm_page.proofs.Walks.{after}
 use Rattle.farm_page.proofs.rows.put_host.Goals as goal
 
 pub returns : goal.returns
@@ -15,4 +15,4 @@ returns c =
     let t3 : List ℕ = bar c.args.host.now.workers c.args.host.now.workers.all in
     let t4 : List ℕ = reached_cell c.args.host.now in
     let t5 : List ℕ = codes "</tr>\n" in
-    on_ok_weaker c.put_tags.result (λ told. behind old _ _ (t0 ++ t1 ++ t2 ++ t3 ++ t4) t5 (behind old _ _ (t0 ++ t1 ++ t2 ++ t3) t4 (behind old _ _ (t0 ++ t1 ++ t2) t3 (behind old _ _ (t0 ++ t1) t2 (behind old _ _ (t0) t1 (c.in_ok-put_row_name.ensures ∙ ap (λ t. old ++ row_name t) c.as_str.ensures.value) (c.in_ok-put_cell.ensures ∙ ap (λ n. c.put_row_name.new.out ++ cell Plain n) c.from.ensures)) (c.in_ok-put_cell-2.ensures ∙ ap (λ n. c.put_cell.new.out ++ cell Plain n) c.from-2.ensures)) c.in_ok-put_bar.ensures) c.in_ok-put_reached.ensures) told) c.put_tags.ensures
+    on_ok_weaker c.put_tags.result (λ told. after old _ _ (t0 ++ t1 ++ t2 ++ t3 ++ t4) t5 (after old _ _ (t0 ++ t1 ++ t2 ++ t3) t4 (after old _ _ (t0 ++ t1 ++ t2) t3 (after old _ _ (t0 ++ t1) t2 (after old _ _ (t0) t1 (c.in_ok-put_row_name.ensures ∙ ap (λ t. old ++ row_name t) c.as_str.ensures.value) (c.in_ok-put_cell.ensures ∙ ap (λ n. c.put_row_name.new.out ++ cell Plain n) c.from.ensures)) (c.in_ok-put_cell-2.ensures ∙ ap (λ n. c.put_cell.new.out ++ cell Plain n) c.from-2.ensures)) c.in_ok-put_bar.ensures) c.in_ok-put_reached.ensures) told) c.put_tags.ensures

@@ -2,7 +2,7 @@ use Rattle.std.proofs.Common.{List, ℕ, ◌++◌, ◌∙◌, ap}
 use Rattle.std.specs.Prelude.{codes}
 use Rattle.std.proofs.lemmas.Result.{on_ok_weaker}
 use Rattle.farm_page.specs.Escaping.{page_text}
-use Rattle.farm_page.proofs.Walks.{behind}
+use Rattle.farm_page.proofs.Walks.{after}
 use Rattle.farm_page.proofs.rows.put_unreached.Goals as goal
 
 pub returns : goal.returns
@@ -11,4 +11,4 @@ returns c =
     let t0 : List ℕ = codes "<td class=\"words bad\">not reached: " in
     let t1 : List ℕ = page_text c.args.why.now in
     let t2 : List ℕ = codes "</td>" in
-    on_ok_weaker c.put_tags-2.result (λ told. behind old _ _ (t0 ++ t1) t2 (behind old _ _ (t0) t1 c.in_ok-put_tags.ensures (c.in_ok-put_text.ensures ∙ ap (λ t. c.put_tags.new.self ++ page_text t) c.as_bytes.ensures.value)) told) c.put_tags-2.ensures
+    on_ok_weaker c.put_tags-2.result (λ told. after old _ _ (t0 ++ t1) t2 (after old _ _ (t0) t1 c.in_ok-put_tags.ensures (c.in_ok-put_text.ensures ∙ ap (λ t. c.put_tags.new.self ++ page_text t) c.as_bytes.ensures.value)) told) c.put_tags-2.ensures

@@ -1,8 +1,8 @@
 use Rattle.std.proofs.Common.{ℕ, ◌++◌, List, ap, ◌∙◌, append_assoc}
 use Rattle.gear_packets.proofs.encoding.add_framed.Goals as goal
 
-pub returns-clause-spelled : goal.returns-clause-spelled
-returns-clause-spelled c =
+pub returns-clause-encoded : goal.returns-clause-encoded
+returns-clause-encoded c =
     let before = c.args.text.now.items in
     let body = c.args.body.now in
     c.in_ok-extend_from_slice-2.ensures.items

@@ -3,7 +3,7 @@ use Rattle.byte_io.specs.Sides.{and_then}
 use Rattle.http_jobs.specs.Clock.{InTime, shown_then}
 use Rattle.http_jobs.proofs.sending.send.Given as goal
 
--- what has gone out is the front of that length
+-- what has gone out is the prefix of that length
 abbrev pub invariant-loop-count : goal.invariant-loop-count
 invariant-loop-count g l = record {
   gone_out : (g.L.Device.output l.link).got ≡ and_then (g.L.Device.output l.fn.link).got (take l.count l.bytes);

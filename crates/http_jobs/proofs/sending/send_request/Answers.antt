@@ -3,7 +3,7 @@ use Rattle.std.proofs.Math.Seq.{take-append-add}
 use Rattle.byte_io.specs.Sides.{and_then}
 use Rattle.byte_io.proofs.Devices.{told_twice}
 use Rattle.http_jobs.specs.Clock.{shown_then}
-use Rattle.http_jobs.proofs.Exchanges.{Shown, shown_twice, in_time_behind, not_sent_behind}
+use Rattle.http_jobs.proofs.Exchanges.{Shown, shown_twice, in_time_after, not_sent_after}
 use Rattle.http_jobs.proofs.sending.send_request.Goals as goal
 
 pub returns-clause-prefix : goal.returns-clause-prefix
@@ -24,6 +24,6 @@ returns-clause-why g c =
     let seen = g.L.Device.output in (
       first.0 ++ then.0,
       then.1 ∙ ap (λ (o : Shown). shown_then o then.0) first.1 ∙ shown_twice _ first.0 then.0,
-      in_time_behind c.args.deadline first.0 then.0 c.send-2.result first.2 then.2,
-      not_sent_behind c.args.deadline first.0 then.0 (seen c.args.link.now) (seen c.send.new.link) (seen c.send-2.new.link) c.send-2.result first.2 c.in_ok-send.ensures.sent.1 then.3,
+      in_time_after c.args.deadline first.0 then.0 c.send-2.result first.2 then.2,
+      not_sent_after c.args.deadline first.0 then.0 (seen c.args.link.now) (seen c.send.new.link) (seen c.send-2.new.link) c.send-2.result first.2 c.in_ok-send.ensures.sent.1 then.3,
     )

@@ -87,8 +87,8 @@ returns-in_default-give_all-clause-answers g c = λ duty before bytes registered
     let left = leaves_cut duty before bytes _ _ c.as_slice.result.now c.in_default-give_all.field-0.count registered done t c.args.tally.now (record { grabbed = c.args.tally.now.grabbed + 1; answered = c.args.tally.now.answered; reported = c.args.tally.now.reported }) _ _ at wrote even
     (record { grabbed_is = refl; answered_is = omega arith; reported_is = omega arith })
     (begin_done _ _ _ c.begin_report.result c.in-Ok-begin_report.field-0 (grab_done _ _ c.grab.result c.in-Ok.ticket c.in-Ok.is c.grab.ensures) c.in-Ok-begin_report.is c.begin_report.ensures)
-    (each_as c.copy-handle.result t.job.handle t.told c.copy-handle.ensures c.in-Ok-spell.ensures.each)
-    (c.as_slice.ensures.value ∙ c.in-Ok-spell.ensures.text ∙ ap (λ (h : List ℕ). text_of (answer_to h t.told)) c.copy-handle.ensures)
+    (each_as c.copy-handle.result t.job.handle t.told c.copy-handle.ensures c.in-Ok-encode_reply.ensures.each)
+    (c.as_slice.ensures.value ∙ c.in-Ok-encode_reply.ensures.text ∙ ap (λ (h : List ℕ). text_of (answer_to h t.told)) c.copy-handle.ensures)
     c.in_default-give_all.ensures.err.1 c.in_default-give_all.ensures.err.0 in
     (left.0, t ∷ [], left.1, (c.run.new.self, (c.run.new.self, c.in-Ok-run.ensures.tells, refl), inl (refl, λ e. cc)), rw (sym (jobs_push done t)) left.2)
 
@@ -98,8 +98,8 @@ returns-in-Ok-Stay-clause-answers g c = λ duty before bytes registered done at 
     let on = goes_on duty before bytes _ _ c.as_slice.result.now registered done t c.args.tally.now (record { grabbed = c.args.tally.now.grabbed + 1; answered = c.args.tally.now.answered + 1; reported = c.args.tally.now.reported + 1 }) _ _ at wrote even
     (record { grabbed_is = refl; answered_is = refl; reported_is = refl })
     (report_done _ _ _ c.reported.result c.in-Ok-Stay.field-0 (begin_done _ _ _ c.begin_report.result c.in-Ok-begin_report.field-0 (grab_done _ _ c.grab.result c.in-Ok.ticket c.in-Ok.is c.grab.ensures) c.in-Ok-begin_report.is c.begin_report.ensures) c.in-Ok-Stay.is c.reported.ensures)
-    (each_as c.copy-handle.result t.job.handle t.told c.copy-handle.ensures c.in-Ok-spell.ensures.each)
-    (c.as_slice.ensures.value ∙ c.in-Ok-spell.ensures.text ∙ ap (λ (h : List ℕ). text_of (answer_to h t.told)) c.copy-handle.ensures)
+    (each_as c.copy-handle.result t.job.handle t.told c.copy-handle.ensures c.in-Ok-encode_reply.ensures.each)
+    (c.as_slice.ensures.value ∙ c.in-Ok-encode_reply.ensures.text ∙ ap (λ (h : List ℕ). text_of (answer_to h t.told)) c.copy-handle.ensures)
     c.in-Ok-give_all.ensures.ok.0 in
     (on.0, t ∷ [], on.1, (c.run.new.self, c.in-Ok-run.ensures.tells, refl), (on.2.0, on.2.1, jobs_push done t))
 
@@ -109,8 +109,8 @@ returns-in-Ok-Retire-clause-answers g c = λ duty before bytes registered done a
     let left = leaves_written duty before bytes _ _ c.as_slice.result.now registered done t c.args.tally.now (record { grabbed = c.args.tally.now.grabbed + 1; answered = c.args.tally.now.answered + 1; reported = c.args.tally.now.reported + 1 }) _ _ Retired 1 at wrote even
     (record { grabbed_is = refl; answered_is = refl; reported_is = refl })
     (report_done _ _ _ c.reported.result c.in-Ok-Retire.field-0 (begin_done _ _ _ c.begin_report.result c.in-Ok-begin_report.field-0 (grab_done _ _ c.grab.result c.in-Ok.ticket c.in-Ok.is c.grab.ensures) c.in-Ok-begin_report.is c.begin_report.ensures) c.in-Ok-Retire.is c.reported.ensures) (omega arith)
-    (each_as c.copy-handle.result t.job.handle t.told c.copy-handle.ensures c.in-Ok-spell.ensures.each)
-    (c.as_slice.ensures.value ∙ c.in-Ok-spell.ensures.text ∙ ap (λ (h : List ℕ). text_of (answer_to h t.told)) c.copy-handle.ensures)
+    (each_as c.copy-handle.result t.job.handle t.told c.copy-handle.ensures c.in-Ok-encode_reply.ensures.each)
+    (c.as_slice.ensures.value ∙ c.in-Ok-encode_reply.ensures.text ∙ ap (λ (h : List ℕ). text_of (answer_to h t.told)) c.copy-handle.ensures)
     c.in-Ok-give_all.ensures.ok.0 (λ e. cc) in
     (left.0, t ∷ [], left.1, (c.run.new.self, (c.run.new.self, c.in-Ok-run.ensures.tells, refl), inl (refl, λ e. cc)), rw (sym (jobs_push done t)) left.2)
 
@@ -120,7 +120,7 @@ returns-clause-answers g c = λ duty before bytes registered done at wrote even.
     let left = leaves_written duty before bytes _ _ c.as_slice.result.now registered done t c.args.tally.now (record { grabbed = c.args.tally.now.grabbed + 1; answered = c.args.tally.now.answered + 1; reported = c.args.tally.now.reported }) _ _ Gone 0 at wrote even
     (record { grabbed_is = refl; answered_is = refl; reported_is = omega arith })
     (report_refused _ _ _ c.reported.result c.in-Err.field-0 (begin_done _ _ _ c.begin_report.result c.in-Ok-begin_report.field-0 (grab_done _ _ c.grab.result c.in-Ok.ticket c.in-Ok.is c.grab.ensures) c.in-Ok-begin_report.is c.begin_report.ensures) c.in-Err.is c.reported.ensures) (omega arith)
-    (each_as c.copy-handle.result t.job.handle t.told c.copy-handle.ensures c.in-Ok-spell.ensures.each)
-    (c.as_slice.ensures.value ∙ c.in-Ok-spell.ensures.text ∙ ap (λ (h : List ℕ). text_of (answer_to h t.told)) c.copy-handle.ensures)
+    (each_as c.copy-handle.result t.job.handle t.told c.copy-handle.ensures c.in-Ok-encode_reply.ensures.each)
+    (c.as_slice.ensures.value ∙ c.in-Ok-encode_reply.ensures.text ∙ ap (λ (h : List ℕ). text_of (answer_to h t.told)) c.copy-handle.ensures)
     c.in-Ok-give_all.ensures.ok.0 (λ e. cc) in
     (left.0, t ∷ [], left.1, (c.run.new.self, (c.run.new.self, c.in-Ok-run.ensures.tells, refl), inl (refl, λ e. cc)), rw (sym (jobs_push done t)) left.2)

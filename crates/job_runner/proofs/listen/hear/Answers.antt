@@ -3,7 +3,7 @@ use Rattle.byte_io.specs.declared.device.Took.{Took}
 use Rattle.byte_io.specs.declared.device.DeviceFault.{DeviceFault}
 use Rattle.byte_io.specs.Device.{taken}
 use Rattle.byte_io.specs.Sides.{and_then}
-use Rattle.job_runner.proofs.Told.{goes_behind}
+use Rattle.job_runner.proofs.Told.{goes_after}
 use Rattle.job_runner.proofs.Listening.{hears_piece, says_first_still, grows}
 use Rattle.job_runner.proofs.listen.hear.Goals as goal
 
@@ -13,7 +13,7 @@ returns-in-Ok-clause-hears g c = λ before read given at h.
     let piece = take c.in-Ok-Bytes.count into in
     let got : taken into c.take.result ≡ piece = ap (λ (r : Result Took DeviceFault). taken into r) c.in-Ok-Bytes.is ∙ ap (λ (t : Took). taken into (Ok t)) c.in-Ok-Bytes.field-0-is in (
       read ++ piece,
-      goes_behind before read (taken into c.take.result) _ _ at c.take.ensures.bytes ∙ ap (λ (x : List ℕ). and_then before (read ++ x)) got,
+      goes_after before read (taken into c.take.result) _ _ at c.take.ensures.bytes ∙ ap (λ (x : List ℕ). and_then before (read ++ x)) got,
       (let few = subst (λ (x : List ℕ). length (read ++ x) ≤ length read + length into) got (grows c.take.result into read _ c.take.ensures.within) in omega (arith, few, c.take.auto.buffer)),
       hears_piece c.cut_anywhere.ensures read piece given c.args.reader.now c.feed.new.self h c.in-Ok.ensures.0,
     )
@@ -25,7 +25,7 @@ returns-in-Err-Fault-clause-hears g c = λ before read given at h.
     let fed = rw c.in-Err-Fault.field-0-is at c.in-Err-Fault.ensures in
     let got : taken into c.take.result ≡ piece = ap (λ (r : Result Took DeviceFault). taken into r) c.in-Ok-Bytes.is ∙ ap (λ (t : Took). taken into (Ok t)) c.in-Ok-Bytes.field-0-is in (
       read ++ piece,
-      goes_behind before read (taken into c.take.result) _ _ at c.take.ensures.bytes ∙ ap (λ (x : List ℕ). and_then before (read ++ x)) got,
+      goes_after before read (taken into c.take.result) _ _ at c.take.ensures.bytes ∙ ap (λ (x : List ℕ). and_then before (read ++ x)) got,
       (let few = subst (λ (x : List ℕ). length (read ++ x) ≤ length read + length into) got (grows c.take.result into read _ c.take.ensures.within) in omega (arith, few, c.take.auto.buffer)),
       hears_piece c.cut_anywhere.ensures read piece given c.args.reader.now c.feed.new.self h fed.0,
     )
@@ -35,7 +35,7 @@ returns-in-Err-Memory-clause-hears g c = λ before read given at h.
     let into = c.take.new.buffer in
     let piece = taken into c.take.result in (
       read ++ piece,
-      goes_behind before read piece _ _ at c.take.ensures.bytes,
+      goes_after before read piece _ _ at c.take.ensures.bytes,
       (let few = grows c.take.result into read _ c.take.ensures.within in omega (arith, few, c.take.auto.buffer)),
       says_first_still c.cut_anywhere.ensures read piece given c.args.reader.now h,
     )

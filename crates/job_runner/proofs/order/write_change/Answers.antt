@@ -25,8 +25,8 @@ returns-in_default-give_all-clause-sends g c =
       subst (AllByRecursion IsSent) named c.in-Ok.ensures.each,
     )
 
-pub spell_change-requires : goal.spell_change-requires
-spell_change-requires g c =
+pub encode_change-requires : goal.encode_change-requires
+encode_change-requires g c =
     let functions = c.args.settings.now.functions in
     let named = ap (λ (n : Option (List ℕ)). obeying n (seen_name c.name_of-to.result)) c.name_of-from.ensures.name ∙ ap (λ (n : Option (List ℕ)). obeying (name_of functions c.args.from) n) c.name_of-to.ensures.name in
     record { accepted = subst (AllByRecursion IsAccepted) (sym named) (order_accepted (name_of functions c.args.from) (name_of functions c.args.to) c.name_of-from.ensures.named c.name_of-to.ensures.named) }

@@ -9,7 +9,7 @@ use Rattle.job_runner.specs.Course.{session_of}
 use Rattle.job_runner.specs.Loop.{duty_in}
 use Rattle.byte_io.proofs.Devices.{told_nothing}
 use Rattle.job_runner.proofs.Reasons.{outer_reason, port_served, read_reason, reason_from}
-use Rattle.job_runner.proofs.Turning.{says_nothing, begun_halts, begun_stands, stands_as, stands_on, stands_halts, ends_for_none}
+use Rattle.job_runner.proofs.Turning.{says_nothing, begun_halts, begun_serving, serving_as, serving_on, serving_halts, ends_for_none}
 use Rattle.job_runner.proofs.Paths.{begun_gone}
 use Rattle.job_runner.specs.Acting.{moment}
 use Rattle.job_runner.proofs.session.serve.Goals as goal
@@ -39,11 +39,11 @@ loop-made-init g c =
     record {
       within = omega arith;
       buffer = refl;
-      stands = (
+      serving = (
         [],
         ap (λ (i : Input). i.given) c.begin.ensures.link.input ∙ told_nothing start,
         omega arith,
-        begun_stands duty (AreTold g.J.Jobs.tells c.args.jobs.now c.args.jobs.now) before _ c.new-reader.result c.begin.new.state _ refl c.new-reader.ensures c.in-Ok.ensures.acts
+        begun_serving duty (AreTold g.J.Jobs.tells c.args.jobs.now c.args.jobs.now) before _ c.new-reader.result c.begin.new.state _ refl c.new-reader.ensures c.in-Ok.ensures.acts
             (begun_gone c.args.worker.now (moment c.args.state.now before (g.P.PoolPort.book c.args.port.now)) (moment c.begin.new.state (g.L.Device.output c.begin.new.link).got (g.P.PoolPort.book c.begin.new.port)) (Ok tt) c.requires.first c.requires.fresh c.in-Ok.ensures.begins says_nothing),
       );
       read_failures = ap (λ (i : Input). i.failures) c.begin.ensures.link.input;
@@ -51,9 +51,9 @@ loop-made-init g c =
       losses = c.begin.ensures.losses ∙ ap (λ (b : Ledger). b.losses) c.requires.fresh;
     }
 
-pub drain-requires-clause-stands : goal.drain-requires-clause-stands
-drain-requires-clause-stands g c =
-    let now = c.loop-made.invariant.stands in
+pub drain-requires-clause-serving : goal.drain-requires-clause-serving
+drain-requires-clause-serving g c =
+    let now = c.loop-made.invariant.serving in
     (c.args.jobs.now, (g.L.Device.output c.args.link.now).got, now.0, omega (arith, now.2, c.loop-made.auto.made-fits), now.3)
 
 pub returns-in-Err-drain-clause-ran : goal.returns-in-Err-drain-clause-ran
@@ -62,7 +62,7 @@ returns-in-Err-drain-clause-ran g c =
     let before = (g.L.Device.output c.args.link.now).got in
     let old : Link = record { input = g.L.Device.input c.args.link.now; output = g.L.Device.output c.args.link.now } in
     let new : Link = record { input = g.L.Device.input c.drain.new.link; output = g.L.Device.output c.drain.new.link } in
-    let now = c.loop-made.invariant.stands in
+    let now = c.loop-made.invariant.serving in
     let left = c.in-Err-drain.ensures.leaves c.args.jobs.now before now.0 now.3 in
     (now.0, ap (λ (i : Input). i.given) c.drain.ensures.link.input ∙ now.1, (left, outer_reason (session_of duty before now.0) old new c.drain.new.state.tally (g.P.PoolPort.book c.drain.new.port) c.in-Err-drain.cause (c.in-Err-drain.ensures.reason c.args.jobs.now before now.0 now.3) (λ x. c.in-Err-drain.ensures.link.write_fault (ap (λ (y : EndCause). let z : Result (Unit {0}) EndCause = Err y in z) x) ∙ ap (λ (n : ℕ). n + 1) c.loop-made.invariant.write_failures) (λ x. (ap (λ (i : Input). i.failures) c.drain.ensures.link.input ∙ c.loop-made.invariant.read_failures, c.in-Err-drain.ensures.link.memory (ap (λ (y : EndCause). let z : Result (Unit {0}) EndCause = Err y in z) x) ∙ c.loop-made.invariant.write_failures))))
 
@@ -70,15 +70,15 @@ pub loop-made-preserved : goal.loop-made-preserved
 loop-made-preserved g c =
     let before = (g.L.Device.output c.args.link.now).got in
     let start = (g.L.Device.input c.args.link.now).given in
-    let now = c.loop-made.invariant.stands in
+    let now = c.loop-made.invariant.serving in
     let left = c.in-Ok-drain.ensures.leaves c.args.jobs.now before now.0 now.3 in
     let Ran = AreTold g.J.Jobs.tells c.args.jobs.now c.drain.new.jobs in
     let next = c.in-Ok-listen.ensures.listens left.told before start now.0 (ap (λ (i : Input). i.given) c.drain.ensures.link.input ∙ now.1)
-    (stands_as Ran (IsTold left.told) _ _ _ _ _ left refl) in
+    (serving_as Ran (IsTold left.told) _ _ _ _ _ left refl) in
     record {
       within = omega (arith, c.loop-made-test.true);
       buffer = c.listen.auto.buffer ∙ c.loop-made.invariant.buffer;
-      stands = (next.0, next.1, omega (arith, next.2, now.2), stands_on Ran left.told _ _ _ _ _ left.ran next.3);
+      serving = (next.0, next.1, omega (arith, next.2, now.2), serving_on Ran left.told _ _ _ _ _ left.ran next.3);
       read_failures = c.in-Ok-listen.ensures.no_read_failure ∙ ap (λ (i : Input). i.failures) c.drain.ensures.link.input ∙ c.loop-made.invariant.read_failures;
       write_failures = c.in-Ok-listen.ensures.no_failure ∙ c.in-Ok-drain.ensures.link.no_failure ∙ c.loop-made.invariant.write_failures;
       losses = c.listen.ensures.losses ∙ c.drain.ensures.losses ∙ c.loop-made.invariant.losses;
@@ -92,11 +92,11 @@ returns-in-Err-listen-clause-ran g c =
     let older : Link = record { input = g.L.Device.input c.args.link.now; output = g.L.Device.output c.args.link.now } in
     let old : Link = record { input = g.L.Device.input c.drain.new.link; output = g.L.Device.output c.drain.new.link } in
     let new : Link = record { input = g.L.Device.input c.listen.new.link; output = g.L.Device.output c.listen.new.link } in
-    let now = c.loop-made.invariant.stands in
+    let now = c.loop-made.invariant.serving in
     let left = c.in-Ok-drain.ensures.leaves c.args.jobs.now before now.0 now.3 in
     let Ran = AreTold g.J.Jobs.tells c.args.jobs.now c.drain.new.jobs in
     let next = c.in-Err-listen.ensures.listens left.told before start now.0 (ap (λ (i : Input). i.given) c.drain.ensures.link.input ∙ now.1)
-    (stands_as Ran (IsTold left.told) _ _ _ _ _ left refl) in (
+    (serving_as Ran (IsTold left.told) _ _ _ _ _ left refl) in (
       next.0,
       next.1,
       (
@@ -106,17 +106,17 @@ returns-in-Err-listen-clause-ran g c =
       ),
     )
 
-pub drain-requires-2-clause-stands : goal.drain-requires-2-clause-stands
-drain-requires-2-clause-stands g c =
-    let now = c.loop-made.invariant.stands in
+pub drain-requires-2-clause-serving : goal.drain-requires-2-clause-serving
+drain-requires-2-clause-serving g c =
+    let now = c.loop-made.invariant.serving in
     (c.args.jobs.now, (g.L.Device.output c.args.link.now).got, now.0, omega (arith, now.2, c.loop-made.auto.made-fits), now.3)
 
 pub returns-in-Ok-drain-2-clause-ran : goal.returns-in-Ok-drain-2-clause-ran
 returns-in-Ok-drain-2-clause-ran g c =
     let before = (g.L.Device.output c.args.link.now).got in
-    let now = c.loop-made.invariant.stands in
+    let now = c.loop-made.invariant.serving in
     let left = c.in-Ok-drain-2.ensures.leaves c.args.jobs.now before now.0 now.3 in
-    (now.0, ap (λ (i : Input). i.given) c.drain-2.ensures.link.input ∙ now.1, (stands_halts (duty_in c.args.worker.now) (AreTold g.J.Jobs.tells c.args.jobs.now c.drain-2.new.jobs) (EndTold g.J.Jobs.tells g.J.Jobs.fails c.args.jobs.now c.drain-2.new.jobs) before now.0 _ _ c.drain-2.new.state _ TurnsUsed left (c.drain-2.new.jobs, left.ran, inl (refl, λ e. cc)) tt (λ e. cc), (ap (λ (i : Input). i.failures) c.drain-2.ensures.link.input ∙ c.loop-made.invariant.read_failures, c.in-Ok-drain-2.ensures.link.no_failure ∙ c.loop-made.invariant.write_failures)))
+    (now.0, ap (λ (i : Input). i.given) c.drain-2.ensures.link.input ∙ now.1, (serving_halts (duty_in c.args.worker.now) (AreTold g.J.Jobs.tells c.args.jobs.now c.drain-2.new.jobs) (EndTold g.J.Jobs.tells g.J.Jobs.fails c.args.jobs.now c.drain-2.new.jobs) before now.0 _ _ c.drain-2.new.state _ TurnsUsed left (c.drain-2.new.jobs, left.ran, inl (refl, λ e. cc)) tt (λ e. cc), (ap (λ (i : Input). i.failures) c.drain-2.ensures.link.input ∙ c.loop-made.invariant.read_failures, c.in-Ok-drain-2.ensures.link.no_failure ∙ c.loop-made.invariant.write_failures)))
 
 pub returns-clause-ran : goal.returns-clause-ran
 returns-clause-ran g c =
@@ -124,6 +124,6 @@ returns-clause-ran g c =
     let before = (g.L.Device.output c.args.link.now).got in
     let old : Link = record { input = g.L.Device.input c.args.link.now; output = g.L.Device.output c.args.link.now } in
     let new : Link = record { input = g.L.Device.input c.drain-2.new.link; output = g.L.Device.output c.drain-2.new.link } in
-    let now = c.loop-made.invariant.stands in
+    let now = c.loop-made.invariant.serving in
     let left = c.in-Err-drain-2.ensures.leaves c.args.jobs.now before now.0 now.3 in
     (now.0, ap (λ (i : Input). i.given) c.drain-2.ensures.link.input ∙ now.1, (left, outer_reason (session_of duty before now.0) old new c.drain-2.new.state.tally (g.P.PoolPort.book c.drain-2.new.port) c.in-Err-drain-2.cause (c.in-Err-drain-2.ensures.reason c.args.jobs.now before now.0 now.3) (λ x. c.in-Err-drain-2.ensures.link.write_fault (ap (λ (y : EndCause). let z : Result (Unit {0}) EndCause = Err y in z) x) ∙ ap (λ (n : ℕ). n + 1) c.loop-made.invariant.write_failures) (λ x. (ap (λ (i : Input). i.failures) c.drain-2.ensures.link.input ∙ c.loop-made.invariant.read_failures, c.in-Err-drain-2.ensures.link.memory (ap (λ (y : EndCause). let z : Result (Unit {0}) EndCause = Err y in z) x) ∙ c.loop-made.invariant.write_failures))))

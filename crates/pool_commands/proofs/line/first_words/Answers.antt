@@ -1,5 +1,5 @@
 use Rattle.std.proofs.Common.{◌++◌, ◌-◌, ◌∙◌, ℕ, Bor, List, Option, map, option_map, take, ap, sym, arith}
-use Rattle.pool_commands.specs.Words.{words_behind}
+use Rattle.pool_commands.specs.Words.{words_after}
 use Rattle.pool_commands.proofs.Lines.{words_all, words_full, words_kept}
 use Rattle.pool_commands.proofs.line.first_words.Goals as goal
 
@@ -7,7 +7,7 @@ abbrev word_of : Bor (List ℕ) → List ℕ
 word_of word = word.now
 
 abbrev left_in : Option (Bor (List ℕ)) → List (List ℕ)
-left_in rest = words_behind (option_map word_of rest)
+left_in rest = words_after (option_map word_of rest)
 
 pub loop-count-preserved : goal.loop-count-preserved
 loop-count-preserved c =

@@ -3,7 +3,7 @@ use Rattle.pool_replay.specs.Transcript.{lines_of}
 use Rattle.pool_replay.proofs.Ends.{LeadsOn}
 use Rattle.pool_replay.proofs.running.run_lines.Given as goal
 
--- a transcript of the lines that are left, behind what was printed, is a transcript of all lines
+-- a transcript of the lines that are left, after what was printed, is a transcript of all lines
 abbrev pub invariant-loop-line : goal.invariant-loop-line
 invariant-loop-line l = record {
   settings : l.desk.pool.settings ≡ l.settings;

@@ -17,8 +17,8 @@ returns-then-count-left c =
     let left : 0 < length (take (length piece - at) (drop at piece)) = grind (arith, rest_taken at piece, length-drop, begun, some) in
     rw (← c.self.view_is, c.counted-fails.ensures.less) (record {
       reads =
-          part_read old piece (take (length piece - at) (drop at piece)) c.copy_front-count.new.into c.copy_front-count.result is (rest_taken at piece) (sym c.counted-fails.ensures.fails ∙ c.if-fails.false)
-          (omega (arith, c.copy_front-count.ensures.count, c.copy_front-count.ensures.len)) c.copy_front-count.ensures.bytes left (omega (arith, c.requires.room, c.copy_front-count.ensures.len)) c.if-count-left.true;
+          part_read old piece (take (length piece - at) (drop at piece)) c.copy_prefix-count.new.into c.copy_prefix-count.result is (rest_taken at piece) (sym c.counted-fails.ensures.fails ∙ c.if-fails.false)
+          (omega (arith, c.copy_prefix-count.ensures.count, c.copy_prefix-count.ensures.len)) c.copy_prefix-count.ensures.bytes left (omega (arith, c.requires.room, c.copy_prefix-count.ensures.len)) c.if-count-left.true;
     })
 
 pub returns : goal.returns
@@ -33,6 +33,6 @@ returns c =
     let left : 0 < length (take (length piece - at) (drop at piece)) = grind (arith, rest_taken at piece, length-drop, begun, some) in
     rw (← c.self.view_is, c.counted-fails.ensures.less) (record {
       reads =
-          whole_read old piece (take (length piece - at) (drop at piece)) c.copy_front-count.new.into c.copy_front-count.result is (rest_taken at piece) (sym c.counted-fails.ensures.fails ∙ c.if-fails.false)
-          (omega (arith, c.copy_front-count.ensures.count, c.copy_front-count.ensures.len)) c.copy_front-count.ensures.bytes left (omega (arith, c.requires.room, c.copy_front-count.ensures.len)) c.if-count-left.false;
+          whole_read old piece (take (length piece - at) (drop at piece)) c.copy_prefix-count.new.into c.copy_prefix-count.result is (rest_taken at piece) (sym c.counted-fails.ensures.fails ∙ c.if-fails.false)
+          (omega (arith, c.copy_prefix-count.ensures.count, c.copy_prefix-count.ensures.len)) c.copy_prefix-count.ensures.bytes left (omega (arith, c.requires.room, c.copy_prefix-count.ensures.len)) c.if-count-left.false;
     })

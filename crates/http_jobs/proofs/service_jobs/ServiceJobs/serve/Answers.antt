@@ -6,7 +6,7 @@ use Rattle.http_jobs.specs.declared.service.Service.{Service}
 use Rattle.http_jobs.specs.Clock.{InTime, shown_then}
 use Rattle.http_jobs.specs.Exchange.{Explains}
 use Rattle.http_jobs.specs.Request.{has_no_path, request_of}
-use Rattle.http_jobs.specs.Serving.{Opens, stands, then_called}
+use Rattle.http_jobs.specs.Serving.{Opens, visible, then_called}
 use Rattle.http_jobs.proofs.Exchanges.{Shown, shown_twice}
 use Rattle.http_jobs.proofs.Uses.{Calls, called_twice, failed_over}
 use Rattle.http_jobs.proofs.service_jobs.ServiceJobs.serve.Goals as goal
@@ -32,7 +32,7 @@ returns-in-Ok-clause-served g c =
         uses = record {
           first = opens.0;
           last = left.0;
-          opens = subst (λ k. Opens (stands input output g.L.Look.quiet k (g.D.Dial.calls old.dial) (g.C.Clock.shown old.clock)) opens.0 (seen_link input output c.in_ok-link.link)) c.deadline-deadline.ensures.kept opens.2;
+          opens = subst (λ k. Opens (visible input output g.L.Look.quiet k (g.D.Dial.calls old.dial) (g.C.Clock.shown old.clock)) opens.0 (seen_link input output c.in_ok-link.link)) c.deadline-deadline.ensures.kept opens.2;
           given = ex.1.0;
           got = c.in-Ok.ensures.request ∙ ap (λ (s : Service). and_then (output c.in_ok-link.link).got (request_of s job)) same;
           leaves = left.2;
@@ -66,7 +66,7 @@ returns-in-Err-clause-failed g c =
       uses = record {
         first = opens.0;
         last = left.0;
-        opens = subst (λ k. Opens (stands input output g.L.Look.quiet k (g.D.Dial.calls old.dial) (g.C.Clock.shown old.clock)) opens.0 (seen_link input output c.in_ok-link.link)) c.deadline-deadline.ensures.kept opens.2;
+        opens = subst (λ k. Opens (visible input output g.L.Look.quiet k (g.D.Dial.calls old.dial) (g.C.Clock.shown old.clock)) opens.0 (seen_link input output c.in_ok-link.link)) c.deadline-deadline.ensures.kept opens.2;
         given = ex.1.0;
         got = prefix.1 ∙ ap (λ (s : Service). and_then (output c.in_ok-link.link).got (take prefix.0 (request_of s job))) same;
         leaves = left.2;

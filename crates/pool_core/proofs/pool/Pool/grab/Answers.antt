@@ -18,7 +18,7 @@ invariant_of-self-2 c =
     let p = c.self.inside in
     let w = c.name-worker.result in
     let later : c.push_reserved-2.new.self.forgotten ≡ p.standings.forgotten = c.push_reserved-2.ensures.forgotten ∙ c.in_ok-reserve_job.ensures.standings.1 in
-    let front : c.push_reserved.new.self.forgotten ≡ c.push_reserved-2.new.self.forgotten = c.push_reserved.ensures.forgotten ∙ c.in_ok-reserve_job.ensures.jobs.1 ∙ c.self.invariant.1 ∙ sym later in
+    let prefix : c.push_reserved.new.self.forgotten ≡ c.push_reserved-2.new.self.forgotten = c.push_reserved.ensures.forgotten ∙ c.in_ok-reserve_job.ensures.jobs.1 ∙ c.self.invariant.1 ∙ sym later in
     let runs : c.run_count-runs.result ≡ run_count (slot_in p.slots.items w.slot) = cc in
     let given : c.len.result ≡ length p.standings.items = c.len.ensures ∙ ap length c.in_ok-reserve_job.ensures.standings.0 in
     let logged : c.push_reserved-3.new.self.items ≡ c.reserve_job.new.events.items ++ event.Grab w c.args.handle c.in_ok-noted.noted c.args.now_ms ∷ [] = c.push_reserved-3.ensures.items in
@@ -33,7 +33,7 @@ invariant_of-self-2 c =
           c.push_reserved.new.self.items (assigned ∙ ap (λ (xs : List Job). xs ++ record { handle = c.copy.result; function = c.in_ok-function.function } ∷ []) c.in_ok-reserve_job.ensures.jobs.0 ∙ ap (λ (h : List ℕ). p.jobs.items ++ record { handle = h; function = c.in_ok-function.function } ∷ []) c.copy.ensures ∙ ap (λ (f : List ℕ). p.jobs.items ++ record { handle = c.args.handle; function = f } ∷ []) c.in_ok-function.ensures)
           c.push_reserved-2.new.self.items (stood ∙ ap (λ (xs : List Standing). xs ++ Running ∷ []) c.in_ok-reserve_job.ensures.standings.0)
           _ (omega (arith, c.in_ok-reserve_job.ensures.room.2, c.reserve_job.new.events.ok.0, ap length c.in_ok-reserve_job.ensures.events, c.push_reserved-3.ensures.capacity))),
-      front,
+      prefix,
     )
 
 pub invariant_of-self : goal.invariant_of-self

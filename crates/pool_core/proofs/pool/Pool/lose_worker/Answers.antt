@@ -11,7 +11,7 @@ use Rattle.pool_core.proofs.pool.Pool.lose_worker.Goals as goal
 pub put_lost-owed-requires : goal.put_lost-owed-requires
 put_lost-owed-requires c =
     let p = c.self.inside in
-    open_given p.settings (state_of p) p.standings.forgotten c.self.invariant.0.sound c.self.invariant.0.front c.args.worker c.held_ticket-ticket.result (cc) (length p.standings.items) refl
+    open_given p.settings (state_of p) p.standings.forgotten c.self.invariant.0.sound c.self.invariant.0.prefix c.args.worker c.held_ticket-ticket.result (cc) (length p.standings.items) refl
 
 pub overflow_sub-self : goal.overflow_sub-self
 overflow_sub-self c =

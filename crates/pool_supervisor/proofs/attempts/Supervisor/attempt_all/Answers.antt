@@ -3,7 +3,7 @@ use Rattle.pool_supervisor.specs.declared.attempt.Attempt.{Attempt}
 use Rattle.pool_supervisor.specs.Rounds.{AreNoted, PostSince}
 use Rattle.pool_supervisor.specs.Tries.{Attempts}
 use Rattle.pool_supervisor.proofs.Rounds.{since_none, since_one, since_both, noted_more}
-use Rattle.pool_supervisor.proofs.Tries.{no_attempts, attempts_behind, more_attempts}
+use Rattle.pool_supervisor.proofs.Tries.{no_attempts, attempts_after, more_attempts}
 use Rattle.pool_supervisor.proofs.attempts.Supervisor.attempt_all.Goals as goal
 
 pub loop-site-init : goal.loop-site-init
@@ -30,7 +30,7 @@ loop-site-preserved g c =
     let posts = since_both settings first now more before between after c.loop-site.invariant.0
     (since_one settings now line between after c.in_ok-line.ensures.posts) in
     let made = more_attempts settings g.N.RunId.allows first now more called calling calls c.loop-site.invariant.2
-    (attempts_behind settings g.N.RunId.allows now (line ∷ []) calling calls c.in_ok-line.ensures.calls) in (
+    (attempts_after settings g.N.RunId.allows now (line ∷ []) calling calls c.in_ok-line.ensures.calls) in (
       subst (λ (l : List Attempt). PostSince settings first l before after) (sym c.push_reserved.ensures.items) posts,
       c.loop-site.invariant.1,
       subst (λ (l : List Attempt). Attempts settings g.N.RunId.allows first l called calls) (sym c.push_reserved.ensures.items) made,

@@ -1,6 +1,6 @@
 use Rattle.std.proofs.Common.{◌++◌, ◌∷◌, []}
 use Rattle.pool_supervisor.proofs.Rounds.{since_none, since_one, since_both, noted_more}
-use Rattle.pool_supervisor.proofs.Tries.{no_attempts, attempts_behind, more_attempts}
+use Rattle.pool_supervisor.proofs.Tries.{no_attempts, attempts_after, more_attempts}
 use Rattle.pool_supervisor.proofs.attempts.Supervisor.attempt_until_told.Goals as goal
 
 pub loop-attempt-init : goal.loop-attempt-init
@@ -25,6 +25,6 @@ loop-attempt-preserved g c =
     let calls = g.Y.Dial.calls c.attempt.new.self.dial in (
       more,
       since_both settings [] so_far.0 more before between after so_far.1 (since_one settings so_far.0 line between after c.in_ok-attempt.ensures.posts),
-      more_attempts settings g.N.RunId.allows [] so_far.0 more called calling calls so_far.2 (attempts_behind settings g.N.RunId.allows so_far.0 (line ∷ []) calling calls c.in_ok-attempt.ensures.calls),
+      more_attempts settings g.N.RunId.allows [] so_far.0 more called calling calls so_far.2 (attempts_after settings g.N.RunId.allows so_far.0 (line ∷ []) calling calls c.in_ok-attempt.ensures.calls),
       noted_more so_far.0 line c.loop-attempt.self.rounds c.attempt.new.self.rounds so_far.3 c.in_ok-attempt.ensures.notes,
     )

@@ -2,7 +2,7 @@ use Rattle.std.proofs.Common.{sym, ◌∙◌}
 use Rattle.std.proofs.lemmas.Bool.{and_parts}
 use Rattle.service_settings.specs.Url.{is_visible}
 use Rattle.service_settings.proofs.Sendable.{visible_utf8}
-use Rattle.service_settings.proofs.url_parts.parts_behind.Goals as goal
+use Rattle.service_settings.proofs.url_parts.parts_after.Goals as goal
 
 pub returns-in_default-clause-parts : goal.returns-in_default-clause-parts
 returns-in_default-clause-parts c =

@@ -82,9 +82,9 @@ on_told m n named small = (
   on_read m n named small,
 )
 
-needing : (front f : List ℕ) (n : ℕ) → is_one_line front ≡ true → is_name f ≡ true → n < 2 ^ 64 → is_one_line (front ++ f ++ codes " need " ++ decimal n) ≡ true
-needing front f n line named small =
-    joined (front ++ f ++ codes " need ") (decimal n) (joined (front ++ f) (codes " need ") (joined front f line (name_line f named)) refl) (number_line n small)
+needing : (prefix f : List ℕ) (n : ℕ) → is_one_line prefix ≡ true → is_name f ≡ true → n < 2 ^ 64 → is_one_line (prefix ++ f ++ codes " need " ++ decimal n) ≡ true
+needing prefix f n line named small =
+    joined (prefix ++ f ++ codes " need ") (decimal n) (joined (prefix ++ f) (codes " need ") (joined prefix f line (name_line f named)) refl) (number_line n small)
 
 pub above_told : (f : List ℕ) (n most : ℕ) → is_name f ≡ true → n < 2 ^ 32 → most < 2 ^ 32 → Tells (above_most_line f n most) (above_most f n most)
 above_told f n most named small few = (

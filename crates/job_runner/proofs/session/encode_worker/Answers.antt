@@ -2,7 +2,7 @@ use Rattle.std.proofs.Common.{rules, refl, arith, ◌<◌, ◌^◌, length}
 use Rattle.pool_settings.specs.Slots.{machine_of}
 use Rattle.pool_settings.proofs.SlotSums.{machine_found}
 use Rattle.job_runner.proofs.Names.{worker_accepted}
-use Rattle.job_runner.proofs.session.spell_worker.Goals as goal
+use Rattle.job_runner.proofs.session.encode_worker.Goals as goal
 
 pub returns-clause-accepted : goal.returns-clause-accepted
 returns-clause-accepted c =

@@ -8,13 +8,13 @@ use Rattle.std.proofs.lemmas.Bool.{and_parts, ltb-true, lt-ltb, le-ltb}
 use Rattle.std.proofs.lemmas.List.{take-append-drop}
 use Rattle.std.proofs.lemmas.Slice.Eq.{bytes_eq-Decides}
 use Rattle.pool_settings.specs.Names.{is_name}
-use Rattle.pool_report.specs.Law.{Spells}
+use Rattle.pool_report.specs.Law.{Encodes}
 use Rattle.pool_report.specs.Lines.{ReportLine, after_word, backlog, backlog_in, count_after, head, idle_in, is_worker, keyed, last, line_of, needed, needed_in, no_plan, short, short_in, stranded, stranded_in, task, unserved_in, work_in}
 use Rattle.text_pieces.specs.Lines.{ended}
 use Rattle.text_pieces.specs.Cuts.{cut_last}
 use Rattle.text_pieces.specs.Numbers.{plain_number_below}
 use Rattle.text_pieces.proofs.Cutting.{never, parts_of_last, same}
-use Rattle.text_pieces.proofs.Digits.{plain_spelled}
+use Rattle.text_pieces.proofs.Digits.{plain_encoded}
 
 -- ---- parts
 
@@ -24,58 +24,58 @@ after_parts word line rest e = by (bytes_eq (take (length word) line) word) refl
     by : (d : Bool) → bytes_eq (take (length word) line) word ≡ d → line ≡ word ++ rest
     by true is =
         let back : drop (length word) line ≡ rest = same (drop (length word) line) rest (rw is at e) in
-        sym (take-append-drop (length word) line) ∙ ap (λ front. front ++ drop (length word) line) ((bytes_eq-Decides (take (length word) line) word).0 is)
+        sym (take-append-drop (length word) line) ∙ ap (λ prefix. prefix ++ drop (length word) line) ((bytes_eq-Decides (take (length word) line) word).0 is)
         ∙ ap (λ b. word ++ b) back
     by false other = absurd (never rest (rw other at e))
 
 -- words, a name, words and a name
-spaced : (front name middle back : List ℕ) → front ++ (name ++ (middle ++ back)) ≡ ((front ++ name) ++ middle) ++ back
-spaced front name middle back = sym (append_assoc (front ++ name) middle back ∙ append_assoc front name (middle ++ back))
+spaced : (prefix name middle back : List ℕ) → prefix ++ (name ++ (middle ++ back)) ≡ ((prefix ++ name) ++ middle) ++ back
+spaced prefix name middle back = sym (append_assoc (prefix ++ name) middle back ∙ append_assoc prefix name (middle ++ back))
 
-backlog_spelled : (rest : List ℕ) (told : ReportLine) → backlog_in rest ≡ Some told → Spells (ended (codes "backlog " ++ rest)) told
-backlog_spelled rest told e = by (plain_number_below (2 ^ 32) rest) refl
+backlog_encoded : (rest : List ℕ) (told : ReportLine) → backlog_in rest ≡ Some told → Encodes (ended (codes "backlog " ++ rest)) told
+backlog_encoded rest told e = by (plain_number_below (2 ^ 32) rest) refl
   where
-    by : (o : Option ℕ) → plain_number_below (2 ^ 32) rest ≡ o → Spells (ended (codes "backlog " ++ rest)) told
+    by : (o : Option ℕ) → plain_number_below (2 ^ 32) rest ≡ o → Encodes (ended (codes "backlog " ++ rest)) told
     by None none = absurd (never told (rw none at e))
     by (Some k) is =
         let tells : backlog k ≡ told = same (backlog k) told (rw is at e) in
-        let number = plain_spelled (2 ^ 32) rest k (omega arith) is in
+        let number = plain_encoded (2 ^ 32) rest k (omega arith) is in
         rw (← tells) (omega (arith, number.1), (λ h. omega (arith, h, number.1)), rw (lt-ltb k (2 ^ 32) number.1) (ap (λ t. ended (codes "backlog " ++ t)) number.0))
 
-unserved_spelled : (rest : List ℕ) (told : ReportLine) → unserved_in rest ≡ Some told → Spells (ended (codes "unserved " ++ rest)) told
-unserved_spelled rest told e = by (plain_number_below (2 ^ 32) rest) refl
+unserved_encoded : (rest : List ℕ) (told : ReportLine) → unserved_in rest ≡ Some told → Encodes (ended (codes "unserved " ++ rest)) told
+unserved_encoded rest told e = by (plain_number_below (2 ^ 32) rest) refl
   where
-    above : (w : ℕ) → plain_number_below (2 ^ 32) rest ≡ Some w → (d : Bool) → ltb 0 w ≡ d → Spells (ended (codes "unserved " ++ rest)) told
+    above : (w : ℕ) → plain_number_below (2 ^ 32) rest ≡ Some w → (d : Bool) → ltb 0 w ≡ d → Encodes (ended (codes "unserved " ++ rest)) told
     above w is false other = absurd (never told (rw (is, other) at e))
     above w is true holds =
         let some : 0 < w = ltb-true 0 w holds in
         let tells : backlog (2 ^ 32 + w) ≡ told = same (backlog (2 ^ 32 + w)) told (rw (is, holds) at e) in
-        let number = plain_spelled (2 ^ 32) rest w (omega arith) is in
+        let number = plain_encoded (2 ^ 32) rest w (omega arith) is in
         rw (← tells)
         (omega (arith, number.1), (λ h. omega (arith, h, some)), rw (le-ltb (2 ^ 32 + w) (2 ^ 32) (omega arith)) (ap (λ t. ended (codes "unserved " ++ t)) (number.0 ∙ ap decimal (omega arith))))
 
-    by : (o : Option ℕ) → plain_number_below (2 ^ 32) rest ≡ o → Spells (ended (codes "unserved " ++ rest)) told
+    by : (o : Option ℕ) → plain_number_below (2 ^ 32) rest ≡ o → Encodes (ended (codes "unserved " ++ rest)) told
     by None none = absurd (never told (rw none at e))
     by (Some w) is = above w is (ltb 0 w) refl
 
-work_spelled : (rest : List ℕ) (told : ReportLine) → work_in rest ≡ Some told → Spells (ended (codes "work " ++ rest)) told
-work_spelled rest told e = by (cut_last 32 rest) refl
+work_encoded : (rest : List ℕ) (told : ReportLine) → work_in rest ≡ Some told → Encodes (ended (codes "work " ++ rest)) told
+work_encoded rest told e = by (cut_last 32 rest) refl
   where
-    cut : (parts : List ℕ × List ℕ) → cut_last 32 rest ≡ Some parts → (d : Bool) → (is_worker parts.0 && is_name parts.1) ≡ d → Spells (ended (codes "work " ++ rest)) told
+    cut : (parts : List ℕ × List ℕ) → cut_last 32 rest ≡ Some parts → (d : Bool) → (is_worker parts.0 && is_name parts.1) ≡ d → Encodes (ended (codes "work " ++ rest)) told
     cut parts is false other = absurd (never told (rw (is, other) at e))
     cut parts is true holds =
         let tells : task parts.0 (Some parts.1) ≡ told = same (task parts.0 (Some parts.1)) told (rw (is, holds) at e) in
         let names = and_parts (is_worker parts.0) (is_name parts.1) holds in
         rw (← tells) (names.0, names.1, ap ended (ap (λ t. codes "work " ++ t) ((parts_of_last 32 rest parts is).0) ∙ spaced (codes "work ") parts.0 (codes " ") parts.1))
 
-    by : (o : Option (List ℕ × List ℕ)) → cut_last 32 rest ≡ o → Spells (ended (codes "work " ++ rest)) told
+    by : (o : Option (List ℕ × List ℕ)) → cut_last 32 rest ≡ o → Encodes (ended (codes "work " ++ rest)) told
     by None none = absurd (never told (rw none at e))
     by (Some parts) is = cut parts is (is_worker parts.0 && is_name parts.1) refl
 
-idle_spelled : (rest : List ℕ) (told : ReportLine) → idle_in rest ≡ Some told → Spells (ended (codes "idle " ++ rest)) told
-idle_spelled rest told e = by (is_worker rest) refl
+idle_encoded : (rest : List ℕ) (told : ReportLine) → idle_in rest ≡ Some told → Encodes (ended (codes "idle " ++ rest)) told
+idle_encoded rest told e = by (is_worker rest) refl
   where
-    by : (d : Bool) → is_worker rest ≡ d → Spells (ended (codes "idle " ++ rest)) told
+    by : (d : Bool) → is_worker rest ≡ d → Encodes (ended (codes "idle " ++ rest)) told
     by false other = absurd (never told (rw other at e))
     by true holds =
         let tells : task rest None ≡ told = same (task rest None) told (rw holds at e) in
@@ -90,10 +90,10 @@ counted_parts word rest pair e = outer (cut_last 32 rest) refl
     worded parts inner n cut number within false other = absurd (never pair (rw (cut, number, within, other) at e))
     worded parts inner n cut number within true holds =
         let tells : (inner.0, n) ≡ pair = same (inner.0, n) pair (rw (cut, number, within, holds) at e) in
-        let digits = plain_spelled (2 ^ 64) parts.1 n (omega arith) number in
-        let front : parts.0 ≡ inner.0 ++ (32 ∷ word) = (parts_of_last 32 parts.0 inner within).0 ∙ ap (λ w. inner.0 ++ (32 ∷ w)) ((bytes_eq-Decides inner.1 word).0 holds) in
+        let digits = plain_encoded (2 ^ 64) parts.1 n (omega arith) number in
+        let prefix : parts.0 ≡ inner.0 ++ (32 ∷ word) = (parts_of_last 32 parts.0 inner within).0 ∙ ap (λ w. inner.0 ++ (32 ∷ w)) ((bytes_eq-Decides inner.1 word).0 holds) in
         rw (← tells)
-        (digits.1, (parts_of_last 32 rest parts cut).0 ∙ ap (λ t. t ++ (32 ∷ parts.1)) front ∙ ap (λ t. (inner.0 ++ (32 ∷ word)) ++ (32 ∷ t)) digits.0 ∙ append_assoc inner.0 (32 ∷ word) (32 ∷ decimal n))
+        (digits.1, (parts_of_last 32 rest parts cut).0 ∙ ap (λ t. t ++ (32 ∷ parts.1)) prefix ∙ ap (λ t. (inner.0 ++ (32 ∷ word)) ++ (32 ∷ t)) digits.0 ∙ append_assoc inner.0 (32 ∷ word) (32 ∷ decimal n))
 
     inside : (parts : List ℕ × List ℕ) (n : ℕ) → cut_last 32 rest ≡ Some parts → plain_number_below (2 ^ 64) parts.1 ≡ Some n
         → (o : Option (List ℕ × List ℕ)) → cut_last 32 parts.0 ≡ o → (pair.1 < 2 ^ 64) × (rest ≡ pair.0 ++ (32 ∷ (word ++ (32 ∷ decimal pair.1))))
@@ -109,14 +109,14 @@ counted_parts word rest pair e = outer (cut_last 32 rest) refl
     outer None none = absurd (never pair (rw none at e))
     outer (Some parts) cut = counts parts cut (plain_number_below (2 ^ 64) parts.1) refl
 
-short_spelled : (rest : List ℕ) (told : ReportLine) → short_in rest ≡ Some told → Spells (ended (codes "short need " ++ rest)) told
-short_spelled rest told e = by (count_after (codes "have") rest) refl
+short_encoded : (rest : List ℕ) (told : ReportLine) → short_in rest ≡ Some told → Encodes (ended (codes "short need " ++ rest)) told
+short_encoded rest told e = by (count_after (codes "have") rest) refl
   where
-    sums : (pair : List ℕ × ℕ) → count_after (codes "have") rest ≡ Some pair → (o : Option ℕ) → plain_number_below (2 ^ 64) pair.0 ≡ o → Spells (ended (codes "short need " ++ rest)) told
+    sums : (pair : List ℕ × ℕ) → count_after (codes "have") rest ≡ Some pair → (o : Option ℕ) → plain_number_below (2 ^ 64) pair.0 ≡ o → Encodes (ended (codes "short need " ++ rest)) told
     sums pair is None none = absurd (never told (rw (is, none) at e))
     sums pair is (Some need) number =
         let tells : short ≡ told = same short told (rw (is, number) at e) in
-        let digits = plain_spelled (2 ^ 64) pair.0 need (omega arith) number in
+        let digits = plain_encoded (2 ^ 64) pair.0 need (omega arith) number in
         let parts = counted_parts (codes "have") rest pair is in
         rw (← tells) (
           need,
@@ -127,33 +127,33 @@ short_spelled rest told e = by (count_after (codes "have") rest) refl
               ∙ spaced (codes "short need ") (decimal need) (codes " have ") (decimal pair.1)),
         )
 
-    by : (o : Option (List ℕ × ℕ)) → count_after (codes "have") rest ≡ o → Spells (ended (codes "short need " ++ rest)) told
+    by : (o : Option (List ℕ × ℕ)) → count_after (codes "have") rest ≡ o → Encodes (ended (codes "short need " ++ rest)) told
     by None none = absurd (never told (rw none at e))
     by (Some pair) is = sums pair is (plain_number_below (2 ^ 64) pair.0) refl
 
-needed_spelled : (rest : List ℕ) (told : ReportLine) → needed_in rest ≡ Some told → Spells (ended (codes "in " ++ rest)) told
-needed_spelled rest told e = by (count_after (codes "need") rest) refl
+needed_encoded : (rest : List ℕ) (told : ReportLine) → needed_in rest ≡ Some told → Encodes (ended (codes "in " ++ rest)) told
+needed_encoded rest told e = by (count_after (codes "need") rest) refl
   where
-    named : (pair : List ℕ × ℕ) → count_after (codes "need") rest ≡ Some pair → (d : Bool) → is_name pair.0 ≡ d → Spells (ended (codes "in " ++ rest)) told
+    named : (pair : List ℕ × ℕ) → count_after (codes "need") rest ≡ Some pair → (d : Bool) → is_name pair.0 ≡ d → Encodes (ended (codes "in " ++ rest)) told
     named pair is false other = absurd (never told (rw (is, other) at e))
     named pair is true holds =
         let tells : needed pair.0 ≡ told = same (needed pair.0) told (rw (is, holds) at e) in
         let parts = counted_parts (codes "need") rest pair is in
         rw (← tells) (pair.1, holds, parts.0, ap ended (ap (λ t. codes "in " ++ t) parts.1 ∙ spaced (codes "in ") pair.0 (codes " need ") (decimal pair.1)))
 
-    by : (o : Option (List ℕ × ℕ)) → count_after (codes "need") rest ≡ o → Spells (ended (codes "in " ++ rest)) told
+    by : (o : Option (List ℕ × ℕ)) → count_after (codes "need") rest ≡ o → Encodes (ended (codes "in " ++ rest)) told
     by None none = absurd (never told (rw none at e))
     by (Some pair) is = named pair is (is_name pair.0) refl
 
-stranded_spelled : (rest : List ℕ) (told : ReportLine) → stranded_in rest ≡ Some told → Spells (ended (codes "stranded " ++ rest)) told
-stranded_spelled rest told e = by (cut_last 32 rest) refl
+stranded_encoded : (rest : List ℕ) (told : ReportLine) → stranded_in rest ≡ Some told → Encodes (ended (codes "stranded " ++ rest)) told
+stranded_encoded rest told e = by (cut_last 32 rest) refl
   where
     named : (parts : List ℕ × List ℕ) (w : ℕ) → cut_last 32 rest ≡ Some parts → plain_number_below (2 ^ 32) parts.1 ≡ Some w
-        → (d : Bool) → is_name parts.0 ≡ d → Spells (ended (codes "stranded " ++ rest)) told
+        → (d : Bool) → is_name parts.0 ≡ d → Encodes (ended (codes "stranded " ++ rest)) told
     named parts w cut number false other = absurd (never told (rw (cut, number, other) at e))
     named parts w cut number true holds =
         let tells : stranded parts.0 ≡ told = same (stranded parts.0) told (rw (cut, number, holds) at e) in
-        let digits = plain_spelled (2 ^ 32) parts.1 w (omega arith) number in
+        let digits = plain_encoded (2 ^ 32) parts.1 w (omega arith) number in
         rw (← tells) (
           w,
           holds,
@@ -162,51 +162,51 @@ stranded_spelled rest told e = by (cut_last 32 rest) refl
               ∙ spaced (codes "stranded ") parts.0 (codes " ") (decimal w)),
         )
 
-    counts : (parts : List ℕ × List ℕ) → cut_last 32 rest ≡ Some parts → (o : Option ℕ) → plain_number_below (2 ^ 32) parts.1 ≡ o → Spells (ended (codes "stranded " ++ rest)) told
+    counts : (parts : List ℕ × List ℕ) → cut_last 32 rest ≡ Some parts → (o : Option ℕ) → plain_number_below (2 ^ 32) parts.1 ≡ o → Encodes (ended (codes "stranded " ++ rest)) told
     counts parts cut None none = absurd (never told (rw (cut, none) at e))
     counts parts cut (Some w) number = named parts w cut number (is_name parts.0) refl
 
-    by : (o : Option (List ℕ × List ℕ)) → cut_last 32 rest ≡ o → Spells (ended (codes "stranded " ++ rest)) told
+    by : (o : Option (List ℕ × List ℕ)) → cut_last 32 rest ≡ o → Encodes (ended (codes "stranded " ++ rest)) told
     by None none = absurd (never told (rw none at e))
     by (Some parts) cut = counts parts cut (plain_number_below (2 ^ 32) parts.1) refl
 
 -- ---- lines
 
 tried : (word line : List ℕ) (told : ReportLine) (inner : List ℕ → Option ReportLine) (other : Option ReportLine)
-    → ((rest : List ℕ) → inner rest ≡ Some told → Spells (ended (word ++ rest)) told)
-    → (other ≡ Some told → Spells (ended line) told)
-    → option_map_or inner (after_word word line) other ≡ Some told → Spells (ended line) told
+    → ((rest : List ℕ) → inner rest ≡ Some told → Encodes (ended (word ++ rest)) told)
+    → (other ≡ Some told → Encodes (ended line) told)
+    → option_map_or inner (after_word word line) other ≡ Some told → Encodes (ended line) told
 tried word line told inner other here there e = by (after_word word line) refl
   where
-    by : (o : Option (List ℕ)) → after_word word line ≡ o → Spells (ended line) told
+    by : (o : Option (List ℕ)) → after_word word line ≡ o → Encodes (ended line) told
     by None none = there (rw none at e)
-    by (Some rest) is = subst (λ t. Spells (ended t) told) (sym (after_parts word line rest is)) (here rest (rw is at e))
+    by (Some rest) is = subst (λ t. Encodes (ended t) told) (sym (after_parts word line rest is)) (here rest (rw is at e))
 
-keyed_spelled : (line : List ℕ) (told : ReportLine) → keyed line ≡ Some told → Spells (ended line) told
-keyed_spelled line told =
-    tried (codes "backlog ") line told backlog_in _ (λ rest. backlog_spelled rest told)
-    (tried (codes "unserved ") line told unserved_in _ (λ rest. unserved_spelled rest told)
-    (tried (codes "work ") line told work_in _ (λ rest. work_spelled rest told)
-    (tried (codes "idle ") line told idle_in _ (λ rest. idle_spelled rest told)
-    (tried (codes "short need ") line told short_in _ (λ rest. short_spelled rest told)
-    (tried (codes "in ") line told needed_in _ (λ rest. needed_spelled rest told)
-    (tried (codes "stranded ") line told stranded_in _ (λ rest. stranded_spelled rest told)
+keyed_encoded : (line : List ℕ) (told : ReportLine) → keyed line ≡ Some told → Encodes (ended line) told
+keyed_encoded line told =
+    tried (codes "backlog ") line told backlog_in _ (λ rest. backlog_encoded rest told)
+    (tried (codes "unserved ") line told unserved_in _ (λ rest. unserved_encoded rest told)
+    (tried (codes "work ") line told work_in _ (λ rest. work_encoded rest told)
+    (tried (codes "idle ") line told idle_in _ (λ rest. idle_encoded rest told)
+    (tried (codes "short need ") line told short_in _ (λ rest. short_encoded rest told)
+    (tried (codes "in ") line told needed_in _ (λ rest. needed_encoded rest told)
+    (tried (codes "stranded ") line told stranded_in _ (λ rest. stranded_encoded rest told)
     (λ none. absurd (never told none))))))))
 
-pub lines_spelled : (line : List ℕ) (told : ReportLine) → line_of line ≡ Some told → Spells (ended line) told
-lines_spelled line told e = first (bytes_eq line (codes "report 1")) refl
+pub lines_encoded : (line : List ℕ) (told : ReportLine) → line_of line ≡ Some told → Encodes (ended line) told
+lines_encoded line told e = first (bytes_eq line (codes "report 1")) refl
   where
     is_text : (word : List ℕ) → bytes_eq line word ≡ true → ended line ≡ ended word
     is_text word holds = ap ended ((bytes_eq-Decides line word).0 holds)
 
-    third : bytes_eq line (codes "report 1") ≡ false → bytes_eq line (codes "noplan") ≡ false → (d : Bool) → bytes_eq line (codes "end") ≡ d → Spells (ended line) told
+    third : bytes_eq line (codes "report 1") ≡ false → bytes_eq line (codes "noplan") ≡ false → (d : Bool) → bytes_eq line (codes "end") ≡ d → Encodes (ended line) told
     third a b true holds = let tells : last ≡ told = same last told (rw (a, b, holds) at e) in rw (← tells) (is_text (codes "end") holds)
-    third a b false other = keyed_spelled line told (rw (a, b, other) at e)
+    third a b false other = keyed_encoded line told (rw (a, b, other) at e)
 
-    second : bytes_eq line (codes "report 1") ≡ false → (d : Bool) → bytes_eq line (codes "noplan") ≡ d → Spells (ended line) told
+    second : bytes_eq line (codes "report 1") ≡ false → (d : Bool) → bytes_eq line (codes "noplan") ≡ d → Encodes (ended line) told
     second a true holds = let tells : no_plan ≡ told = same no_plan told (rw (a, holds) at e) in rw (← tells) (is_text (codes "noplan") holds)
     second a false other = third a other (bytes_eq line (codes "end")) refl
 
-    first : (d : Bool) → bytes_eq line (codes "report 1") ≡ d → Spells (ended line) told
+    first : (d : Bool) → bytes_eq line (codes "report 1") ≡ d → Encodes (ended line) told
     first true holds = let tells : head ≡ told = same head told (rw holds at e) in rw (← tells) (is_text (codes "report 1") holds)
     first false other = second other (bytes_eq line (codes "noplan")) refl
