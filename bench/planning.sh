@@ -11,7 +11,7 @@ source bench/scratch.sh
 begin planning 'level_search plan_sizing plan_model bumpalo'
 build all
 
-# figures WORDS: what the program prints, and behind it seconds and peak KiB. A command that is not there gives none.
+# figures WORDS: what the program prints, and after it seconds and peak KiB. A command that is not there gives none.
 figures() {
     local status=0
     /usr/bin/time -q -o "$scratch/time" -f '%U %S %M' "$@" > "$scratch/output" || status=$?

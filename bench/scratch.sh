@@ -1,6 +1,6 @@
 # What the scripts beside it share. It is read by `source`, and works at the top of the repository.
 
-# The crates of the repository that these rest on, and these, each behind those that it uses.
+# The crates of the repository that these rest on, and these, each after those that it uses.
 crates_below() {
     awk -v roots="$*" -F: '
         function visit(name, list, count, at) {
@@ -32,7 +32,7 @@ begin() {
     echo "$1_bench: $2 anyhow" >> "$scratch/crates.txt"
 }
 
-# build WORDS: the program, proved and built and run once with these words. It stands at $bench then.
+# build WORDS: the program, proved and built and run once with these words. It is at $bench then.
 build() {
     (cd "$crate" && rt run -- "$@" > "$scratch/build.log" 2>&1) || { tail -20 "$scratch/build.log"; exit 1; }
 }

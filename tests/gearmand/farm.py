@@ -203,7 +203,7 @@ class Ended:
         held([int(line.split()[1]) for line in self.attempts] == list(range(1, rounds + 1)), "the attempts do not count on")
         rest = lines[len(self.attempts) :]
         self.chapters = int(rest[0].split()[1]) if len(rest) == 2 and rest[0].startswith("chapters ") else 0
-        held(len(rest) == 1 + (self.chapters > 0), f"lines behind the attempts: {rest}")
+        held(len(rest) == 1 + (self.chapters > 0), f"lines after the attempts: {rest}")
         self.grabbed, self.running, self.reported, self.lost, self.rounds, self.events = map(int, TOTALS.fullmatch(rest[-1]).groups())
         held(self.running == 0, "jobs run at the end")
         held(self.grabbed == self.reported + self.lost, "grabbed is not reported and lost together")
@@ -217,7 +217,7 @@ class Ended:
         held(told == (grabbed, grabbed - lost, lost), f"grabbed, reported and lost are {told}, and not {(grabbed, grabbed - lost, lost)}")
 
     def kinds(self):
-        """How many attempts came to what, by the words behind the number."""
+        """How many attempts came to what, by the words after the number."""
         count = {}
         for line in self.attempts:
             words = line.split()[2:]

@@ -127,7 +127,7 @@ class Cutter(threading.Thread):
                 while True:
                     for it in select.select([near, far], [], [])[0]:
                         if it is near and deed == "answer":
-                            # The rest of the answer fills the sockets. What stands unread makes of the close a reset.
+                            # The rest of the answer fills the sockets. What is unread makes of the close a reset.
                             time.sleep(0.3)
                             self.done.append(deed)
                             return

@@ -23,7 +23,7 @@ def run_part(words, limit):
     try:
         said, passed = child.communicate(timeout=limit)[0], child.returncode == 0
         if leftovers(child.pid):
-            passed, said = False, f"{said.strip()} (left a process behind)"
+            passed, said = False, f"{said.strip()} (left a process)"
     except subprocess.TimeoutExpired:
         passed, said = False, f"not within {limit} seconds"
     if leftovers(child.pid):

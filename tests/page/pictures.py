@@ -79,7 +79,7 @@ def take(url, file, width, time_of_day):
     with tempfile.TemporaryDirectory() as profile:
         words = ["chromium", "--headless", "--no-sandbox", "--disable-gpu", "--hide-scrollbars", "--no-first-run", f"--user-data-dir={profile}"]
         words += [f"--blink-settings=preferredColorScheme={SCHEMES[time_of_day]}", f"--window-size={width},{HEIGHT}", f"--screenshot={file}", url]
-        # In a group of its own, of which it leaves some behind.
+        # In a group of its own, of which it leaves some.
         browser = subprocess.Popen(words, stdin=subprocess.DEVNULL, stdout=subprocess.DEVNULL, stderr=subprocess.PIPE, text=True, start_new_session=True)
         try:
             said = browser.communicate(timeout=PATIENCE)[1]
