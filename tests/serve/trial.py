@@ -5,7 +5,6 @@ tests/serve/run calls this. What its processes write is in the folder.
 
 import contextlib
 import os
-import random
 import re
 import socket
 import subprocess
@@ -22,31 +21,14 @@ from farm import FAILED, HOST, TOTALS, at_once, held, wait_until
 import hosts
 from asking import ask_rightly, mixed_jobs, wanted
 from page import Page
+from starting import PATIENCE, Processes, drain, ports, untimed
 
-# After so many seconds a wait is given up.
-PATIENCE = 60
 CLIENTS, JOBS = 8, 500
 HEALTHY = {"east": 6, "north": 6, "south": 6}
 BAD = {"drips": (hosts.never_end, "upper"), "mute": (hosts.say_nothing, "reverse"), "noise": (hosts.make_noise, "digest")}
 BAD_WORKERS = 2
 # One more than the workers of a bad host, so that a healthy one has the function too. Two healthy hosts have enough workers for all.
 LEAST = {"count_words": 1, "digest": 3, "hold": 1, "reverse": 3, "sort_lines": 1, "upper": 3}
-
-# A line of standard output.
-LINE = re.compile(r"\d{4}-\d\d-\d\dT\d\d:\d\d:\d\dZ (.+)")
-
-
-def ports(count):
-    """So many free ports of the loopback, none of which the system gives to a connection that begins here."""
-    with open("/proc/sys/net/ipv4/ip_local_port_range") as it:
-        first = int(it.read().split()[0])
-    found = set()
-    while len(found) < count:
-        port = random.randrange(first // 2, first)
-        with socket.socket() as it:
-            if it.connect_ex((HOST, port)) != 0:
-                found.add(port)
-    return list(found)
 
 
 def settings(server):
@@ -68,47 +50,6 @@ def services(places, page):
     return "\n".join([*lines, ""])
 
 
-def drain(program, folder):
-    """How a drain of the farm in this folder ends, and what it prints."""
-    words = [program, "drain", f"{folder}/services.toml"]
-    done = subprocess.run(words, stdin=subprocess.DEVNULL, capture_output=True, text=True, timeout=PATIENCE)
-    return done.returncode, done.stdout, done.stderr
-
-
-class Processes:
-    """What is started here. Whatever still runs at the end is killed."""
-
-    def __init__(self, folder):
-        self.folder = folder
-        self.all = []
-
-    def start(self, name, *words, stdin=subprocess.DEVNULL, **more):
-        """A process whose standard output and error go after what is in NAME.out and NAME.err."""
-        with open(f"{self.folder}/{name}.out", "ab") as out, open(f"{self.folder}/{name}.err", "ab") as err:
-            child = subprocess.Popen(words, stdin=stdin, stdout=out, stderr=err, **more)
-        self.all.append(child)
-        return child
-
-    def text(self, name):
-        with open(f"{self.folder}/{name}") as it:
-            return it.read()
-
-    def __enter__(self):
-        return self
-
-    def __exit__(self, *_):
-        for child in self.all:
-            child.kill()
-            child.wait()
-
-
-def listens(port, child):
-    """Whether a process listens at its port."""
-    held(child.poll() is None, f"{child.args} ended at once")
-    with socket.socket() as it:
-        return it.connect_ex((HOST, port)) == 0
-
-
 class Farm:
     """The job server, the hosts, and poolman."""
 
@@ -121,9 +62,7 @@ class Farm:
         self.answered, self.lock = [], threading.Lock()
 
     def start(self):
-        words = [f"--listen={HOST}", f"--port={self.server}", "--config-file=/dev/null", "--log-file=stderr", "--backlog=1024"]
-        gearmand = self.processes.start("gearmand", "/usr/sbin/gearmand", *words, f"--pid-file={self.processes.folder}/pid")
-        wait_until(lambda: listens(self.server, gearmand), PATIENCE, "gearmand listens")
+        self.processes.start_server(self.server)
         self.services = {name: self.start_service(name) for name in HEALTHY}
         self.bad = {name: hosts.Host(self.places[name], misbehave) for name, (misbehave, _) in BAD.items()}
         self.poolman = self.start_poolman(services(self.places, self.page.port), stdin=subprocess.PIPE)
@@ -131,10 +70,7 @@ class Farm:
         wait_until(lambda: self.workers() == workers, PATIENCE, "each worker has a function at the server")
 
     def start_service(self, name):
-        port = self.places[name]
-        child = self.processes.start(name, sys.executable, f"{TOP}/tests/serve/service.py", str(port), self.marker)
-        wait_until(lambda: listens(port, child), PATIENCE, f"the service {name} listens")
-        return child
+        return self.processes.start_service(name, self.places[name])
 
     def write_files(self, services):
         files = [f"{self.processes.folder}/{name}.toml" for name in ("settings", "services")]
@@ -167,9 +103,7 @@ class Farm:
     def lines(self):
         """The whole lines of poolman so far, without their times."""
         text = self.processes.text("poolman.out")
-        found = [LINE.fullmatch(line) for line in text.splitlines()[: text.count("\n")]]
-        held(all(found), "a line of poolman is not one with a time")
-        return [line[1] for line in found]
+        return untimed(text.splitlines()[: text.count("\n")])
 
     def done(self, name):
         """What a service has done: (worker, handle, unique, function, status) of each job."""

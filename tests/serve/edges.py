@@ -1,0 +1,310 @@
+"""Farms at the edges of what the system gives them: edges.py PROGRAM FOLDER
+
+tests/serve/run calls this. A farm has two hosts that do jobs. It goes on, and serves them, though nobody takes its lines, though the names
+of 200 further hosts do not resolve, and though no descriptor is left. What its processes write is in the folder.
+"""
+
+import fcntl
+import os
+import re
+import resource
+import socket
+import struct
+import subprocess
+import sys
+import threading
+import time
+
+sys.dont_write_bytecode = True
+TOP = os.path.join(os.path.dirname(os.path.abspath(__file__)), "../..")
+sys.path.insert(0, f"{TOP}/tests/gearmand")
+
+from farm import HOST, TOTALS, held, wait_until
+
+from asking import ask_rightly
+from page import Page
+from starting import LINE, PATIENCE, Processes, drain, ports, untimed
+
+HOSTS = ("north", "south")
+WORKERS = 4
+ROUND_MS = 50
+
+# An attempt is not to take longer on average, though it is made each 50 milliseconds where nothing else is to do.
+SLOWEST_MS = 2000
+
+# So many lines wait in the program, if nobody takes them.
+MOST_WAITING = 4096
+
+# For so many seconds a look-up waits for a resolver that does not answer.
+LOOKUP_S = 3
+
+# What Linux calls a network interface that is up, and the request for it.
+IFF_UP, SIOCSIFFLAGS = 1, 0x8914
+
+LEFT_OUT = re.compile(r"left out (\d+) lines")
+
+
+def settings(server, others):
+    """The settings of a farm with these further machines, with its job server at this port."""
+    lines = ["version = 1", f'server = "{HOST}:{server}"', f"round_ms = {ROUND_MS}", "lull_ms = 20"]
+    lines.append("[functions.upper]")
+    for name, workers in [*((name, WORKERS) for name in HOSTS), *((name, 1) for name in others)]:
+        lines.append(f'[machines.{name}]\nworkers = {workers}\nfunctions = ["upper"]')
+    return "\n".join([*lines, ""])
+
+
+def good_jobs(name, count):
+    """So many jobs that can be done."""
+    return [("upper", f"{name}-{number}", b"a job") for number in range(count)]
+
+
+def bad_jobs(name, count):
+    """So many jobs whose data is no text. A line tells of each."""
+    return [("upper", f"{name}-{number}", b"\xff") for number in range(count)]
+
+
+class Edge:
+    """A job server and two services, and a farm of theirs."""
+
+    def __init__(self, program, processes, others=()):
+        self.program, self.processes = program, processes
+        self.server, page, *places = ports(2 + len(HOSTS))
+        self.page = Page(page, PATIENCE)
+        self.others = others
+        self.places = dict(zip(HOSTS, places))
+        processes.start_server(self.server)
+        self.services = {name: processes.start_service(name, port) for name, port in self.places.items()}
+        self.write("settings", settings(self.server, others))
+        urls = {**{name: f"{HOST}:{port}" for name, port in self.places.items()}, **{name: f"{name}.invalid:80" for name in others}}
+        lines = ["version = 1", f'[page]\nlisten = "{HOST}:{page}"']
+        self.write("services", "\n".join([*lines, *[f'[machines.{name}]\nurl = "http://{url}/jobs"' for name, url in urls.items()], ""]))
+
+    def write(self, name, text):
+        with open(f"{self.processes.folder}/{name}.toml", "w") as it:
+            it.write(text)
+
+    def start(self, *before, **streams):
+        """Starts poolman, after these words of another program, and waits until it has a plan."""
+        files = [f"{self.processes.folder}/{name}.toml" for name in ("settings", "services")]
+        self.poolman = self.processes.start("poolman", *before, self.program, "serve", *files, **streams)
+        wait_until(self.is_well, PATIENCE, "the farm has a plan")
+
+    def is_well(self):
+        held(self.poolman.poll() is None, f"poolman ended with status {self.poolman.returncode}")
+        return self.page.is_well()
+
+    def lines(self):
+        """The whole lines of poolman so far, without their times."""
+        text = self.processes.text("poolman.out")
+        return untimed(text.splitlines()[: text.count("\n")])
+
+    def metric(self, name):
+        """A number of the page."""
+        return int(re.search(rf"^{re.escape(name)} (\d+)$", self.page.text("/metrics"), re.MULTILINE)[1])
+
+    def restart(self, name):
+        """Kills a service, so that its connections are closed, and starts it again."""
+        self.services[name].kill()
+        self.services[name].wait()
+        self.services[name] = self.processes.start_service(name, self.places[name])
+
+    def holds_no_good_host_unreached(self):
+        said = [line for line in self.lines() if line.startswith("unreached ") and line.split()[1] in HOSTS]
+        held(not said, f"of hosts that do jobs it is said: {said}")
+
+    def ask(self, jobs):
+        ask_rightly(self.server, jobs, PATIENCE)
+
+    def keeps_pace_while(self, call):
+        """Makes a call, and one second's worth of attempts besides, which do not become slow."""
+        begin, before = time.monotonic(), self.metric("poolman_attempts_total")
+        call()
+        wait_until(lambda: self.metric("poolman_attempts_total") >= before + 10, PATIENCE, "attempts are made")
+        holds_pace(self.metric("poolman_attempts_total") - before, begin)
+
+    def end(self, reported=None):
+        """Ends the farm by a drain, and holds its totals to how many jobs were reported."""
+        status, told, said = drain(self.program, self.processes.folder)
+        held((status, said) == (0, ""), f"the drain: {status} {told} {said}")
+        totals = next(filter(None, map(TOTALS.fullmatch, told.splitlines())), None)
+        held(totals, f"a drain without totals: {told}")
+        grabbed, running, did, lost = map(int, totals.groups()[:4])
+        held(running == 0 and grabbed == did + lost, f"the totals do not account for each job: {totals[0]}")
+        held(reported in (None, did), f"{did} jobs were reported, and {reported} answered")
+        status = self.poolman.wait(PATIENCE)
+        held(status == 0, f"poolman ended with status {status}")
+
+
+def holds_pace(made, begin):
+    """Holds that so many attempts since then did not take long."""
+    took = 1000 * (time.monotonic() - begin)
+    held(took <= made * SLOWEST_MS, f"{made} attempts took {took:.0f} milliseconds")
+
+
+class Pipe:
+    """A small pipe for the lines of a farm, whose reader comes late."""
+
+    def __init__(self, waits):
+        self.read_end, self.write_end = os.pipe()
+        fcntl.fcntl(self.write_end, fcntl.F_SETPIPE_SZ, 4096)
+        os.set_blocking(self.write_end, waits)
+
+    def give(self):
+        """Has no more to do with the end that was given away."""
+        os.close(self.write_end)
+
+    def read(self):
+        """Reads to the end of the farm, in a thread. What was read is handed out by the call that is given back."""
+        read = []
+
+        def read_all():
+            with open(self.read_end, "rb") as it:
+                read.append(it.read())
+
+        reader = threading.Thread(target=read_all, daemon=True)
+        reader.start()
+
+        def take():
+            reader.join(PATIENCE)
+            held(read, "the farm has ended, and its output has not")
+            return read[0].decode().splitlines()
+
+        return take
+
+
+def account_for_lines(lines, failed):
+    """Holds that each line of a farm with so many failed jobs was written or is counted. It was blocked after all had joined."""
+    counted = [int(found[1]) for line in lines if (found := LEFT_OUT.fullmatch(line))]
+    # Before the number of those that could not be written there may be a part of the last one.
+    parts = [line for line, after in zip(lines, lines[1:]) if not LINE.fullmatch(line) and LEFT_OUT.fullmatch(after)]
+    told = untimed(line for line in lines if line not in parts and not LEFT_OUT.fullmatch(line))
+    held(counted, "no line was left out")
+    attempts = [int(line.split()[1]) for line in told if line.startswith("attempt ")]
+    held(attempts == sorted(set(attempts)), "the lines of attempts are not in order")
+    failures = [line.split()[2] for line in told if line.startswith("failed ")]
+    held(len(failures) == len(set(failures)), "a failure is told twice")
+    missing = attempts[-1] - len(attempts) + failed - len(failures)
+    held(sum(counted) == missing, f"{missing} lines are missing, and {counted} are counted")
+    for word in ("joined", "ended"):
+        held(sum(line.startswith(f"{word} ") for line in told) == WORKERS * len(HOSTS), f"not each worker has {word}")
+    held(TOTALS.fullmatch(told[-1]), f"the last line is {told[-1]}")
+
+
+def are_late(edge, waits, failed):
+    """Whoever reads the lines begins when more are there than the pipe and the program hold: what is left out is counted in its place."""
+    pipe = Pipe(waits)
+    edge.start(stdout=pipe.write_end)
+    pipe.give()
+    edge.keeps_pace_while(lambda: edge.ask(bad_jobs(f"late-{waits}", failed)))
+    take = pipe.read()
+    edge.keeps_pace_while(lambda: edge.ask(good_jobs(f"late-{waits}", 100)))
+    edge.end(failed + 100)
+    account_for_lines(take(), failed)
+
+
+def nobody_takes_lines(program, processes):
+    edge = Edge(program, processes)
+    # Of more lines than wait in the program, and of more than a pipe holds that takes no more and says so.
+    are_late(edge, True, MOST_WAITING + 900)
+    are_late(edge, False, 300)
+    pipe = Pipe(True)
+    os.close(pipe.read_end)
+    edge.start(stdout=pipe.write_end)
+    pipe.give()
+    goes_on(edge, "gone")
+    with open("/dev/full", "w") as full:
+        edge.start(stdout=full)
+    goes_on(edge, "full")
+    edge.start("sh", "-c", 'exec "$0" "$@" <&- >&- 2>&-')
+    streams = [os.readlink(f"/proc/{edge.poolman.pid}/fd/{number}") for number in range(3)]
+    held(streams == 3 * ["/dev/null"], f"the standard streams are {streams}")
+    goes_on(edge, "closed")
+
+
+def goes_on(edge, name):
+    """The farm serves, and ends well."""
+    edge.keeps_pace_while(lambda: edge.ask(good_jobs(name, 100) + bad_jobs(f"bad-{name}", 100)))
+    edge.end(200)
+
+
+def serve_beside_unknown_names(program, processes):
+    """200 further hosts have names that nobody knows."""
+    edge = Edge(program, processes, [f"host-{number}" for number in range(200)])
+    edge.start()
+    edge.keeps_pace_while(lambda: edge.ask(good_jobs("unknown", 500)))
+
+    def are_all_unreached():
+        return {f"unreached {name} Unreachable" for name in edge.others} <= set(edge.lines())
+
+    edge.keeps_pace_while(lambda: wait_until(are_all_unreached, PATIENCE, "each host without an address is told"))
+    edge.keeps_pace_while(lambda: edge.ask(good_jobs("told", 500)))
+    edge.end(1000)
+    edge.holds_no_good_host_unreached()
+
+
+def with_a_silent_resolver(program, processes):
+    """The same in a network of its own, where the resolver is asked and never answers."""
+    raise_loopback()
+    with socket.socket(socket.AF_INET, socket.SOCK_DGRAM) as resolver:
+        resolver.bind((HOST, 53))
+        with open(f"{processes.folder}/resolv.conf", "w") as it:
+            it.write(f"nameserver {HOST}\noptions timeout:{LOOKUP_S} attempts:1\n")
+        subprocess.run(["mount", "--bind", it.name, "/etc/resolv.conf"], check=True)
+        serve_beside_unknown_names(program, processes)
+        held(resolver.recv(512), "no name was looked up")
+
+
+def names_do_not_resolve(program, processes):
+    """Look-ups take seconds, if this system lets a test have a network of its own, and else as long as they take here."""
+    alone = ["unshare", "--map-root-user", "--mount", "--net"]
+    if subprocess.run([*alone, "true"], stdin=subprocess.DEVNULL, stderr=subprocess.DEVNULL).returncode != 0:
+        serve_beside_unknown_names(program, processes)
+        return
+    words = [*alone, sys.executable, __file__, program, processes.folder, with_a_silent_resolver.__name__]
+    subprocess.run(words, stdin=subprocess.DEVNULL, check=True)
+
+
+def raise_loopback():
+    """Lets the loopback of a new network carry packets."""
+    up = struct.pack("16sh14x", b"lo", IFF_UP)
+    with socket.socket(socket.AF_INET, socket.SOCK_DGRAM) as it:
+        fcntl.ioctl(it, SIOCSIFFLAGS, up)
+
+
+def no_descriptor_is_left(program, processes):
+    """For a while no descriptor is given out, and a host has closed its connections: attempts go on, each job is answered, and no host is
+    told as one that is not reached. Then all is as before."""
+    edge = Edge(program, processes)
+    edge.start()
+    limits = resource.prlimit(edge.poolman.pid, resource.RLIMIT_NOFILE)
+    resource.prlimit(edge.poolman.pid, resource.RLIMIT_NOFILE, (0, limits[1]))
+    edge.restart("north")
+    begin, before = time.monotonic(), len(edge.lines())
+    edge.ask(good_jobs("few", 300))
+    wait_until(lambda: nolinks(edge.lines()[before:]) >= 10, PATIENCE, "attempts are made without a descriptor")
+    holds_pace(nolinks(edge.lines()[before:]), begin)
+    resource.prlimit(edge.poolman.pid, resource.RLIMIT_NOFILE, limits)
+    wait_until(lambda: edge.is_well() and edge.metric("poolman_alive_workers") == WORKERS * len(HOSTS), PATIENCE, "all workers are back")
+    edge.keeps_pace_while(lambda: edge.ask(good_jobs("again", 300)))
+    edge.end(600)
+    edge.holds_no_good_host_unreached()
+
+
+def nolinks(lines):
+    """In how many attempts of these lines the server was not reached."""
+    return sum(line.startswith("attempt ") and line.endswith(" nolink") for line in lines)
+
+
+PARTS = (nobody_takes_lines, names_do_not_resolve, no_descriptor_is_left)
+
+
+def main(program, folder, *names):
+    """The parts of these names, or all."""
+    for part in [globals()[name] for name in names] or PARTS:
+        os.mkdir(f"{folder}/{part.__name__}")
+        with Processes(f"{folder}/{part.__name__}") as processes:
+            part(program, processes)
+
+
+if __name__ == "__main__":
+    main(*sys.argv[1:])
