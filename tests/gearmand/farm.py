@@ -241,7 +241,8 @@ class Client:
         pieces, had = [self.rest], len(self.rest)
         while had < count:
             piece = self.socket.recv(1 << 20)
-            held(piece, "the server closed the client's link")
+            if not piece:
+                raise ConnectionError("the server closed the client's link")
             pieces.append(piece)
             had += len(piece)
         whole = b"".join(pieces)

@@ -3,6 +3,7 @@
 import contextlib
 import random
 import threading
+import time
 
 from farm import FAILED, JOB_CREATED, SUBMIT_JOB, WORK_COMPLETE, WORK_FAIL, Client, held, request
 
@@ -36,8 +37,8 @@ def wanted(function, data):
 class Asker(Client):
     """A client whose jobs have unique ids."""
 
-    def answers(self, jobs, patience, ahead=200):
-        """The answers to jobs, in their order. So many jobs go ahead of the answers."""
+    def take_answers(self, jobs, patience, answers, ahead=200):
+        """Asks for jobs, and puts their answers by their unique ids. So many jobs go ahead of the answers."""
         room, wrong = threading.Semaphore(ahead), []
 
         def send():
@@ -50,28 +51,43 @@ class Asker(Client):
 
         sender = threading.Thread(target=send, daemon=True)
         sender.start()
-        created, ended, warned = [], {}, set()
-        while len(ended) < len(jobs):
+        uniques, asked = iter([unique for _, unique, _ in jobs]), {}
+        warned = set()
+        while len(answers) < len(jobs):
             kind, body = self.packet()
             handle, _, data = body.partition(b"\0")
             if kind == JOB_CREATED:
-                created.append(handle)
+                asked[handle] = next(uniques)
             elif kind == WORK_WARNING:
                 warned.add(handle)
             else:
                 held(kind in (WORK_COMPLETE, WORK_FAIL), f"a packet of kind {kind}: {body[:100]!r}")
-                held(handle not in ended, "a job was answered twice")
-                ended[handle] = data if kind == WORK_COMPLETE else FAILED
+                held(asked[handle] not in answers, "a job was answered twice")
+                held((kind == WORK_FAIL) == (handle in warned), "a failure came without its reason, or a result with one")
+                answers[asked[handle]] = data if kind == WORK_COMPLETE else FAILED
                 room.release()
         sender.join(patience)
         held(not wrong, f"the client could not send: {wrong}")
-        held(warned == {handle for handle in ended if ended[handle] is FAILED}, "a failure came without its reason, or a result with one")
-        return [ended[handle] for handle in created]
 
 
-def ask_rightly(port, jobs, patience):
-    """Asks for jobs, and holds their answers to what they are to be."""
-    with contextlib.closing(Asker(port, patience)) as client:
-        answers = client.answers(jobs, patience)
-    for (function, unique, data), answer in zip(jobs, answers):
+def ask_rightly(port, jobs, patience, may_be_gone=False):
+    """Asks for jobs, and holds their answers to what they are to be. A server that may be gone meanwhile is asked again for those that it
+    has not answered; how many these were is the result."""
+    answers, again = {}, 0
+    end = time.monotonic() + patience
+    while left := [job for job in jobs if job[1] not in answers]:
+        held(time.monotonic() < end, "no server for long")
+        some = {}
+        try:
+            with contextlib.closing(Asker(port, patience)) as client:
+                client.take_answers(left, patience, some)
+        except ConnectionError:
+            if not may_be_gone:
+                raise
+            time.sleep(0.05)
+            again += len(left) - len(some)
+        answers.update(some)
+    for function, unique, data in jobs:
+        answer = answers[unique]
         held(answer == wanted(function, data), f"{unique}, {function} of {data[:40]!r}.., is answered {answer and answer[:40]!r}")
+    return again

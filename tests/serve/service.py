@@ -1,7 +1,7 @@
 #!/usr/bin/env python3
-"""The service of examples/serve with four functions more: service.py PORT MARKER
+"""The service of examples/serve with four functions more: service.py PORT ORDER
 
-Of all services with the same marker one never does its first job of `hold`: it writes its port there, and waits until it is killed.
+If the file ORDER is there, the next job is never done: the file's name becomes ORDER.held, and the service waits until it is killed.
 """
 import hashlib
 import os
@@ -30,23 +30,22 @@ def hold(data):
     return data
 
 
-def hold_one(port, marker):
-    """The function `hold` of a service."""
+def held_on_order(do, order):
+    """A function that does what another one does, but for a job that is held."""
 
-    def held(data):
+    def do_or_hold(data):
         try:
-            first = open(marker, "x")
-        except FileExistsError:
-            return hold(data)
-        with first:
-            print(port, file=first)
+            os.rename(order, f"{order}.held")
+        except FileNotFoundError:
+            return do(data)
         threading.Event().wait()
 
-    return held
+    return do_or_hold
 
 
 services.FUNCTIONS.update(reverse=reverse, digest=digest, sort_lines=sort_lines, hold=hold)
 
 if __name__ == "__main__":
-    services.FUNCTIONS["hold"] = hold_one(*sys.argv[1:])
+    for name, do in services.FUNCTIONS.items():
+        services.FUNCTIONS[name] = held_on_order(do, sys.argv[2])
     services.main(int(sys.argv[1]))

@@ -74,8 +74,8 @@ class Processes:
         return child
 
     def start_service(self, name, port):
-        """A service at this port, which listens already. Of all in the folder one holds its first job of `hold`."""
-        child = self.start(name, sys.executable, f"{TOP}/tests/serve/service.py", str(port), f"{self.folder}/held")
+        """A service at this port, which listens already. It holds a job if the file NAME.order is there."""
+        child = self.start(name, sys.executable, f"{TOP}/tests/serve/service.py", str(port), f"{self.folder}/{name}.order")
         wait_until(lambda: listens(port, child), PATIENCE, f"the service {name} listens")
         return child
 

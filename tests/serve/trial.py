@@ -1,9 +1,18 @@
-"""A farm of six hosts, three of which misbehave: trial.py PROGRAM FOLDER
+"""A farm of six hosts, three of which misbehave: trial.py PROGRAM FOLDER [long]
 
-tests/serve/run calls this. What its processes write is in the folder.
+tests/serve/run calls this. Three hosts run the service of examples/serve with four functions more. The others never answer, answer what
+is no HTTP, or send without an end. Clients ask for jobs of six functions. Meanwhile each healthy host is killed in mid job, the plan
+after the next gives its functions to others, and it is started again and gets jobs; and the server is killed and started again. Each job
+has to be answered rightly, and to be in a service's log. The page has to refuse what is asked wrongly, and to give the evidence of a plan
+that `poolman check` finds shown. A drain ends the farm; its totals have to account for each job. SIGTERM has to end the unit's script as
+a drain does, and a services file without a URL has to be refused before anything is dialled.
+
+With `long` there is only the farm: 100,000 jobs of 20 clients, each host is killed three times, and the farm has to hold no more
+descriptors in the last tenth of the jobs than in the second, and hardly more memory. What its processes write is in the folder.
 """
 
 import contextlib
+import dataclasses
 import os
 import re
 import socket
@@ -23,7 +32,29 @@ from asking import ask_rightly, mixed_jobs, wanted
 from page import Page
 from starting import PATIENCE, Processes, drain, ports, untimed
 
-CLIENTS, JOBS = 8, 500
+
+
+@dataclasses.dataclass
+class Scale:
+    """How many clients ask, for how many jobs each, and how often each healthy host is killed."""
+
+    clients: int
+    jobs: int
+    kills: int
+
+
+SHORT, LONG = Scale(8, 500, 1), Scale(20, 5000, 3)
+
+# A client asks for so many jobs over one connection.
+CHUNK = 100
+
+# So many events are kept at most. Half of them are there long before a fifth of the jobs is done.
+HISTORY = 8192
+
+# By so many KiB memory may be more in the last tenth than in the second: what the page keeps of attempts grows meanwhile, up to 600 of
+# them. At 200 bytes a job, if they were kept, it would be 15,000 more.
+MORE_KIB = 4096
+
 HEALTHY = {"east": 6, "north": 6, "south": 6}
 BAD = {"drips": (hosts.never_end, "upper"), "mute": (hosts.say_nothing, "reverse"), "noise": (hosts.make_noise, "digest")}
 BAD_WORKERS = 2
@@ -33,7 +64,7 @@ LEAST = {"count_words": 1, "digest": 3, "hold": 1, "reverse": 3, "sort_lines": 1
 
 def settings(server):
     """The settings of the farm, with its job server at this port."""
-    lines = ["version = 1", f'server = "{HOST}:{server}"', "round_ms = 100", "lull_ms = 20", "job_timeout_ms = 30000"]
+    lines = ["version = 1", f'server = "{HOST}:{server}"', "round_ms = 100", "lull_ms = 20", "job_timeout_ms = 30000", f"history = {HISTORY}"]
     lines += [f"[functions.{name}]\nleast = {least}" for name, least in LEAST.items()]
     machines = [(name, workers, LEAST) for name, workers in HEALTHY.items()]
     machines += [(name, BAD_WORKERS, [function]) for name, (_, function) in BAD.items()]
@@ -55,14 +86,14 @@ class Farm:
 
     def __init__(self, program, processes):
         self.program, self.processes = program, processes
-        self.marker = f"{processes.folder}/held"
         self.server, page, *places = ports(2 + len(HEALTHY) + len(BAD))
         self.page = Page(page, PATIENCE)
         self.places = dict(zip([*HEALTHY, *BAD], places))
-        self.answered, self.lock = [], threading.Lock()
+        self.answered, self.again, self.lock = [], 0, threading.Lock()
+        self.is_quiet, self.is_over = threading.Event(), threading.Event()
 
     def start(self):
-        self.processes.start_server(self.server)
+        self.gearmand = self.processes.start_server(self.server)
         self.services = {name: self.start_service(name) for name in HEALTHY}
         self.bad = {name: hosts.Host(self.places[name], misbehave) for name, (misbehave, _) in BAD.items()}
         self.poolman = self.start_poolman(services(self.places, self.page.port), stdin=subprocess.PIPE)
@@ -110,9 +141,17 @@ class Farm:
         return [line.split() for line in self.processes.text(f"{name}.out").splitlines()]
 
     def ask(self, jobs):
-        ask_rightly(self.server, jobs, PATIENCE)
+        again = ask_rightly(self.server, jobs, PATIENCE, may_be_gone=True)
         with self.lock:
             self.answered += jobs
+            self.again += again
+
+    def ask_till_quiet(self, name, count):
+        """A client, which asks for so many jobs, and then for more until nobody is killed any more."""
+        turn = 0
+        while turn * CHUNK < count or not self.is_quiet.is_set():
+            self.ask(mixed_jobs(f"{name}-{turn}", CHUNK))
+            turn += 1
 
     def ask_until(self, is_so, what):
         """Asks for more jobs, until something is so."""
@@ -126,16 +165,45 @@ class Farm:
         said = [line.split()[0] for line in self.lines() if re.match(rf"(un)?reached {name}\b", line)]
         return said[-1:] == ["unreached"]
 
-    def kill_in_mid_job(self):
-        """Kills the service that holds a job, waits until poolman does not reach it, and starts it again."""
-        wait_until(lambda: os.path.exists(self.marker) and self.processes.text("held"), PATIENCE, "a service holds a job")
-        name = next(name for name in HEALTHY if self.places[name] == int(self.processes.text("held")))
+    def disturb(self, scale):
+        """When a fifth of all is answered each healthy host is killed in mid job and started again, so often, the server once."""
+        wait_until(lambda: len(self.answered) >= scale.clients * scale.jobs // 5, 10 * PATIENCE, "a fifth is answered")
+        for turn in range(scale.kills):
+            for name in HEALTHY:
+                self.kill_in_mid_job(name)
+            if turn == 0:
+                self.restart_server()
+        self.is_quiet.set()
+
+    def restart_server(self):
+        self.gearmand.kill()
+        self.gearmand.wait()
+        self.gearmand = self.processes.start_server(self.server)
+
+    def kill_in_mid_job(self, name):
+        """Kills a service that holds a job, waits until it is not reached and the others have its functions, and starts it again."""
+        order = f"{self.processes.folder}/{name}.order"
+        open(order, "w").close()
+        wait_until(lambda: os.path.exists(f"{order}.held"), PATIENCE, f"{name} holds a job")
+        os.remove(f"{order}.held")
         self.services[name].kill()
         self.services[name].wait()
         wait_until(lambda: self.is_away(name), PATIENCE, f"{name} is not reached")
+        self.hold_that_others_have_all(name)
         before = len(self.done(name))
         self.services[name] = self.start_service(name)
-        self.ask_until(lambda: not self.is_away(name) and len(self.done(name)) > before, f"{name} does jobs again")
+        wait_until(lambda: not self.is_away(name) and len(self.done(name)) > before, PATIENCE, f"{name} does jobs again")
+
+    def rounds(self):
+        return sum(" round " in line for line in self.lines() if line.startswith("attempt "))
+
+    def hold_that_others_have_all(self, name):
+        """The plan after the next gives each function to other hosts than the one that is lost."""
+        before = self.rounds()
+        wait_until(lambda: self.rounds() >= before + 2, PATIENCE, "two plans more")
+        places = [line.split()[1:] for line in self.page.text("/report").splitlines() if line.startswith("work ")]
+        served = {function for worker, function in places if not worker.startswith(f"{name}/")}
+        held(served == set(LEAST), f"without {name} only {served} have workers")
 
     def look_at_its_page(self):
         """A peer sees that it is well, and can check its plan."""
@@ -161,7 +229,9 @@ class Farm:
         held(len(totals) == 1, "not one line of totals")
         grabbed, running, reported, lost = map(int, totals[0].groups()[:4])
         held(running == 0 and grabbed == reported + lost, f"the totals do not account for each job: {totals[0][0]}")
-        held(reported == len(self.answered), f"{reported} jobs were reported, and {len(self.answered)} answered")
+        # Of those that were asked for again some had been reported to the server that is gone.
+        least = len(self.answered)
+        held(least <= reported <= least + self.again, f"{reported} jobs were reported, {least} answered, and {self.again} asked for again")
         held(lost > 0 and any(re.match(r"ended mute/\d+#\d+ Unserved", line) for line in lines), "no bad host has lost a job")
 
     def account(self):
@@ -176,15 +246,63 @@ class Farm:
             held((function, unique, status) in done, f"no service has done {unique}, {function}")
 
 
-def a_farm(program, processes):
+class Samples:
+    """What poolman holds of descriptors and memory, by how many jobs are answered."""
+
+    def __init__(self, farm):
+        self.farm, self.taken = farm, []
+
+    def take(self):
+        """Takes samples until nobody is killed any more and the jobs are answered."""
+        while not self.farm.is_over.wait(0.1):
+            self.taken.append((len(self.farm.answered), self.descriptors(), self.memory()))
+
+    def descriptors(self):
+        return len(os.listdir(f"/proc/{self.farm.poolman.pid}/fd"))
+
+    def memory(self):
+        """KiB."""
+        with open(f"/proc/{self.farm.poolman.pid}/status") as it:
+            return int(re.search(r"VmRSS:\s+(\d+) kB", it.read())[1])
+
+    def greatest(self, first, last):
+        """The greatest numbers while so many jobs were answered."""
+        some = [(descriptors, memory) for answered, descriptors, memory in self.taken if first <= answered < last]
+        held(some, "no sample")
+        return tuple(map(max, zip(*some)))
+
+    def hold_that_none_grew(self, jobs):
+        """Of so many jobs."""
+        second, last = self.greatest(jobs // 10, jobs // 5), self.greatest(jobs - jobs // 10, jobs)
+        print(f"descriptors and KiB in the second tenth {second}, in the last {last}")
+        held(last[0] <= second[0] and last[1] <= second[1] + MORE_KIB, f"descriptors and KiB were {second}, and are {last}")
+
+
+def try_farm(program, processes, scale):
+    """Lets clients ask while hosts are killed, and looks at what the farm has done."""
     farm = Farm(program, processes)
     farm.start()
-    clients = [lambda n=n: farm.ask(mixed_jobs(f"job-{n}", JOBS)) for n in range(CLIENTS)]
-    at_once([*clients, farm.kill_in_mid_job])
+    samples = Samples(farm)
+    begin = time.monotonic()
+    clients = [lambda n=n: farm.ask_till_quiet(f"job-{n}", scale.jobs) for n in range(scale.clients)]
+    threading.Thread(target=samples.take, daemon=True).start()
+    at_once([*clients, lambda: farm.disturb(scale)])
+    farm.is_over.set()
+    print(f"{len(farm.answered)} jobs in {time.monotonic() - begin:.0f} seconds, {farm.again} asked for again")
+    if scale is LONG:
+        samples.hold_that_none_grew(len(farm.answered))
     farm.ask_until(lambda: all(host.asked for host in farm.bad.values()), "each bad host was asked")
     farm.look_at_its_page()
     farm.end()
     farm.account()
+
+
+def a_farm(program, processes):
+    try_farm(program, processes, SHORT)
+
+
+def a_large_farm(program, processes):
+    try_farm(program, processes, LONG)
 
 
 def a_refused_file(program, processes):
@@ -221,8 +339,9 @@ def a_service_by_drain(program, processes):
     ends_as_service(program, processes, lambda farm, script: farm.drain())
 
 
-def main(program, folder):
-    for part in (a_refused_file, a_service_by_signal, a_service_by_drain, a_farm):
+def main(program, folder, *words):
+    parts = (a_large_farm,) if words == ("long",) else (a_refused_file, a_service_by_signal, a_service_by_drain, a_farm)
+    for part in parts:
         os.mkdir(f"{folder}/{part.__name__}")
         with Processes(f"{folder}/{part.__name__}") as processes:
             part(program, processes)
