@@ -60,7 +60,7 @@ class Processes:
         self.all = []
 
     def start(self, name, *words, stdin=subprocess.DEVNULL, **more):
-        """A process whose standard output and error go behind what is in NAME.out and NAME.err, if no other ones are given."""
+        """A process whose standard output and error go after what is in NAME.out and NAME.err, if no other ones are given."""
         with open(f"{self.folder}/{name}.out", "ab") as out, open(f"{self.folder}/{name}.err", "ab") as err:
             child = subprocess.Popen(words, stdin=stdin, **{"stdout": out, "stderr": err, **more})
         self.all.append(child)
