@@ -13,10 +13,13 @@ use Rattle.farm_page.specs.declared.view.FunctionView.{FunctionView}
 use Rattle.farm_page.specs.declared.view.HostView.{HostView}
 use Rattle.text_pieces.specs.Lines.{ended}
 
+-- a line that tells something of a metric
+abbrev pub told : List ℕ → Metric → List ℕ → List ℕ
+told lead m words = ended (lead ++ name m ++ codes " " ++ words)
+
 -- what a metric means, and its type
 abbrev pub head : Metric → List ℕ
-head m =
-    ended (codes "# HELP " ++ name m ++ codes " " ++ help m) ++ ended (codes "# TYPE " ++ name m ++ codes " " ++ kind_name (kind m))
+head m = told (codes "# HELP ") m (help m) ++ told (codes "# TYPE ") m (kind_name (kind m))
 
 abbrev pub sample : Metric → ℕ → List ℕ
 sample m value = ended (name m ++ codes " " ++ decimal value)

@@ -34,19 +34,23 @@ const OF_FUNCTION: [Metric; 8] = [
 /// The metrics of a host.
 const OF_HOST: [Metric; 3] = [Metric::HostReached, Metric::HostAlive, Metric::HostWorkers];
 
+/// Adds a line that tells something of a metric.
+fn put_told(out: &mut Vec<u8>, lead: &str, metric: Metric, words: &str) -> Result<(), AllocError>
+    ensures { OnOk result (out.new.items ≡ out.old.items ++ spec.told lead.now metric words.now) }
+{
+    put_text(out, lead)?;
+    put_text(out, metric.name())?;
+    put_text(out, " ")?;
+    put_text(out, words)?;
+    put_text(out, "\n")
+}
+
 /// Adds what a metric means, and its type.
 fn put_head(out: &mut Vec<u8>, metric: Metric) -> Result<(), AllocError>
     ensures { OnOk result (out.new.items ≡ out.old.items ++ spec.head metric) }
 {
-    put_text(out, "# HELP ")?;
-    put_text(out, metric.name())?;
-    put_text(out, " ")?;
-    put_text(out, metric.help())?;
-    put_text(out, "\n# TYPE ")?;
-    put_text(out, metric.name())?;
-    put_text(out, " ")?;
-    put_text(out, metric.kind().name())?;
-    put_text(out, "\n")
+    put_told(out, "# HELP ", metric, metric.help())?;
+    put_told(out, "# TYPE ", metric, metric.kind().name())
 }
 
 /// A sample of one function, host or cause.
