@@ -13,8 +13,14 @@ lost_words lost = flat_map (λ worker. codes " " ++ string_bytes worker) lost
 abbrev pub lost_text : Evidence → List ℕ
 lost_text evidence = ended (codes "lost" ++ lost_words evidence.lost.items)
 
+abbrev pub attempt_text : Evidence → List ℕ
+attempt_text evidence = ended (codes "attempt " ++ decimal evidence.attempt) ++ lost_text evidence
+
+-- a text after the line that says what it is
+abbrev pub part : List ℕ → List ℕ → List ℕ
+part title text = ended title ++ text
+
 -- the number of the attempt, and what belongs to it: the lost workers, the status text and the report
 abbrev pub evidence_text : Evidence → List ℕ
 evidence_text evidence =
-    ended (codes "attempt " ++ decimal evidence.attempt) ++ lost_text evidence ++ ended (codes "status") ++ evidence.status.items
-    ++ ended (codes "report") ++ evidence.report.items
+    attempt_text evidence ++ part (codes "status") evidence.status.items ++ part (codes "report") evidence.report.items

@@ -4,7 +4,7 @@ ghost use Rattle.std.specs.Prelude.{◌≡◌, ◌++◌, IfOk, OnOk};
 ghost use Rattle.farm_page.specs.Evidence as spec;
 
 use crate::view::Evidence;
-use crate::writing::{put_number, put_text};
+use crate::writing::{put_bytes, put_number, put_text};
 use std::alloc::{AllocError, Global};
 
 /// Adds the workers that were not alive, each after a space.
@@ -36,6 +36,25 @@ pub fn lost_text(alloc: Global, evidence: &Evidence) -> Result<Vec<u8>, AllocErr
     Ok(out)
 }
 
+/// Adds the number of the attempt, and the workers that were not alive, in a line each.
+fn put_attempt(out: &mut Vec<u8>, evidence: &Evidence) -> Result<(), AllocError>
+    ensures { OnOk result (out.new.items ≡ out.old.items ++ spec.attempt_text evidence.now) }
+{
+    put_text(out, "attempt ")?;
+    put_number(out, u64::from(evidence.attempt))?;
+    put_text(out, "\n")?;
+    put_lost_line(out, evidence)
+}
+
+/// Adds a text after the line that says what it is.
+fn put_part(out: &mut Vec<u8>, title: &str, text: &[u8]) -> Result<(), AllocError>
+    ensures { OnOk result (out.new.items ≡ out.old.items ++ spec.part title.now text.now) }
+{
+    put_text(out, title)?;
+    put_text(out, "\n")?;
+    put_bytes(out, text)
+}
+
 /// All that a plan can be checked with, beside the settings, in one text. The only error is out of memory.
 ///
 /// ```text
@@ -50,13 +69,8 @@ pub fn evidence_text(alloc: Global, evidence: &Evidence) -> Result<Vec<u8>, Allo
     ensures { IfOk result (λ text. text.items ≡ spec.evidence_text evidence.now) }
 {
     let mut out = Vec::new(alloc);
-    put_text(&mut out, "attempt ")?;
-    put_number(&mut out, u64::from(evidence.attempt))?;
-    put_text(&mut out, "\n")?;
-    put_lost_line(&mut out, evidence)?;
-    put_text(&mut out, "status\n")?;
-    out.extend_from_slice(&evidence.status)?;
-    put_text(&mut out, "report\n")?;
-    out.extend_from_slice(&evidence.report)?;
+    put_attempt(&mut out, evidence)?;
+    put_part(&mut out, "status", &evidence.status)?;
+    put_part(&mut out, "report", &evidence.report)?;
     Ok(out)
 }

@@ -1,0 +1,15 @@
+use Rattle.std.proofs.Common.{List, [], ℕ, ◌++◌}
+use Rattle.std.specs.Prelude.{codes}
+use Rattle.farm_page.specs.Evidence.{attempt_text, part}
+use Rattle.farm_page.proofs.Walks.{after_known}
+use Rattle.farm_page.proofs.evidence.evidence_text.Goals as goal
+
+pub returns : goal.returns
+returns c =
+    let evidence = c.args.evidence.now in
+    let attempt : List ℕ = attempt_text evidence in
+    let status : List ℕ = part (codes "status") evidence.status.items in
+    let one = after_known c.new-out.result.items c.put_attempt.new.out.items [] attempt c.new-out.ensures.items c.in_ok-put_attempt.ensures in
+    let two = after_known c.put_attempt.new.out.items c.put_part.new.out.items attempt status one (rw c.deref.ensures.value at c.in_ok-put_part.ensures) in
+    after_known c.put_part.new.out.items c.put_part-2.new.out.items (attempt ++ status) (part (codes "report") evidence.report.items) two
+    (rw c.deref-2.ensures.value at c.in_ok-put_part-2.ensures)
