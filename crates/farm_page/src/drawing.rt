@@ -37,16 +37,22 @@ fn down(backlog: u64, top: u64) -> u64
     1_000u64.saturating_sub(u64::try_from(part).unwrap_or(1_000))
 }
 
+/// Adds a corner of the line.
+fn put_corner(out: &mut Markup, corner: Point) -> Result<(), AllocError> {
+    out.put_number(corner.at)?;
+    out.put_tags(",")?;
+    out.put_number(corner.down)?;
+    out.put_tags(" ")
+}
+
 /// Adds a step of the line: from the place of a backlog to the next.
 fn put_step(out: &mut Markup, point: Point) -> Result<(), AllocError> {
-    out.put_number(point.at)?;
-    out.put_tags(",")?;
-    out.put_number(point.down)?;
-    out.put_tags(" ")?;
-    out.put_number(point.at.saturating_add(1))?;
-    out.put_tags(",")?;
-    out.put_number(point.down)?;
-    out.put_tags(" ")
+    let next = Point {
+        at: point.at.saturating_add(1),
+        down: point.down,
+    };
+    put_corner(out, point)?;
+    put_corner(out, next)
 }
 
 /// Adds the ground of an attempt without a backlog.
@@ -119,25 +125,37 @@ fn put_now(out: &mut Markup, backlogs: &Backlogs) -> Result<(), AllocError> {
     }
 }
 
+/// Adds the scale: the backlog of now, and the greatest.
+fn put_scale(out: &mut Markup, backlogs: &Backlogs, top: u64) -> Result<(), AllocError> {
+    out.put_tags("<figcaption><span><b>Backlog</b> now ")?;
+    put_now(out, backlogs)?;
+    out.put_tags("</span><span>at most ")?;
+    out.put_number(top)?;
+    out.put_tags("</span></figcaption>")
+}
+
+/// Adds the ground of the lines, which says in words what they show.
+fn put_ground(out: &mut Markup, backlogs: &Backlogs, top: u64) -> Result<(), AllocError> {
+    out.put_tags(
+        "<svg class=\"chart\" viewBox=\"0 0 600 1000\" preserveAspectRatio=\"none\" role=\"img\" \
+        aria-label=\"Backlog of the last 600 attempts, now ",
+    )?;
+    put_now(out, backlogs)?;
+    out.put_tags(", at most ")?;
+    out.put_number(top)?;
+    out.put_tags(
+        "\"><path class=\"axis\" vector-effect=\"non-scaling-stroke\" d=\"M0,40H600M0,1000H600\"/>",
+    )
+}
+
 /// The drawing of the last backlogs, with its scale. The only error is out of memory.
 pub fn drawing(alloc: Global, backlogs: &Backlogs) -> Result<Markup, AllocError> {
     let top = top_of(backlogs);
     let lines = curve(alloc, backlogs, top)?;
     let mut out = Markup::new(alloc);
-    out.put_tags("<section><figure><figcaption><span><b>Backlog</b> now ")?;
-    put_now(&mut out, backlogs)?;
-    out.put_tags("</span><span>at most ")?;
-    out.put_number(top)?;
-    out.put_tags(
-        "</span></figcaption><svg class=\"chart\" viewBox=\"0 0 600 1000\" preserveAspectRatio=\"none\" role=\"img\"",
-    )?;
-    out.put_tags(" aria-label=\"Backlog of the last 600 attempts, now ")?;
-    put_now(&mut out, backlogs)?;
-    out.put_tags(", at most ")?;
-    out.put_number(top)?;
-    out.put_tags(
-        "\"><path class=\"axis\" vector-effect=\"non-scaling-stroke\" d=\"M0,40H600M0,1000H600\"/>",
-    )?;
+    out.put_tags("<section><figure>")?;
+    put_scale(&mut out, backlogs, top)?;
+    put_ground(&mut out, backlogs, top)?;
     out.put(&lines)?;
     out.put_tags(
         "</svg></figure><div class=\"ends\"><span>600 attempts ago</span><span>now</span></div></section>\n",
