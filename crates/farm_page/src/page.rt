@@ -60,17 +60,27 @@ fn put_body(out: &mut Markup, condition: Condition) -> Result<(), AllocError> {
     }
 }
 
+/// Adds the title.
+fn put_title(out: &mut Markup, title: &str) -> Result<(), AllocError> {
+    out.put_tags("<title>")?;
+    out.put_text(title.as_bytes())?;
+    out.put_tags(" - poolman</title><link rel=\"icon\" href=\"data:,\">")
+}
+
+/// Adds the job server.
+fn put_server(out: &mut Markup, server: &str) -> Result<(), AllocError> {
+    out.put_tags("<header><p>poolman at job server ")?;
+    out.put_text(server.as_bytes())?;
+    out.put_tags("</p>\n")
+}
+
 /// What is between the opening and the sentence. The only error is out of memory.
 fn head(alloc: Global, view: &FarmView, title: &str) -> Result<Markup, AllocError> {
     let mut out = Markup::new(alloc);
-    out.put_tags("<title>")?;
-    out.put_text(title.as_bytes())?;
-    out.put_tags(" - poolman</title><link rel=\"icon\" href=\"data:,\">")?;
+    put_title(&mut out, title)?;
     put_style(&mut out)?;
     put_body(&mut out, condition_of(view))?;
-    out.put_tags("<header><p>poolman at job server ")?;
-    out.put_text(view.server.as_bytes())?;
-    out.put_tags("</p>\n")?;
+    put_server(&mut out, view.server.as_str())?;
     Ok(out)
 }
 
@@ -115,6 +125,24 @@ const FOOT: &str =
 and <b>poolman check</b>.</p><nav><a href=\"/report\">report</a><a href=\"/status.txt\">status text</a>\
 <a href=\"/lost\">lost workers</a><a href=\"/metrics\">metrics</a><a href=\"/health\">health</a></nav></footer>\n</body></html>\n";
 
+/// The tables of a page. The only error is out of memory.
+fn tables(alloc: Global, view: &FarmView) -> Result<Markup, AllocError>
+    ensures busy { IfOk result (λ part. Holds part (function_rows Share.Busy view.now.workers.all view.now.functions.items)) }
+    ensures quiet { IfOk result (λ part. Holds part (function_rows Share.Quiet view.now.workers.all view.now.functions.items)) }
+    ensures hosts { IfOk result (λ part. Holds part (host_rows view.now.hosts.items)) }
+    ensures ends { IfOk result (λ part. Holds part (end_rows view.now.ends.items)) }
+    ensures failures { IfOk result (λ part. Holds part (failures_part view.now.failures)) }
+{
+    let mut out = functions_section(alloc, view)?;
+    let hosts = hosts_section(alloc, view)?;
+    let ends = ends_section(alloc, view)?;
+    let failures = failures_section(alloc, view)?;
+    out.put(&hosts)?;
+    out.put(&ends)?;
+    out.put(&failures)?;
+    Ok(out)
+}
+
 /// What a page shows, after its opening. The only error is out of memory.
 fn rest_of(alloc: Global, view: &FarmView, refresh: Refresh) -> Result<Markup, AllocError>
     ensures sentence { IfOk result (λ rest. Holds rest (headline (sentence view.now))) }
@@ -129,17 +157,11 @@ fn rest_of(alloc: Global, view: &FarmView, refresh: Refresh) -> Result<Markup, A
     let headline = headline(alloc, words.as_str())?;
     let state = state(alloc, view, refresh)?;
     let drawing = drawing(alloc, &view.backlogs)?;
-    let functions = functions_section(alloc, view)?;
-    let hosts = hosts_section(alloc, view)?;
-    let ends = ends_section(alloc, view)?;
-    let failures = failures_section(alloc, view)?;
+    let tables = tables(alloc, view)?;
     out.put(&headline)?;
     out.put(&state)?;
     out.put(&drawing)?;
-    out.put(&functions)?;
-    out.put(&hosts)?;
-    out.put(&ends)?;
-    out.put(&failures)?;
+    out.put(&tables)?;
     out.put_tags(FOOT)?;
     Ok(out)
 }

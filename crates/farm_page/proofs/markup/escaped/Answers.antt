@@ -5,6 +5,9 @@ use Rattle.farm_page.specs.Markup.{entities}
 use Rattle.farm_page.proofs.Marks.{all_written, entities-page_text, opens_nothing-page_text}
 use Rattle.farm_page.proofs.markup.escaped.Goals as goal
 
+pub returns-clause-text : goal.returns-clause-text
+returns-clause-text c = all_written c.loop-byte.words.items c.args.text.now c.loop-byte.byte-index c.loop-byte.invariant c.loop-byte-test.false
+
 pub returns-clause-opens_nothing : goal.returns-clause-opens_nothing
 returns-clause-opens_nothing c =
     let P : List ℕ → Type 0 = λ t. list_all opens_nothing t ≡ true in
