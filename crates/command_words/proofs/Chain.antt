@@ -1,7 +1,7 @@
 -- A command of several arguments, added one by one.
 use Rattle.std.proofs.Common.{◌≡◌, ◌<◌, Result, Ok, Err, slice_index, codes, inl, inr, ℕ, zero, suc, List, [], ◌∷◌, map, false, refl, ap, sym, ◌∙◌, arith}
 use Rattle.std.specs.List.{All}
-use Rattle.std.specs.Prelude.{IfOk}
+use Rattle.std.specs.Prelude.{IfOk, IsOkAnd}
 use Rattle.std.specs.Str.{bytes_eq}
 use Rattle.std.proofs.lemmas.Bool.{false≢true}
 use Rattle.std.proofs.lemmas.List.Elements.{All-from_recursion}
@@ -159,8 +159,16 @@ pub app_with_subcommand : (old sub new : Command) → AddsSubcommand old sub new
     → {app below : App} → app_of old ≡ app → app_of sub ≡ below → app_of new ≡ with_subcommand app below.top
 app_with_subcommand old sub new adds local whole part = rw (← whole, ← part) (adds.shape local)
 
-pub app_if_subcommand : {E : Type 0} (old sub : Command) (result : Result Command E) → IfOk result (AddsSubcommand old sub)
-    → (out-Command sub).has_globals ≡ false → {app below : App} → app_of old ≡ app → app_of sub ≡ below
+-- the same of one that could be made
+pub app_added : {E : Type 0} (old new : Command) (made : Result Command E) → IsOkAnd made (λ c. AddsSubcommand old c new)
+    → IfOk made (λ c. (out-Command c).has_globals ≡ false) → {app : App} → app_of old ≡ app
+    → (below : App) → IfOk made (λ c. app_of c ≡ below) → app_of new ≡ with_subcommand app below.top
+app_added old new (Ok sub) adds local whole below part = app_with_subcommand old sub new adds local whole part
+app_added old new (Err e) adds local whole below part = absurd adds
+
+pub app_if_added : {E : Type 0} (old : Command) (made result : Result Command E)
+    → IfOk result (λ new. IsOkAnd made (λ c. AddsSubcommand old c new)) → IfOk made (λ c. (out-Command c).has_globals ≡ false)
+    → {app : App} → app_of old ≡ app → (below : App) → IfOk made (λ c. app_of c ≡ below)
     → IfOk result (λ new. app_of new ≡ with_subcommand app below.top)
-app_if_subcommand old sub (Ok new) adds local whole part = app_with_subcommand old sub new adds local whole part
-app_if_subcommand old sub (Err e) adds local whole part = tt
+app_if_added old made (Ok new) adds local whole below part = app_added old new made adds local whole below part
+app_if_added old made (Err e) adds local whole below part = tt

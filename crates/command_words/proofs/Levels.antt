@@ -1,5 +1,5 @@
 -- The level of a command about sizes, and what is wrong with its words.
-use Rattle.std.proofs.Common.{◌≡◌, ℕ, List, [], ◌∷◌, Option, Some, None, refl, inl, inr}
+use Rattle.std.proofs.Common.{◌≡◌, ℕ, List, [], Option, Some, None, refl, inl, inr}
 use Rattle.clap.specs.Simple.{App, matches_of}
 use Rattle.clap.specs.Walk.{Text, first_of}
 use Rattle.clap.specs.Words.{HasKind, fault_of, kind_of}

@@ -14,7 +14,7 @@ use Rattle.clap.proofs.CallerLemmas.{required_in_chain}
 use Rattle.command_words.specs.Required.{Requires, RequiresNumber}
 use Rattle.command_words.specs.Words.{number}
 use Rattle.command_words.proofs.Chain.{Differ, all_fit, both_fit, in_turn, one_distinct, one_fits, one_in_turn, three_distinct, three_in_turn, two_distinct}
-use Rattle.command_words.proofs.Chain.{four_distinct, four_fit, four_in_turn}
+use Rattle.command_words.proofs.Chain.{four_fit, four_in_turn}
 use Rattle.command_words.proofs.Number.{second_reads}
 
 -- a command without operands

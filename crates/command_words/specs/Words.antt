@@ -226,13 +226,22 @@ command_in words = option_and_then (λ name. command_named name (drop 1 words)) 
 abbrev pub bare_app : App
 bare_app = on_top (λ top. record top { subcommand_required = true; has_version = true }) (new_app (codes "poolman"))
 
+-- a program with the commands about plans, about sizes, that try settings, and about a pool that runs
+abbrev pub with_plans : App → App
+with_plans app = with_subcommand (with_subcommand app plan_app.top) check_app.top
+
+abbrev pub with_sizes : App → App
+with_sizes app = with_subcommand (with_subcommand app size_app.top) check_size_app.top
+
+abbrev pub with_trials : App → App
+with_trials app = with_subcommand (with_subcommand app replay_app.top) settings_app.top
+
+abbrev pub with_runs : App → App
+with_runs app = with_subcommand (with_subcommand (with_subcommand app run_app.top) serve_app.top) drain_app.top
+
 -- the command line that wants one of nine commands, each with its operands, by which words that name none are answered
 abbrev pub overview_app : App
-overview_app =
-    with_subcommand (with_subcommand (with_subcommand (with_subcommand (with_subcommand (with_subcommand (with_subcommand (with_subcommand
-    (with_subcommand bare_app
-    plan_app.top) check_app.top) size_app.top) check_size_app.top) replay_app.top) settings_app.top) run_app.top) serve_app.top)
-    drain_app.top
+overview_app = with_runs (with_trials (with_sizes (with_plans bare_app)))
 
 -- what is wrong with words that name no command: the kinds of `clap`'s first fault, and else that a command is missing
 abbrev pub overview_faults : List Text → Kinds

@@ -1,8 +1,8 @@
 //! The command line of each command, as a command of `clap` of its own.
 
-ghost use Rattle.std.specs.Prelude.{◌≡◌, ◌<◌, ◌≤◌, IfOk, IsSomeAnd, Some, [], false, is_some, length, map, option_map, true};
+ghost use Rattle.std.specs.Prelude.{◌≡◌, ◌<◌, ◌≤◌, IfOk, IsOkAnd, IsSomeAnd, Some, [], false, is_some, length, map, option_map, true};
 ghost use Rattle.std.specs.Int.NonZero.{non_zero_u32_get};
-ghost use Rattle.clap.specs.Built.{FitsChain, TakesValue};
+ghost use Rattle.clap.specs.Built.{AddsSubcommand, FitsChain, TakesValue};
 ghost use Rattle.clap.specs.Words.{FailsBy, HasKind, IsPlainArg, app_of, args_of, fault_of, found_of, groups_of, kind_of, rows_of};
 ghost use Rattle.clap.specs.Words.{rule_of};
 ghost use Rattle.clap.specs.Matches.{first_value};
@@ -517,20 +517,57 @@ fn bare_program<'a>(alloc: Global) -> Command<'a>
         .subcommand_required(true)
 }
 
+/// Adds a command, if it could be made. The only error is out of memory.
+fn add<'a>(
+    program: Command<'a>,
+    command: Result<Command<'a>, AllocError>,
+) -> Result<Command<'a>, AllocError>
+    ensures { IfOk result (λ p. IsOkAnd command.entry (λ c. AddsSubcommand program.entry c p)) }
+{
+    program.subcommand(command?)
+}
+
+/// Adds the commands about plans.
+fn add_plans<'a>(alloc: Global, program: Command<'a>) -> Result<Command<'a>, AllocError>
+    ensures app { IfOk result (λ p. app_of p ≡ spec.with_plans (app_of program.entry)) }
+{
+    let planning = add(program, plan(alloc))?;
+    add(planning, check(alloc))
+}
+
+/// Adds the commands about sizes.
+fn add_sizes<'a>(alloc: Global, program: Command<'a>) -> Result<Command<'a>, AllocError>
+    ensures app { IfOk result (λ p. app_of p ≡ spec.with_sizes (app_of program.entry)) }
+{
+    let sizing = add(program, size(alloc))?;
+    add(sizing, check_size(alloc))
+}
+
+/// Adds the commands that try settings.
+fn add_trials<'a>(alloc: Global, program: Command<'a>) -> Result<Command<'a>, AllocError>
+    ensures app { IfOk result (λ p. app_of p ≡ spec.with_trials (app_of program.entry)) }
+{
+    let replaying = add(program, replay(alloc))?;
+    add(replaying, show_settings(alloc))
+}
+
+/// Adds the commands about a pool that runs.
+fn add_runs<'a>(alloc: Global, program: Command<'a>) -> Result<Command<'a>, AllocError>
+    ensures app { IfOk result (λ p. app_of p ≡ spec.with_runs (app_of program.entry)) }
+{
+    let running = add(program, run(alloc))?;
+    let serving = add(running, serve(alloc))?;
+    add(serving, drain(alloc))
+}
+
 /// The command line of words that name no command.
 fn program<'a>(alloc: Global) -> Result<Command<'a>, AllocError>
     ensures app { IfOk result (λ p. app_of p ≡ spec.overview_app) }
 {
-    bare_program(alloc)
-        .subcommand(plan(alloc)?)?
-        .subcommand(check(alloc)?)?
-        .subcommand(size(alloc)?)?
-        .subcommand(check_size(alloc)?)?
-        .subcommand(replay(alloc)?)?
-        .subcommand(show_settings(alloc)?)?
-        .subcommand(run(alloc)?)?
-        .subcommand(serve(alloc)?)?
-        .subcommand(drain(alloc)?)
+    let planning = add_plans(alloc, bare_program(alloc))?;
+    let sizing = add_sizes(alloc, planning)?;
+    let trying = add_trials(alloc, sizing)?;
+    add_runs(alloc, trying)
 }
 
 /// What to print if the words name no command: the help that they ask for, or what is wrong.

@@ -1,6 +1,9 @@
-use Rattle.std.proofs.Common.{refl}
+use Rattle.std.proofs.Common.{◌≡◌, refl}
+use Rattle.std.proofs.lemmas.Result.{IfOk-weaker}
+use Rattle.clap.specs.Built.{AddsArg}
+use Rattle.clap.specs.Simple.{app_of}
 use Rattle.command_words.specs.Words as spec
-use Rattle.command_words.proofs.Chain.{differ}
+use Rattle.command_words.proofs.Chain.{app_of_three, differ}
 use Rattle.command_words.proofs.Required.{first_of_three, second_of_three}
 use Rattle.command_words.proofs.operands.check.Goals as goal
 
@@ -29,3 +32,10 @@ returns-clause-status c =
     (differ s.result l.result spec.settings spec.lost s.ensures.id l.ensures.id refl refl)
     (differ t.result l.result spec.status spec.lost t.ensures.id l.ensures.id refl refl)
     c.arg-3.result c.arg-3.ensures t.ensures.value t.ensures.id
+
+pub returns-clause-app : goal.returns-clause-app
+returns-clause-app c =
+    IfOk-weaker c.arg-3.result (AddsArg c.in_ok-arg-2.field-0 c.lost.result) (λ cmd. app_of cmd ≡ spec.check_app)
+    (λ cmd added. app_of_three c.command.result c.in_ok-arg.field-0 c.in_ok-arg-2.field-0 cmd c.settings.result c.status.result c.lost.result
+    c.in_ok-arg.ensures c.in_ok-arg-2.ensures added c.settings.ensures.fits c.status.ensures.fits c.lost.ensures.fits
+    c.command.ensures.app c.settings.ensures.rule c.status.ensures.rule c.lost.ensures.rule) c.arg-3.ensures

@@ -1,7 +1,10 @@
-use Rattle.std.proofs.Common.{[], ◌∷◌, refl}
+use Rattle.std.proofs.Common.{◌≡◌, [], ◌∷◌, refl}
+use Rattle.std.proofs.lemmas.Result.{IfOk-weaker}
+use Rattle.clap.specs.Built.{AddsArg}
+use Rattle.clap.specs.Simple.{app_of}
 use Rattle.clap.specs.Built.{HasDistinctIds}
 use Rattle.command_words.specs.Words as spec
-use Rattle.command_words.proofs.Chain.{differ, four_distinct}
+use Rattle.command_words.proofs.Chain.{app_of_four, differ, four_distinct}
 use Rattle.command_words.proofs.Required.{first_of_four, second_of_four, third_of_four}
 use Rattle.command_words.proofs.operands.check_size.Goals as goal
 
@@ -64,3 +67,10 @@ returns-clause-backlog c =
     c.in_ok-arg.field-0 c.in_ok-arg-2.field-0 c.in_ok-arg-3.field-0 s.result t.result b.result l.result
     c.in_ok-arg.ensures c.in_ok-arg-2.ensures c.in_ok-arg-3.ensures s.ensures.fits t.ensures.fits b.ensures.fits l.ensures.fits distinct
     spec.backlog c.arg-4.result c.arg-4.ensures b.ensures.value b.ensures.id
+
+pub returns-clause-app : goal.returns-clause-app
+returns-clause-app c =
+    IfOk-weaker c.arg-4.result (AddsArg c.in_ok-arg-3.field-0 c.lost.result) (λ cmd. app_of cmd ≡ spec.check_size_app)
+    (λ cmd added. app_of_four c.command.result c.in_ok-arg.field-0 c.in_ok-arg-2.field-0 c.in_ok-arg-3.field-0 cmd c.settings.result c.status.result c.backlog.result c.lost.result
+    c.in_ok-arg.ensures c.in_ok-arg-2.ensures c.in_ok-arg-3.ensures added c.settings.ensures.fits c.status.ensures.fits c.backlog.ensures.fits c.lost.ensures.fits
+    c.command.ensures.app c.settings.ensures.rule c.status.ensures.rule c.backlog.ensures.rule c.lost.ensures.rule) c.arg-4.ensures

@@ -1,6 +1,9 @@
-use Rattle.std.proofs.Common.{refl}
+use Rattle.std.proofs.Common.{◌≡◌, refl}
+use Rattle.std.proofs.lemmas.Result.{IfOk-weaker}
+use Rattle.clap.specs.Built.{AddsArg}
+use Rattle.clap.specs.Simple.{app_of}
 use Rattle.command_words.specs.Words as spec
-use Rattle.command_words.proofs.Chain.{differ}
+use Rattle.command_words.proofs.Chain.{app_of_three, differ}
 use Rattle.command_words.proofs.Required.{first_of_three, second_of_three}
 use Rattle.command_words.proofs.operands.serve.Goals as goal
 
@@ -29,3 +32,10 @@ returns-clause-services c =
     (differ s.result u.result spec.settings spec.until_input s.ensures.id u.ensures.id refl refl)
     (differ v.result u.result spec.services spec.until_input v.ensures.id u.ensures.id refl refl)
     c.arg-3.result c.arg-3.ensures v.ensures.value v.ensures.id
+
+pub returns-clause-app : goal.returns-clause-app
+returns-clause-app c =
+    IfOk-weaker c.arg-3.result (AddsArg c.in_ok-arg-2.field-0 c.until_input.result) (λ cmd. app_of cmd ≡ spec.serve_app)
+    (λ cmd added. app_of_three c.command.result c.in_ok-arg.field-0 c.in_ok-arg-2.field-0 cmd c.settings.result c.services.result c.until_input.result
+    c.in_ok-arg.ensures c.in_ok-arg-2.ensures added c.settings.ensures.fits c.services.ensures.fits c.until_input.ensures.fits
+    c.command.ensures.app c.settings.ensures.rule c.services.ensures.rule c.until_input.ensures.rule) c.arg-3.ensures

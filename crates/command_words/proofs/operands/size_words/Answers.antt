@@ -1,4 +1,4 @@
-use Rattle.std.proofs.Common.{◌≡◌, [], Option, Some, None, map, option_map, refl, ap, sym, subst, ◌∙◌, true}
+use Rattle.std.proofs.Common.{◌≡◌, [], Some, map, option_map, refl, ap, sym, subst, ◌∙◌, true}
 use Rattle.std.specs.Int.NonZero.{non_zero_u32_get}
 use Rattle.std.proofs.lemmas.Result.{err_from_is_err_and}
 use Rattle.clap.specs.Simple.{HasMatchesOf, matches_of}
@@ -39,3 +39,33 @@ returns-clause-kinds g c =
     let free = subst (λ a. is_simple_and_free a ≡ true → fault_of a words ≡ []) c.in_ok-command.ensures.app c.in_ok-matches.ensures.kinds refl in
     level_wrong spec.size_app words c.in_ok-no_level-in-None.field-0 free (level ∙ ap (option_map (option_map non_zero_u32_get)) c.in-None.is)
     c.in_ok-no_level-in-None.ensures
+
+pub text_of-settings-requires : goal.text_of-settings-requires
+text_of-settings-requires g c = c.in_ok-command.ensures.settings c.in_ok-matches.matches c.in_ok-matches.ensures.parsed
+
+pub text_of-backlog-requires : goal.text_of-backlog-requires
+text_of-backlog-requires g c = c.in_ok-command.ensures.backlog c.in_ok-matches.matches c.in_ok-matches.ensures.parsed
+
+pub returns-in-Some-clause-settings : goal.returns-in-Some-clause-settings
+returns-in-Some-clause-settings g c =
+    let words = map g.W.AsStr.text c.args.words.now in
+    let has = subst (λ a. HasMatchesOf a words c.in_ok-matches.matches) c.in_ok-command.ensures.app c.in_ok-matches.ensures.matches in
+    let rows = has refl in
+    ap (first_of spec.settings) (sym rows.0) ∙ c.text_of-settings.ensures
+
+pub returns-in-Some-clause-lost : goal.returns-in-Some-clause-lost
+returns-in-Some-clause-lost g c =
+    let words = map g.W.AsStr.text c.args.words.now in
+    let has = subst (λ a. HasMatchesOf a words c.in_ok-matches.matches) c.in_ok-command.ensures.app c.in_ok-matches.ensures.matches in
+    let rows = has refl in
+    c.in_ok-lost.ensures ∙ ap spec.lost_in rows.0
+
+pub returns-in-Some-clause-level : goal.returns-in-Some-clause-level
+returns-in-Some-clause-level g c =
+    let words = map g.W.AsStr.text c.args.words.now in
+    let has = subst (λ a. HasMatchesOf a words c.in_ok-matches.matches) c.in_ok-command.ensures.app c.in_ok-matches.ensures.matches in
+    let rows = has refl in
+    let word : first_of spec.backlog (matches_of spec.size_app words) ≡ Some c.text_of-backlog.result.now =
+    ap (first_of spec.backlog) (sym rows.0) ∙ c.text_of-backlog.ensures in
+    let level = level_told spec.size_app words c.text_of-backlog.result.now word ∙ sym c.level_of.ensures in
+    level ∙ ap (option_map (option_map non_zero_u32_get)) c.in-Some.is
