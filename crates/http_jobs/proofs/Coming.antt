@@ -28,7 +28,7 @@ use Rattle.http1.specs.declared.client.Client.{Client}
 use Rattle.http1.specs.Framing.{has_no_body, response_framing}
 use Rattle.http1.specs.declared.framing.FramingError.{FramingError}
 use Rattle.http1.specs.Body.{Body, body_of, ReadsBody}
-use Rattle.http1.specs.Decoder.{Completes, with_prefix, decoder_for, Runs, Starves, AwaitsTrailers}
+use Rattle.http1.specs.Decoder.{Completes, with_front, decoder_for, Runs, Starves, AwaitsTrailers}
 use Rattle.http1.specs.Message.{known_of, Response, ReadsResponseMessage, AcceptsResponse}
 use Rattle.http1.specs.Conn.{awaits_head, ReadsPiece, is_connect, is_until_close, keeps_alive}
 use Rattle.http1.specs.Client.{is_interim, is_expected, TakesHead, ReadsFirst, ReadsHead, ReadsAt, after_head, reading_body, at_eof, RefusesAt, RefusesFirst, HasNoHead, cut_short, closed_client, after_piece, is_written, IsIdle}
@@ -65,7 +65,7 @@ more_at (Reads.Body d) limits read c left status body piece h = record {
   ends = h.ends;
   keeps = h.keeps;
   completes = λ more later rest few comes.
-      subst (λ x. Answers limits x (record { head = h.head; body = with_prefix body later }) rest) (sym (append_assoc read piece more))
+      subst (λ x. Answers limits x (record { head = h.head; body = with_front body later }) rest) (sym (append_assoc read piece more))
       (h.completes (piece ++ more) later rest few (subst (λ x. Completes d x later rest) (append_assoc left piece more) comes));
   only = λ more m rest a.
       let o = h.only (piece ++ more) m rest (subst (λ x. Answers limits x m rest) (append_assoc read piece more) a) in
@@ -246,14 +246,14 @@ final_at Reads.Head limits read input old new spans len head status body room se
         interims = h.interims;
         after = input ++ more;
         before = h.before more;
-        reads = subst (λ (b : List ℕ). ReadsOne limits (input ++ more) (record { head = t.head; body = with_prefix b later }) rest) (sym h.bare)
+        reads = subst (λ (b : List ℕ). ReadsOne limits (input ++ more) (record { head = t.head; body = with_front b later }) rest) (sym h.bare)
             (with_body limits read input old new spans len head t h.asked more later rest (body_from_completes limits t.framing _ later rest comes), (few, trailers));
         final = high_enough old (status_code t.head) h.asked.plain t.expected final;
       };
       only = λ more m rest a.
           let a2 = h.only more m rest a in
           let body_is = takes limits read input old new spans len head t h.asked final more m rest a2.interims a2.after a2.before a2.reads in
-          (m.body, ap (λ (b : List ℕ). with_prefix b m.body) (sym h.bare), completes_from_body limits t.framing _ m.body rest body_is);
+          (m.body, ap (λ (b : List ℕ). with_front b m.body) (sym h.bare), completes_from_body limits t.framing _ m.body rest body_is);
     } in
     subst (λ x. PartwayAt x limits read new (drop len input) (Some head.code) body) (sym starts) inside
 final_at (Reads.Body d) limits read input old new spans len head status body room served found h = absurd found.1
@@ -309,11 +309,11 @@ data_at (Reads.Body d) limits read input old new spans len s status body found h
       keeps = λ kept. h.keeps (sym (ap (λ (c : Client). c.keep_alive) moved) ∙ kept);
       completes = λ more later rest few comes.
           subst (λ (b : List ℕ). Answers limits (read ++ more) (record { head = h.head; body = record later { bytes = b } }) rest) (sym (append_assoc body piece later.bytes))
-          (h.completes more (with_prefix piece later) rest few (goes.back more later rest (subst (λ n. Completes next (drop n input ++ more) later rest) found.1.2 comes)));
+          (h.completes more (with_front piece later) rest few (goes.back more later rest (subst (λ n. Completes next (drop n input ++ more) later rest) found.1.2 comes)));
       only = λ more m rest a.
           let o = h.only more m rest a in
           let f = goes.forth more o.0 rest o.2 in
-          (f.0, o.1 ∙ ap (with_prefix body) f.1 ∙ ap (λ (b : List ℕ). record (f.0) { bytes = b }) (sym (append_assoc body piece f.0.bytes)), subst (λ n. Completes next (drop n input ++ more) f.0 rest) (sym found.1.2) f.2);
+          (f.0, o.1 ∙ ap (with_front body) f.1 ∙ ap (λ (b : List ℕ). record (f.0) { bytes = b }) (sym (append_assoc body piece f.0.bytes)), subst (λ n. Completes next (drop n input ++ more) f.0 rest) (sym found.1.2) f.2);
     } in
     subst (λ x. PartwayAt x limits read new (drop len input) status (body ++ piece)) (sym same) inside
 data_at Reads.Done limits read input old new spans len s status body found h = absurd h
@@ -340,7 +340,7 @@ wants_at (Reads.Body d) limits read input old new spans len status body is found
       only = λ more m rest a.
           let o = h.only more m rest a in
           let f = goes.forth more o.0 rest o.2 in
-          (f.0, o.1 ∙ ap (with_prefix body) f.1, f.2);
+          (f.0, o.1 ∙ ap (with_front body) f.1, f.2);
     } in
     subst (λ x. PartwayAt x limits read new (drop len input) status body) (sym same) inside
 wants_at Reads.Done limits read input old new spans len status body is found h = absurd h
@@ -408,13 +408,13 @@ nothing_whole limits read input old new spans p status body is found h =
 -- the body, and so the response, ends
 ends_with : (limits : Limits) (read : List ℕ) (d : Decoder) (c now : Client) (left : List ℕ) (status : Option ℕ) (body : List ℕ) (h : InBody limits read d c left status body) (later : Body) (rest : List ℕ) (unbounded : Bool) → later.bytes ≡ [] → length later.trailers ≤ most_fields → Completes d (left ++ []) later rest → is_unbounded d ≡ unbounded → (unbounded ≡ false → IsIdle now → c.keep_alive ≡ true) → IsWhole limits read now rest status body unbounded
 ends_with limits read d c now left status body h later rest unbounded none few comes bound kept = record {
-  response = record { head = h.head; body = with_prefix body later };
+  response = record { head = h.head; body = with_front body later };
   is = h.is;
   served = h.served;
   ends = sym h.ends ∙ bound;
   keeps = λ sized idle. h.keeps (kept sized idle);
   bytes = ap (λ (b : List ℕ). body ++ b) none ∙ append-nil body;
-  answers = subst (λ x. Answers limits x (record { head = h.head; body = with_prefix body later }) rest) (append-nil read) (h.completes [] later rest few comes);
+  answers = subst (λ x. Answers limits x (record { head = h.head; body = with_front body later }) rest) (append-nil read) (h.completes [] later rest few comes);
 }
 
 -- a client that is idle after a response has kept the connection

@@ -10,7 +10,7 @@ use Rattle.http1.specs.declared.client.Client.{Client}
 use Rattle.http1.specs.declared.framing.MethodKind.TheVariants.{Other}
 use Rattle.http1.specs.Message.{Response}
 use Rattle.http1.specs.Body.{Body}
-use Rattle.http1.specs.Decoder.{Completes, with_prefix}
+use Rattle.http1.specs.Decoder.{Completes, with_front}
 use Rattle.http1.specs.Conn.{awaits_head}
 use Rattle.http1.specs.Client.{IsIdle}
 use Rattle.http_jobs.specs.declared.reader.ResponseReader.{ResponseReader}
@@ -58,9 +58,9 @@ pub record InBody
   pub ends : is_unbounded d ≡ ends_with_connection head
   pub keeps : c.keep_alive ≡ true → IsTrue (keeps_connection head)
   pub completes : (more : List ℕ) (later : Body) (rest : List ℕ) → length later.trailers ≤ most_fields
-      → Completes d (left ++ more) later rest → Answers limits (read ++ more) (record { head = head; body = with_prefix body later }) rest
+      → Completes d (left ++ more) later rest → Answers limits (read ++ more) (record { head = head; body = with_front body later }) rest
   pub only : (more : List ℕ) (m : Response) (rest : List ℕ) → Answers limits (read ++ more) m rest
-      → (later : Body) × (m.body ≡ with_prefix body later) × Completes d (left ++ more) later rest
+      → (later : Body) × (m.body ≡ with_front body later) × Completes d (left ++ more) later rest
 
 abbrev pub PartwayAt : Reading → Limits → List ℕ → Client → List ℕ → Option ℕ → List ℕ → Type 0
 PartwayAt Reads.Head limits read c left status body = AwaitsHead limits read c left status body
