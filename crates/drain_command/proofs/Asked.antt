@@ -55,7 +55,7 @@ module _ (before after : Link) (seen : Seen) (deadline : Option ℕ) (fresh : Is
   carried = record { fresh = fresh; out = part; back = back }
 
   unanswered_by : (e : NotDone) → TakesWhatCame (Err e) (Err (fault.Page page.Unanswered)) → Explains deadline seen before after e → IsUnanswered after
-  unanswered_by (Not why.Unreachable) t h = absurd h
+  unanswered_by (Not (why.Unreachable reason)) t h = absurd h
   unanswered_by (Not why.Write) t h = (before, count, deadline, seen, carried, inl (why.Write, h))
   unanswered_by (Not why.Read) t h = (before, count, deadline, seen, carried, inl (why.Read, h))
   unanswered_by (Not why.Ended) t h = (before, count, deadline, seen, carried, inl (why.Ended, h))
@@ -68,7 +68,7 @@ module _ (before after : Link) (seen : Seen) (deadline : Option ℕ) (fresh : Is
   by_error : (e : NotDone) (came : Came) → TakesWhatCame (Err e) came → Explains deadline seen before after e → ComesTo after came
   by_error (Not (why.Status status)) came t h = subst (ComesTo after) (sym t) (before, count, seen.read, carried, inr h)
   by_error NoMemory came t h = subst (ComesTo after) (sym t) tt
-  by_error (Not why.Unreachable) came t h = absurd h
+  by_error (Not (why.Unreachable reason)) came t h = absurd h
   by_error (Not why.Write) came t h = subst (ComesTo after) (sym t) (unanswered_by (Not why.Write) refl h)
   by_error (Not why.Read) came t h = subst (ComesTo after) (sym t) (unanswered_by (Not why.Read) refl h)
   by_error (Not why.Ended) came t h = subst (ComesTo after) (sym t) (unanswered_by (Not why.Ended) refl h)

@@ -114,7 +114,7 @@ fn ask_once<L: Source + Sink + Drop, D: Dial<L>, C: Clock>(
     ensures { (calls : List DialCall) × (D.calls dial.new ≡ then_called (D.calls dial.old) calls)
         × MatchResult result (λ totals. spec.IsToldIn calls totals.items) (spec.IsNotToldIn calls) }
 {
-    let Some(mut link) = dial.dial(None) else {
+    let Ok(mut link) = dial.dial(None) else {
         return Err(Fault::Page(PageError::Unreached));
     };
     let came = ask_over(alloc, &mut link, clock);

@@ -1,5 +1,5 @@
 -- The text of a request.
-use Rattle.std.proofs.Common.{◌≡◌, ℕ, min, Bool, true, false, not, cond, ltb, eqb, ◌&&◌, ◌||◌, List, [], ◌∷◌, ◌++◌, length, codes, Option, Some, None, Result, Ok, Err, sym, refl, ap, ◌∙◌, subst, subst₂, append_assoc, count_by, string_bytes}
+use Rattle.std.proofs.Common.{◌≡◌, ℕ, min, Bool, true, false, not, cond, ltb, eqb, ◌&&◌, ◌||◌, List, [], ◌∷◌, ◌++◌, codes, Option, Some, None, Result, Ok, Err, sym, refl, ap, ◌∙◌, subst, subst₂, count_by, string_bytes}
 use Rattle.std.specs.Prelude.{IsOk, MatchOption}
 use Rattle.http1.specs.declared.encode.Frame.{Frame}
 use Rattle.std.specs.List.{list_any}

@@ -94,7 +94,7 @@ in_time_after deadline times more (Err e) before after = tt
 -- ---- why it was not done
 
 pub step_fails : (limits : Limits) (deadline : Option ℕ) (seen : Seen) (old new : Input) (e : NotDone) → StepFails limits seen.read e → NotReceived limits deadline seen old new e
-step_fails limits deadline seen old new (Not why.Unreachable) h = absurd h
+step_fails limits deadline seen old new (Not (why.Unreachable reason)) h = absurd h
 step_fails limits deadline seen old new (Not why.Write) h = absurd h
 step_fails limits deadline seen old new (Not why.Read) h = absurd h
 step_fails limits deadline seen old new (Not why.Ended) h = absurd h
@@ -105,7 +105,7 @@ step_fails limits deadline seen old new (Not why.Endless) h = absurd h
 step_fails limits deadline seen old new Memory h = tt
 
 pub fill_fails : (limits : Limits) (deadline : Option ℕ) (seen : Seen) (first old new : Input) (e : NotDone) → old.failures ≡ first.failures → FillFails limits seen.read old new e → NotReceived limits deadline seen first new e
-fill_fails limits deadline seen first old new (Not why.Unreachable) same h = absurd h
+fill_fails limits deadline seen first old new (Not (why.Unreachable reason)) same h = absurd h
 fill_fails limits deadline seen first old new (Not why.Write) same h = absurd h
 fill_fails limits deadline seen first old new (Not why.Read) same h = h ∙ ap (λ (n : ℕ). n + 1) same
 fill_fails limits deadline seen first old new (Not why.Ended) same h = h
@@ -121,7 +121,7 @@ late_after deadline times more before h = (times ++ h.0, h.1, ap (λ x. times ++
 -- times that were shown before the write that was not made
 pub not_sent_after : (deadline : Option ℕ) (times more : List (Option ℕ)) (old mid new : Output) (r : Result (Unit {0}) NotDone) → InTime deadline times → mid.failures ≡ old.failures → IfErr r (NotSent deadline more mid new) → IfErr r (NotSent deadline (times ++ more) old new)
 not_sent_after deadline times more old mid new (Ok x) before same h = tt
-not_sent_after deadline times more old mid new (Err (Not why.Unreachable)) before same h = absurd h
+not_sent_after deadline times more old mid new (Err (Not (why.Unreachable reason))) before same h = absurd h
 not_sent_after deadline times more old mid new (Err (Not why.Write)) before same h = h ∙ ap (λ (n : ℕ). n + 1) same
 not_sent_after deadline times more old mid new (Err (Not why.Read)) before same h = absurd h
 not_sent_after deadline times more old mid new (Err (Not why.Ended)) before same h = absurd h
@@ -132,7 +132,7 @@ not_sent_after deadline times more old mid new (Err (Not why.Endless)) before sa
 not_sent_after deadline times more old mid new (Err Memory) before same h = absurd h
 
 pub not_received : (deadline : Option ℕ) (times : List (Option ℕ)) (seen : Seen) (old mid new : Link) (e : NotDone) → InTime deadline times → mid.input ≡ old.input → NotReceived head_limits deadline seen mid.input new.input e → Explains deadline (before_it times seen) old new e
-not_received deadline times seen old mid new (Not why.Unreachable) before same h = absurd h
+not_received deadline times seen old mid new (Not (why.Unreachable reason)) before same h = absurd h
 not_received deadline times seen old mid new (Not why.Write) before same h = absurd h
 not_received deadline times seen old mid new (Not why.Read) before same h = h ∙ ap (λ (i : Input). i.failures + 1) same
 not_received deadline times seen old mid new (Not why.Ended) before same h = h
@@ -143,7 +143,7 @@ not_received deadline times seen old mid new (Not why.Endless) before same h = h
 not_received deadline times seen old mid new Memory before same h = tt
 
 pub not_sent : (deadline : Option ℕ) (times : List (Option ℕ)) (old new : Link) (e : NotDone) → NotSent deadline times old.output new.output e → Explains deadline (only_times times) old new e
-not_sent deadline times old new (Not why.Unreachable) h = absurd h
+not_sent deadline times old new (Not (why.Unreachable reason)) h = absurd h
 not_sent deadline times old new (Not why.Write) h = h
 not_sent deadline times old new (Not why.Read) h = absurd h
 not_sent deadline times old new (Not why.Ended) h = absurd h

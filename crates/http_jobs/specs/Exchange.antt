@@ -52,7 +52,7 @@ IsDone limits max read done = IsAnswered limits max read (told_of done.outcome) 
 
 -- why an exchange was not done, by what was seen and by what the link shows of its sides before and after
 abbrev pub Explains : Option ℕ → Seen → Link → Link → NotDone → Type 0
-Explains deadline seen old new (Not why.Unreachable) = ⊥
+Explains deadline seen old new (Not (why.Unreachable reason)) = ⊥
 Explains deadline seen old new (Not why.Write) = new.output.failures ≡ old.output.failures + 1
 Explains deadline seen old new (Not why.Read) = new.input.failures ≡ old.input.failures + 1
 Explains deadline seen old new (Not why.Ended) = (new.input.has_ended ≡ true) × HoldsNoAnswer head_limits seen.read

@@ -22,7 +22,7 @@ HasStatus limits read status =
 
 -- why no response was read, by what was seen and by the source before and after
 abbrev pub NotReceived : Limits → Option ℕ → Seen → Input → Input → NotDone → Type 0
-NotReceived limits deadline seen old new (Not why.Unreachable) = ⊥
+NotReceived limits deadline seen old new (Not (why.Unreachable reason)) = ⊥
 NotReceived limits deadline seen old new (Not why.Write) = ⊥
 NotReceived limits deadline seen old new (Not why.Read) = new.failures ≡ old.failures + 1
 NotReceived limits deadline seen old new (Not why.Ended) = (new.has_ended ≡ true) × HoldsNoAnswer limits seen.read

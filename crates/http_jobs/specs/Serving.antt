@@ -1,9 +1,10 @@
 -- The jobs of a service, and the connections over which they are done.
 use Rattle.std.specs.Prelude.{◌≡◌, ◌≢◌, ℕ, ◌+◌, ◌-◌, ◌^◌, ◌⊎◌, min, Bool, true, false, List, [], ◌∷◌, ◌++◌, take, Option, Some, None}
-use Rattle.std.specs.Prelude.{option_map, IsTrue}
+use Rattle.std.specs.Prelude.{option_map, IsTrue, Result, Ok, Err}
 use Rattle.std.specs.Option.{option_and_then}
 use Rattle.gear_packets.specs.Response.{AssignedJob}
 use Rattle.byte_io.specs.Sides.{Input, Output, and_then}
+use Rattle.devices.specs.declared.dial_error.DialError.{DialError}
 use Rattle.job_runner.specs.Run.{Link, seen_link}
 use Rattle.job_runner.specs.Told.{Told}
 use Rattle.http_jobs.specs.declared.service.Service.{Service}
@@ -20,20 +21,24 @@ use Rattle.http_jobs.specs.Exchange.{IsAnswered, Explains}
 
 -- ---- connections
 
--- One call: a dial that failed, a dial that opened a connection, or word that a connection was closed, with what it showed of its two
--- sides then.
+-- One call: a dial that failed, and why, a dial that opened a connection, or word that a connection was closed, with what it showed of its
+-- two sides then.
 pub data DialCall : Type 0 where
-  failed : DialCall
+  failed : DialError → DialCall
   opened : DialCall
   closed : Link → DialCall
+
+-- the only call was a dial that failed
+abbrev pub IsVain : List DialCall → Type 0
+IsVain calls = (why : DialError) × (calls ≡ failed why ∷ [])
 
 -- the calls so far, if they are shown, and these more
 abbrev pub then_called : Option (List DialCall) → List DialCall → Option (List DialCall)
 then_called before more = option_map (λ calls. calls ++ more) before
 
-abbrev pub dialled : {A : Type 0} → Option A → DialCall
-dialled None = failed
-dialled (Some link) = opened
+abbrev pub dialled : {A : Type 0} → Result A DialError → DialCall
+dialled (Err why) = failed why
+dialled (Ok link) = opened
 
 -- the list is empty, if it is known
 abbrev pub IsNothing : {A : Type 0} → Option (List A) → Type 0
@@ -72,13 +77,13 @@ visible input output quiet kept calls shown = record {
   shown = shown;
 }
 
--- A connection was kept, and nothing was done. Or one was dialled for: a new one is kept, or none.
-abbrev pub IsOpened : Visible → Visible → Bool → Type 0
-IsOpened old new true =
+-- A connection was kept, and nothing was done. Or one was dialled for: a new one is kept, or none, for the reason of that dial.
+abbrev pub IsOpened : Visible → Visible → Result (Unit {0}) DialError → Type 0
+IsOpened old new (Ok _) =
     ((new ≡ old) × (old.kept ≢ None)) ⊎ ((link : Link) × IsNew link × (old.kept ≡ None) × (new.kept ≡ Some link)
     × (new.calls ≡ then_called old.calls (opened ∷ [])) × (new.shown ≡ old.shown))
-IsOpened old new false =
-    (old.kept ≡ None) × (new.kept ≡ None) × (new.calls ≡ then_called old.calls (failed ∷ [])) × (new.shown ≡ old.shown)
+IsOpened old new (Err why) =
+    (old.kept ≡ None) × (new.kept ≡ None) × (new.calls ≡ then_called old.calls (failed why ∷ [])) × (new.shown ≡ old.shown)
 
 -- closing the kept connection, if there is one
 abbrev pub closings : Option Link → List DialCall
@@ -146,8 +151,8 @@ pub record Failed (s : Service) (timeout : ℕ) (old new : Visible) (j : Assigne
 
 -- why a job was not done
 abbrev pub NotServed : Service → ℕ → Visible → Visible → AssignedJob → NotDone → Type 0
-NotServed s timeout old new j (Not why.Unreachable) =
-    (new.kept ≡ None) × (new.calls ≡ then_called old.calls (closings old.kept ++ failed ∷ []))
+NotServed s timeout old new j (Not (why.Unreachable reason)) =
+    (new.kept ≡ None) × (new.calls ≡ then_called old.calls (closings old.kept ++ failed reason ∷ []))
 NotServed s timeout old new j other = Failed s timeout old new j other
 
 -- ---- the jobs of a session

@@ -1,5 +1,6 @@
 //! Why a job was not done.
 
+use devices::DialError;
 use http1::ReadError;
 use std::alloc::AllocError;
 use thiserror::Error;
@@ -7,9 +8,9 @@ use thiserror::Error;
 /// Why a job was not served: nothing came back that answers it.
 #[derive(Clone, Copy, Debug, PartialEq, Eq, Error)]
 pub enum Unserved {
-    /// No connection could be opened.
-    #[error("no connection could be opened")]
-    Unreachable,
+    /// No connection was opened, for this reason.
+    #[error("no connection was opened: {why}", why = dial_words(*.0))]
+    Unreachable(DialError),
     /// A write failed. A prefix of the request went out.
     #[error("a write failed")]
     Write,
@@ -67,6 +68,30 @@ impl From<NotDone> for job_runner::NotDone {
             NotDone::Unserved(_) => job_runner::NotDone::Unserved,
             NotDone::Memory => job_runner::NotDone::Memory,
         }
+    }
+}
+
+/// Why no connection to a service was opened, in words.
+pub fn dial_words(why: DialError) -> &'static str {
+    match why {
+        DialError::BadName | DialError::NoAddress => "the service's name was not found",
+        DialError::Refused => "the service refused it",
+        DialError::NoAnswer => "the service did not answer",
+        DialError::TooManyFiles => "too many files are open",
+        DialError::Memory => "out of memory",
+        DialError::Failed => "it failed",
+    }
+}
+
+impl From<DialError> for NotDone {
+    ghost use Rattle.std.specs.Prelude.{◌≡◌};
+    ghost use Rattle.http_jobs.specs.declared.fault.NotDone.TheVariants.{Unserved};
+    ghost use Rattle.http_jobs.specs.declared.fault.Unserved.TheVariants.{Unreachable};
+
+    ghost from_gives = { λ why e. e ≡ Unserved (Unreachable why) };
+
+    fn from(why: DialError) -> NotDone {
+        NotDone::Unserved(Unserved::Unreachable(why))
     }
 }
 

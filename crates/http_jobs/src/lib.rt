@@ -17,8 +17,9 @@ mod values;
 
 pub use answers::{Answer, Bounds, Received, ask};
 pub use clock::Clock;
+pub use devices::DialError;
 pub use exchanging::{Done, exchange};
-pub use fault::{NotDone, Unserved};
+pub use fault::{NotDone, Unserved, dial_words};
 pub use posts::Post;
 pub use service::{Service, ServiceError};
 pub use service_jobs::{Dial, Look, ServiceJobs};

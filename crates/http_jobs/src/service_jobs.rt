@@ -11,10 +11,11 @@ ghost use Rattle.http_jobs.specs.Clock.{shown_then};
 
 use crate::clock::Clock;
 use crate::exchanging::exchange;
-use crate::fault::{NotDone, Unserved};
+use crate::fault::NotDone;
 use crate::request::has_no_path;
 use crate::service::Service;
 use byte_io::{Device, Sink, Source};
+use devices::DialError;
 use gear_packets::Assignment;
 use job_runner::{Jobs, Outcome};
 use std::alloc::Global;
@@ -44,10 +45,10 @@ pub trait Dial<L: Source + Sink> {
     /// The calls so far, the first one first, or None.
     ghost calls: { Self → Option (List DialCall) };
 
-    /// A new connection, or none if the service cannot be reached by the deadline, in milliseconds of the clock.
-    fn dial(&mut self, deadline: Option<u64>) -> Option<L>
+    /// A new connection. The error says why none was opened by the deadline, in milliseconds of the clock.
+    fn dial(&mut self, deadline: Option<u64>) -> Result<L, DialError>
         ensures calls { Self.calls self.new ≡ then_called (Self.calls self.old) (dialled result ∷ []) }
-        ensures fresh { IfSome result (λ link. IsNew (seen_link L.input L.output link)) };
+        ensures fresh { IfOk result (λ link. IsNew (seen_link L.input L.output link)) };
 
     /// A connection was closed. This is what it was then.
     fn hung_up(&mut self, link: Snapshot<L>)
@@ -95,18 +96,18 @@ impl<L: Source + Sink + Look + Drop, D: Dial<L>, C: Clock> ServiceJobs<L, D, C> 
         self.timeout_ms = timeout_ms;
     }
 
-    /// Opens a connection, if none is kept. Whether one is kept then.
-    pub fn open(&mut self) -> bool
+    /// Opens a connection, if none is kept. The error says why none could be opened.
+    pub fn open(&mut self) -> Result<(), DialError>
         ensures opens { IsOpened (visible L.input L.output L.quiet self.old.kept (D.calls self.old.dial) (C.shown self.old.clock))
             (visible L.input L.output L.quiet self.new.kept (D.calls self.new.dial) (C.shown self.new.clock)) result }
         ensures service { self.new.service ≡ self.old.service }
         ensures timeout { self.new.timeout_ms ≡ self.old.timeout_ms }
     {
         if self.kept.is_some() {
-            return true;
+            return Ok(());
         }
-        self.kept = self.dial.dial(None);
-        self.kept.is_some()
+        self.kept = Some(self.dial.dial(None)?);
+        Ok(())
     }
 
     /// Closes a connection.
@@ -141,8 +142,8 @@ impl<L: Source + Sink + Look + Drop, D: Dial<L>, C: Clock> ServiceJobs<L, D, C> 
         None
     }
 
-    /// The kept connection, or a new one.
-    fn connect(&mut self, deadline: Option<u64>) -> Result<L, NotDone>
+    /// The kept connection, or a new one. The error says why none was opened.
+    fn connect(&mut self, deadline: Option<u64>) -> Result<L, DialError>
         ensures kept { self.new.kept ≡ None }
         ensures sound { IfOk result (λ link. (L.input link).failures + (L.output link).failures ≡ 0) }
         ensures clock { self.new.clock ≡ self.old.clock }
@@ -151,16 +152,13 @@ impl<L: Source + Sink + Look + Drop, D: Dial<L>, C: Clock> ServiceJobs<L, D, C> 
         ensures opens { IfOk result (λ link. (calls : List DialCall) × (D.calls self.new.dial ≡ then_called (D.calls self.old.dial) calls)
             × Opens (visible L.input L.output L.quiet self.old.kept (D.calls self.old.dial) (C.shown self.old.clock)) calls
             (seen_link L.input L.output link)) }
-        ensures fails { IfErr result (λ e. (e ≡ NotDone.Unserved Unserved.Unreachable) × (D.calls self.new.dial
-            ≡ then_called (D.calls self.old.dial) (closings (option_map (seen_link L.input L.output) self.old.kept) ++ failed ∷ []))) }
+        ensures fails { IfErr result (λ why. D.calls self.new.dial
+            ≡ then_called (D.calls self.old.dial) (closings (option_map (seen_link L.input L.output) self.old.kept) ++ failed why ∷ [])) }
     {
         if let Some(link) = self.reuse() {
             return Ok(link);
         }
-        match self.dial.dial(deadline) {
-            Some(link) => Ok(link),
-            None => Err(NotDone::Unserved(Unserved::Unreachable)),
-        }
+        self.dial.dial(deadline)
     }
 
     /// Keeps a connection after its job, or closes it.

@@ -1,13 +1,16 @@
 //! Services over TCP, and the system's clock.
-ghost use Rattle.std.specs.Prelude.{◌≡◌};
+ghost use Rattle.std.specs.Prelude.{◌≡◌, IfOk};
+ghost use Rattle.job_runner.specs.Run.{seen_link};
+ghost use Rattle.http_jobs.specs.Serving.{IsNew};
 
 use crate::clock::Clock;
 use crate::service_jobs::{Dial, Look};
-use devices::TcpLink;
-use std::net::{Net, TcpStream, ToSocketAddrs};
+use byte_io::Device;
+use devices::{DialError, TcpLink};
+use std::net::{Net, TcpStream, ToSocketAddrs, UdpSocket};
 use std::snapshot::Snapshot;
-use std::time;
 use std::time::Duration;
+use std::{io, time};
 
 /// The system's monotonic clock.
 #[derive(Clone, Copy, Drop)]
@@ -83,24 +86,57 @@ impl<R: Net<Stream = TcpStream> + time::Clock> TcpDial<R> {
             _ => Some(Duration::from_millis(self.times.connect_ms as u64)),
         }
     }
+
+    /// Why the host's name was not found. Where no more files may be open the resolver says no more than that it found nothing, so this
+    /// looks whether a socket can be opened at all.
+    fn why_not_found(&self, error: &io::Error) -> DialError {
+        let why = DialError::of_lookup(error);
+        if why != DialError::NoAddress {
+            return why;
+        }
+        match UdpSocket::bind(&self.rt, "127.0.0.1:0") {
+            Ok(_) => why,
+            Err(error) => match DialError::of_connect(&error) {
+                DialError::TooManyFiles => DialError::TooManyFiles,
+                _ => why,
+            },
+        }
+    }
+
+    /// A connection over a stream that was just opened.
+    fn link_over(&self, stream: TcpStream) -> Result<TcpLink, DialError>
+        ensures { IfOk result (λ link. IsNew (seen_link ⟦<TcpLink as Device>⟧.input ⟦<TcpLink as Device>⟧.output link)) }
+    {
+        match TcpLink::new(stream, self.times.read_ms) {
+            Ok(link) => Ok(link),
+            Err(error) => Err(DialError::of_connect(&error)),
+        }
+    }
 }
 
-/// Each address of the host is tried in turn.
+/// Each address of the host is tried in turn, and the error says why the last one was not reached.
 impl<R: Net<Stream = TcpStream> + time::Clock> Dial<TcpLink> for TcpDial<R> {
     ghost use Rattle.std.specs.Prelude.{◌≡◌, None};
 
     ghost calls = { λ _. None };
 
-    fn dial(&mut self, deadline: Option<u64>) -> Option<TcpLink> {
-        let addresses = self.host.as_str().to_socket_addrs(&self.rt).ok()?;
+    fn dial(&mut self, deadline: Option<u64>) -> Result<TcpLink, DialError> {
+        let addresses = match self.host.as_str().to_socket_addrs(&self.rt) {
+            Ok(addresses) => addresses,
+            Err(error) => return Err(self.why_not_found(&error)),
+        };
         let end = self.end_of_dial(deadline);
+        let mut why = DialError::NoAddress;
         for address in addresses {
-            let left = self.time_left(end)?;
-            if let Ok(stream) = TcpStream::connect_timeout(&self.rt, &address, left) {
-                return TcpLink::new(stream, self.times.read_ms).ok();
+            let Some(left) = self.time_left(end) else {
+                return Err(DialError::NoAnswer);
+            };
+            match TcpStream::connect_timeout(&self.rt, &address, left) {
+                Ok(stream) => return self.link_over(stream),
+                Err(error) => why = DialError::of_connect(&error),
             }
         }
-        None
+        Err(why)
     }
 
     fn hung_up(&mut self, _link: Snapshot<TcpLink>)

@@ -1,2 +1,3 @@
 pub mod Farm
+pub mod Hosts
 pub mod Serving

@@ -4,9 +4,10 @@ use crate::farm::Farm;
 use crate::host::FarmHost;
 use crate::hosts::{HostNews, Hosts};
 use crate::job_lines::{failure_of, line_of};
+use devices::DialError;
 use farm_notes::{JobEnd, Tally};
 use gear_packets::Assignment;
-use http_jobs::{ServiceJobs, Unserved};
+use http_jobs::{ServiceJobs, Unserved, dial_words};
 use job_runner::{End, Jobs, NotDone, Outcome};
 use plan_model::{MachineId, SlotId};
 use pool_supervisor::JobSource;
@@ -66,11 +67,14 @@ impl<'e, H: FarmHost> JobSource for FarmSource<'e, H> {
         let service = farm.service_of(self.alloc, worker)?;
         let dials = self.host.dials(host, farm.call_times());
         let mut jobs = ServiceJobs::new(service, dials, self.host.times(), 0);
-        let is_open = jobs.open();
-        if let Some(news) = self.hosts.was_dialled(self.host, machine, is_open) {
+        let opened = jobs.open();
+        if let Some(news) = self.hosts.was_dialled(self.host, machine, opened) {
             self.host.tell(news_line(self.alloc, farm, machine, news));
         }
-        if !is_open {
+        if let Err(why) = opened {
+            let worker = WorkerName { slot, generation };
+            self.host
+                .tell(no_connection_line(self.alloc, farm, worker, why));
             return None;
         }
         Some(FarmJobs {
@@ -115,8 +119,8 @@ fn news_of<R: Wait>(
         Ok(Some(_)) => hosts.was_asked(rt, machine, true),
         // No service was asked.
         Ok(None) => None,
-        Err(http_jobs::NotDone::Unserved(Unserved::Unreachable)) => {
-            hosts.was_dialled(rt, machine, false)
+        Err(http_jobs::NotDone::Unserved(Unserved::Unreachable(why))) => {
+            hosts.was_dialled(rt, machine, Err(*why))
         }
         Err(http_jobs::NotDone::Unserved(_)) => hosts.was_asked(rt, machine, false),
         Err(http_jobs::NotDone::Memory) => None,
@@ -150,6 +154,18 @@ fn news_line(
             format!(in alloc; "unreached {name} {why}")
         }
     }
+}
+
+/// The line of a worker that ends since no connection to its service was opened. The only error is out of memory.
+fn no_connection_line(
+    alloc: Global,
+    farm: &Farm,
+    worker: WorkerName,
+    why: DialError,
+) -> Result<String, AllocError> {
+    let name = farm.name_of(alloc, worker)?;
+    let why = dial_words(why);
+    format!(in alloc; "noconnection {name} ({why})")
 }
 
 /// The line of what is new of a machine's host, if anything is.

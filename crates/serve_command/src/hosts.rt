@@ -1,5 +1,9 @@
 //! Which hosts of a farm are reached, and when one that is not is tried again.
 
+ghost use Rattle.std.specs.Prelude.{◌≡◌, Some};
+ghost use Rattle.serve_command.specs.Hosts as spec;
+
+use devices::DialError;
 use plan_model::MachineId;
 use std::alloc::{AllocError, Global};
 use std::sync::{Mutex, Wait};
@@ -47,9 +51,18 @@ enum HostState {
     Away { why: Reason, wait: u64, due: u64 },
 }
 
+/// Whether a dial that failed so says nothing of the host: this process or machine lacked what a dial needs.
+fn is_own(why: DialError) -> bool
+    ensures { result ≡ spec.is_own why }
+{
+    matches!(why, DialError::TooManyFiles | DialError::Memory)
+}
+
 impl HostState {
     /// Left alone from this attempt on, if it is not already.
-    fn away(self, why: Reason, attempt: u64) -> HostState {
+    fn away(self, why: Reason, attempt: u64) -> HostState
+        ensures { spec.reason_of result ≡ Some why }
+    {
         match self {
             HostState::Present(_) => HostState::Away {
                 why,
@@ -60,10 +73,22 @@ impl HostState {
         }
     }
 
-    /// After a connection was opened, or could not be.
-    fn after_dial(self, is_open: bool, attempt: u64) -> HostState {
+    /// After a connection was opened, or could not be. If that was for want of files or memory here, the host is as before.
+    fn after_dial(self, dialled: Result<(), DialError>, attempt: u64) -> HostState
+        ensures marks { spec.reason_of result ≡ spec.after_dial (spec.reason_of self) dialled }
+    {
+        match dialled {
+            Ok(()) => self.after_opening(),
+            Err(why) if is_own(why) => self,
+            Err(_) => self.away(Reason::Unreachable, attempt),
+        }
+    }
+
+    /// After a connection was opened.
+    fn after_opening(self) -> HostState
+        ensures { spec.reason_of result ≡ spec.after_opening (spec.reason_of self) }
+    {
         match self {
-            state if !is_open => state.away(Reason::Unreachable, attempt),
             HostState::Away {
                 why: Reason::Unreachable,
                 ..
@@ -113,7 +138,9 @@ impl HostState {
     }
 
     /// Why it is left alone, if it is.
-    fn reason(self) -> Option<Reason> {
+    fn reason(self) -> Option<Reason>
+        ensures { result ≡ spec.reason_of self }
+    {
         match self {
             HostState::Present(_) => None,
             HostState::Away { why, .. } => Some(why),
@@ -216,18 +243,19 @@ impl Hosts {
         }
     }
 
-    /// A connection was opened to the host of this machine, or could not be. What is new of the host.
+    /// A connection was opened to the host of this machine, or could not be. What is new of the host: nothing if there were no files or
+    /// no memory for it here.
     pub fn was_dialled<R: Wait>(
         &self,
         rt: &R,
         machine: MachineId,
-        is_open: bool,
+        dialled: Result<(), DialError>,
     ) -> Option<HostNews> {
         let mut held = self.table.lock(rt);
         let attempt = held.attempt;
         let host = held.hosts.get_mut(machine.number() as usize)?;
         let before = host.state;
-        host.state = before.after_dial(is_open, attempt);
+        host.state = before.after_dial(dialled, attempt);
         host.state.news_since(before)
     }
 

@@ -12,6 +12,6 @@ returns g c =
     let after = seen_link input output c.of-left.result.value in
     let same : c.of-left.result.value ≡ c.ask_over-came.new.link = c.of-left.ensures in (
       only after,
-      c.hung_up.ensures.calls ∙ ap (λ (o : Calls). then_called o (closed after ∷ [])) c.in-Some.ensures.calls ∙ called_twice (g.D.Dial.calls c.args.dial.now) (opened ∷ []) (closed after ∷ []),
+      c.hung_up.ensures.calls ∙ ap (λ (o : Calls). then_called o (closed after ∷ [])) c.in-Ok.ensures.calls ∙ called_twice (g.D.Dial.calls c.args.dial.now) (opened ∷ []) (closed after ∷ []),
       once after c.ask_over-came.result (subst (λ l. ComesOver input output l c.ask_over-came.result) (sym same) c.ask_over-came.ensures),
     )

@@ -1,4 +1,4 @@
-use Rattle.std.proofs.Common.{◌≡◌, ◌∙◌, ℕ, ◌<◌, ◌^◌, List, [], ◌∷◌, ◌++◌, length, ap, subst, refl, sym, None, arith, append_assoc}
+use Rattle.std.proofs.Common.{◌≡◌, ◌∙◌, ℕ, ◌<◌, ◌^◌, List, [], ◌∷◌, ◌++◌, ap, subst, sym, None, arith, append_assoc}
 use Rattle.http1.specs.Head.{pairs, request_text}
 use Rattle.http1.specs.declared.client.Client.{Client}
 use Rattle.http1.specs.Client.{new_client, request_refusal, planned_request, writing, with_writing, after_request, after_end}

@@ -1,10 +1,13 @@
-use Rattle.std.proofs.Common.{◌∙◌, List, [], ◌∷◌, ◌++◌, ap, inr}
-use Rattle.http_jobs.specs.Serving.{DialCall, opened, then_called}
-use Rattle.http_jobs.proofs.Uses.{Calls, called_twice}
+use Rattle.job_runner.specs.Run.{seen_link}
+use Rattle.http_jobs.specs.Serving.{visible}
+use Rattle.http_jobs.proofs.Uses.{opens_new}
 use Rattle.http_jobs.proofs.service_jobs.ServiceJobs.connect.Goals as goal
 
-pub returns-in-Some-dial-clause-opens : goal.returns-in-Some-dial-clause-opens
-returns-in-Some-dial-clause-opens g c =
+pub returns-clause-opens : goal.returns-clause-opens
+returns-clause-opens g c =
     let none = c.in_default.ensures.reuses in
-    let one : List DialCall = opened ∷ [] in
-    (none.0 ++ one, c.in-Some-dial.ensures.calls ∙ ap (λ (o : Calls). then_called o one) none.1 ∙ called_twice (g.D.Dial.calls c.args.self.now.dial) none.0 one, inr (c.in-Some-dial.ensures.fresh, ap (λ (x : List DialCall). x ++ one) none.2))
+    let old = c.args.self.now in
+    let input = g.L.Device.input in
+    let output = g.L.Device.output in
+    opens_new (seen_link input output) (visible input output g.L.Look.quiet old.kept (g.D.Dial.calls old.dial) (g.C.Clock.shown old.clock)) none.0 _ _ c.dial.result
+    none.1 none.2 c.dial.ensures.calls c.dial.ensures.fresh

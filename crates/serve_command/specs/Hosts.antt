@@ -1,0 +1,30 @@
+-- When a host is left alone.
+use Rattle.std.specs.Prelude.{Bool, true, false, if◌then◌else◌, Option, Some, None, Result, Ok, Err}
+use Rattle.devices.specs.declared.dial_error.DialError.{DialError}
+use Rattle.devices.specs.declared.dial_error.DialError.TheVariants.{TooManyFiles, Memory}
+use Rattle.serve_command.specs.declared.hosts.HostState.{HostState}
+use Rattle.serve_command.specs.declared.hosts.HostState.TheVariants as state
+use Rattle.serve_command.specs.declared.hosts.Reason.{Reason}
+use Rattle.serve_command.specs.declared.hosts.Reason.TheVariants.{Unreachable}
+
+-- The dial failed for what this process or machine lacked, and says nothing of the host.
+abbrev pub is_own : DialError → Bool
+is_own TooManyFiles = true
+is_own Memory = true
+is_own other = false
+
+-- why a host is left alone, if it is
+abbrev pub reason_of : HostState → Option Reason
+reason_of (state.Present unserved) = None
+reason_of (state.Away why wait due) = Some why
+
+-- the same once a connection was opened
+abbrev pub after_opening : Option Reason → Option Reason
+after_opening (Some Unreachable) = None
+after_opening before = before
+
+-- The same after a dial, by what it was before. A dial that failed marks the host, if it did not fail for what was lacked here. One that
+-- succeeded frees a host that was left alone since it was not reached, and no other.
+abbrev pub after_dial : Option Reason → Result (Unit {0}) DialError → Option Reason
+after_dial before (Err why) = if is_own why then before else Some Unreachable
+after_dial before (Ok _) = after_opening before
