@@ -1,11 +1,10 @@
 -- A whole exchange: one request, and one response.
-use Rattle.std.specs.Prelude.{◌≡◌, ℕ, ◌+◌, ◌-◌, ◌^◌, ◌≤◌, ◌⊎◌, List, [], length, Option, Bool, true, false, IsTrue}
+use Rattle.std.specs.Prelude.{◌≡◌, ℕ, ◌+◌, ◌-◌, ◌^◌, ◌≤◌, ◌⊎◌, List, [], length, Option, Some, Bool, true, false, IsTrue}
 use Rattle.httparse.specs.Grammar.{ResponseHead, status_code}
 use Rattle.http1.specs.Message.{Response}
 use Rattle.http1.specs.declared.conn.Limits.{Limits}
 use Rattle.byte_io.specs.Sides.{Input, and_then, counted}
 use Rattle.job_runner.specs.Run.{Link}
-use Rattle.job_runner.specs.Told.{Told, told_of}
 use Rattle.http_jobs.specs.declared.answers.Answer.{Answer}
 use Rattle.http_jobs.specs.declared.answers.Received.{Received}
 use Rattle.http_jobs.specs.declared.answers.Received.TheVariants as received
@@ -13,10 +12,11 @@ use Rattle.http_jobs.specs.declared.exchanging.Done.{Done}
 use Rattle.http_jobs.specs.declared.fault.NotDone.{NotDone}
 use Rattle.http_jobs.specs.declared.fault.NotDone.TheVariants.{Unserved as Not, Memory}
 use Rattle.http_jobs.specs.declared.fault.Unserved.TheVariants as why
+use Rattle.http_jobs.specs.declared.outcome.Failure.TheVariants.{TooLarge}
 use Rattle.http_jobs.specs.Clock.{IsLate, shown_then}
 use Rattle.http_jobs.specs.Reasons.{Seen, HasStatus}
-use Rattle.http_jobs.specs.Response.{Answers, Reports, OnlyLarger, HoldsNoAnswer, NeverAnswers, failed_with, is_unserved, head_limits}
-use Rattle.http_jobs.specs.Response.{ends_with_connection, keeps_connection}
+use Rattle.http_jobs.specs.Response.{Answers, Replied, Reports, OnlyLarger, HoldsNoAnswer, NeverAnswers, failed_with, is_unserved}
+use Rattle.http_jobs.specs.Response.{ends_with_connection, head_limits, keeps_connection, reply_of}
 
 -- the source gave what was seen, and the clock showed it
 abbrev pub Sees : Input → Option (List (Option ℕ)) → Seen → Input → Option (List (Option ℕ)) → Type 0
@@ -39,16 +39,16 @@ abbrev pub IsReceived : Limits → ℕ → List ℕ → Received → Type 0
 IsReceived limits max read (received.Whole answer) = IsAnswerIn limits read answer
 IsReceived limits max read received.TooLarge = OnlyLarger limits max read
 
--- What was read answers the job, which reports this. Either it is what the response reports: then the connection is kept only if the head
+-- What was read answers the job, and comes to this. Either it is what the response comes to: then the connection is kept only if the head
 -- allows it and nothing came after the response. Or the body was too large, and the job failed.
-abbrev pub IsAnswered : Limits → ℕ → List ℕ → Told → Bool → Type 0
-IsAnswered limits max read told is_kept =
-    ((head : ResponseHead) × (rest : List ℕ) × Reports limits read told head rest
+abbrev pub IsAnswered : Limits → ℕ → List ℕ → Replied → Bool → Type 0
+IsAnswered limits max read reply is_kept =
+    ((head : ResponseHead) × (rest : List ℕ) × Reports limits read reply head rest
     × (is_kept ≡ true → IsTrue (keeps_connection head) × (rest ≡ [])))
-    ⊎ (OnlyLarger limits max read × (told ≡ failed_with []) × (is_kept ≡ false))
+    ⊎ (OnlyLarger limits max read × (reply.told ≡ failed_with []) × (reply.failure ≡ Some TooLarge) × (is_kept ≡ false))
 
 abbrev pub IsDone : Limits → ℕ → List ℕ → Done → Type 0
-IsDone limits max read done = IsAnswered limits max read (told_of done.outcome) done.is_kept
+IsDone limits max read done = IsAnswered limits max read (reply_of done.reply) done.is_kept
 
 -- why an exchange was not done, by what was seen and by what the link shows of its sides before and after
 abbrev pub Explains : Option ℕ → Seen → Link → Link → NotDone → Type 0

@@ -1,6 +1,6 @@
 -- The response to a request, and what it reports of a job (RFC 9110, section 15; RFC 9112, sections 4 to 9).
 use Rattle.std.specs.Prelude.{◌≡◌, ℕ, ◌<◌, ◌≤◌, Bool, false, ◌&&◌, ◌||◌, ◌==◌, nat_le, nat_lt, if◌then◌else◌, List, [], ◌∷◌, ◌++◌, length}
-use Rattle.std.specs.Prelude.{codes, Result, Ok, Err, IsTrue}
+use Rattle.std.specs.Prelude.{codes, Option, Some, None, option_map, Result, Ok, Err, IsTrue}
 use Rattle.httparse.specs.Grammar.{ResponseHead, status_code}
 use Rattle.http1.specs.declared.conn.Limits.{Limits}
 use Rattle.http1.specs.declared.framing.Framing.{Framing}
@@ -10,7 +10,10 @@ use Rattle.http1.specs.Framing.{response_framing}
 use Rattle.http1.specs.Conn.{is_until_close, keeps_alive}
 use Rattle.http1.specs.Message.{Response, ReadsResponseMessage, AcceptsResponse, known_of}
 use Rattle.http1.specs.Client.{is_interim}
-use Rattle.job_runner.specs.Told.{Told, Remark, warning, complete, fail}
+use Rattle.job_runner.specs.Told.{Told, Remark, told_of, warning, complete, fail}
+use Rattle.http_jobs.specs.declared.outcome.Failure.{Failure}
+use Rattle.http_jobs.specs.declared.outcome.Failure.TheVariants.{Status, Unbounded}
+use Rattle.http_jobs.specs.declared.outcome.Reply.{Reply}
 
 -- ---- the grammar
 
@@ -104,13 +107,30 @@ told_by status is_unbounded body =
     if is_success status then (if is_unbounded then failed_with unbounded_warning else record { remarks = []; finish = complete body })
     else failed_with (body_as_warning body)
 
--- What was read holds a whole response, and this is what it reports.
-pub record Reports (limits : Limits) (read : List ℕ) (told : Told) (head : ResponseHead) (rest : List ℕ) : Type 0 where
+-- Why a response fails its job, if it does: its status is none of success, or only the end of the connection bounds its body.
+abbrev pub failure_by : ℕ → Bool → Option Failure
+failure_by status is_unbounded = if is_success status then (if is_unbounded then Some Unbounded else None) else Some (Status status)
+
+-- What a response comes to: what its job reports, and why that failed, if it did.
+pub record Replied : Type 0 where
+  pub told : Told
+  pub failure : Option Failure
+
+abbrev pub reply_of : Reply → Replied
+reply_of r = record { told = told_of r.outcome; failure = r.failure }
+
+-- what the job reports, if there was one
+abbrev pub told_in : Option Replied → Option Told
+told_in reply = option_map (λ r. r.told) reply
+
+-- What was read holds a whole response, and this is what it comes to.
+pub record Reports (limits : Limits) (read : List ℕ) (reply : Replied) (head : ResponseHead) (rest : List ℕ) : Type 0 where
   pub response : Response
   pub is_head : response.head ≡ head
   pub answers : Answers limits read response rest
   pub served : is_unserved (status_code head) ≡ false
-  pub says : told ≡ told_by (status_code head) (ends_with_connection head) response.body.bytes
+  pub says : reply.told ≡ told_by (status_code head) (ends_with_connection head) response.body.bytes
+  pub why : reply.failure ≡ failure_by (status_code head) (ends_with_connection head)
 
 -- 16 KiB for a head, for the chunk extensions of a body, and for its trailers
 abbrev pub head_limits : Limits

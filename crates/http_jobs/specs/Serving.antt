@@ -16,7 +16,7 @@ use Rattle.http_jobs.specs.declared.fault.Unserved.TheVariants as why
 use Rattle.http_jobs.specs.Clock.{InTime, shown_then}
 use Rattle.http_jobs.specs.Reasons.{Seen}
 use Rattle.http_jobs.specs.Request.{has_no_path, most_body, request_of}
-use Rattle.http_jobs.specs.Response.{head_limits}
+use Rattle.http_jobs.specs.Response.{Replied, head_limits, told_in}
 use Rattle.http_jobs.specs.Exchange.{IsAnswered, Explains}
 
 -- ---- connections
@@ -123,8 +123,8 @@ pub record Uses (old new : Visible) (sent : List ℕ) (is_kept : Bool) (seen : S
   pub calls : new.calls ≡ then_called old.calls (first ++ last)
   pub shown : new.shown ≡ shown_then old.shown (start ∷ seen.times)
 
--- The job was served: its request went out, once, and what came back after it reports this.
-pub record Served (s : Service) (timeout : ℕ) (old new : Visible) (j : AssignedJob) (told : Told) : Type 0 where
+-- The job was served: its request went out, once, and what came back after it comes to this.
+pub record Served (s : Service) (timeout : ℕ) (old new : Visible) (j : AssignedJob) (reply : Replied) : Type 0 where
   pub is_kept : Bool
   pub seen : Seen
   pub start : Option ℕ
@@ -132,12 +132,12 @@ pub record Served (s : Service) (timeout : ℕ) (old new : Visible) (j : Assigne
   pub after : Link
   pub uses : Uses old new (request_of s j) is_kept seen start before after
   pub in_time : InTime (deadline_from timeout start) seen.times
-  pub answered : IsAnswered head_limits (most_body j) seen.read told is_kept
+  pub answered : IsAnswered head_limits (most_body j) seen.read reply is_kept
 
--- what a job reports, or that there is none of its function: then nothing was done
-abbrev pub Tells : Service → ℕ → Visible → Visible → AssignedJob → Option Told → Type 0
+-- what a job comes to, or that there is none of its function: then nothing was done
+abbrev pub Tells : Service → ℕ → Visible → Visible → AssignedJob → Option Replied → Type 0
 Tells s timeout old new j None = IsTrue (has_no_path j.function) × (new ≡ old)
-Tells s timeout old new j (Some told) = (has_no_path j.function ≡ false) × Served s timeout old new j told
+Tells s timeout old new j (Some reply) = (has_no_path j.function ≡ false) × Served s timeout old new j reply
 
 -- The job was begun over a connection: a prefix of its request went out, once, and this is why no answer came.
 pub record Failed (s : Service) (timeout : ℕ) (old new : Visible) (j : AssignedJob) (e : NotDone) : Type 0 where
@@ -164,7 +164,8 @@ as_of_session Memory = heard.Memory
 
 -- A job was done, and this is what it reports; the service and the timeout stay.
 abbrev pub IsDoneBy : Service → ℕ → Visible → Visible → Service → ℕ → AssignedJob → Option Told → Type 0
-IsDoneBy s timeout old new service time j told = Tells s timeout old new j told × (service ≡ s) × (time ≡ timeout)
+IsDoneBy s timeout old new service time j told =
+    (reply : Option Replied) × Tells s timeout old new j reply × (told ≡ told_in reply) × (service ≡ s) × (time ≡ timeout)
 
 -- It was not done, for a reason of which a session hears so; the service and the timeout stay.
 abbrev pub IsNotDoneBy : Service → ℕ → Visible → Visible → Service → ℕ → AssignedJob → session.NotDone → Type 0

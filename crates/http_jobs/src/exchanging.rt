@@ -1,50 +1,37 @@
 //! One job, one request, one response.
 
-ghost use Rattle.std.specs.Prelude.{◌≡◌, ◌<◌, ◌-◌, ◌^◌, ℕ, List, [], take, IfOk, OnOk, MatchResult, IsFalse};
+ghost use Rattle.std.specs.Prelude.{◌≡◌, ◌<◌, ◌-◌, ◌^◌, ℕ, List, take, IfOk, OnOk, MatchResult};
 ghost use Rattle.http1.specs.declared.conn.Limits.{Limits as Heads};
 ghost use Rattle.byte_io.specs.Sides.{and_then};
 ghost use Rattle.gear_packets.specs.Reading.{job_of};
-ghost use Rattle.job_runner.specs.Told.{told_of};
 ghost use Rattle.job_runner.specs.Run.{seen_link};
 ghost use Rattle.http_jobs.specs.Clock.{InTime};
 ghost use Rattle.http_jobs.specs.Exchange.{Explains, IsDone, IsReceived, Sees};
 ghost use Rattle.http_jobs.specs.Reasons.{Seen};
 ghost use Rattle.http_jobs.specs.Request.{most_body, request_of};
-ghost use Rattle.http_jobs.specs.Response.{failed_with, head_limits};
+ghost use Rattle.http_jobs.specs.Response.{head_limits};
 
 use crate::answers::{Bounds, Received, ask};
 use crate::clock::Clock;
 use crate::fault::NotDone;
-use crate::outcome::{failure, outcome_of};
+use crate::outcome::{Reply, oversized, reply_to};
 use crate::posts::Post;
 use crate::request::{headers, most_body, target};
 use crate::service::Service;
 use byte_io::{Sink, Source};
 use gear_packets::Assignment;
-use job_runner::Outcome;
 use std::alloc::{AllocError, Global};
 
 /// What an exchange came to.
 #[derive(Drop)]
 pub struct Done {
-    /// What the job reports.
-    pub outcome: Outcome,
+    /// What the response comes to.
+    pub reply: Reply,
     /// Whether the connection can carry another exchange.
     pub is_kept: bool,
 }
 
-/// Ends an exchange whose response has a body that is too large.
-fn give_up(alloc: Global) -> Done
-    ensures told { told_of result.outcome ≡ failed_with [] }
-    ensures closed { IsFalse result.is_kept }
-{
-    Done {
-        outcome: failure(alloc),
-        is_kept: false,
-    }
-}
-
-/// What a job reports by what came back. The only error is out of memory.
+/// What an exchange came to, by what came back. The only error is out of memory.
 fn done_of(alloc: Global, received: Received) -> Result<Done, AllocError>
     ensures { (limits : Heads) (max : ℕ) (read : List ℕ) → IsReceived limits max read received
         → IfOk result (IsDone limits max read) }
@@ -52,10 +39,13 @@ fn done_of(alloc: Global, received: Received) -> Result<Done, AllocError>
     match received {
         Received::Whole(answer) => {
             let is_kept = answer.is_kept;
-            let outcome = outcome_of(alloc, answer.status, answer.is_unbounded, answer.body)?;
-            Ok(Done { outcome, is_kept })
+            let reply = reply_to(alloc, answer.status, answer.is_unbounded, answer.body)?;
+            Ok(Done { reply, is_kept })
         }
-        Received::TooLarge => Ok(give_up(alloc)),
+        Received::TooLarge => Ok(Done {
+            reply: oversized(alloc),
+            is_kept: false,
+        }),
     }
 }
 

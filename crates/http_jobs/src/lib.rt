@@ -20,6 +20,7 @@ pub use clock::Clock;
 pub use devices::DialError;
 pub use exchanging::{Done, exchange};
 pub use fault::{NotDone, Unserved, dial_words};
+pub use outcome::{Failure, Reply};
 pub use posts::Post;
 pub use service::{Service, ServiceError};
 pub use service_jobs::{Dial, Look, ServiceJobs};

@@ -1,17 +1,55 @@
 //! What a response reports of a job.
 
-ghost use Rattle.std.specs.Prelude.{◌≡◌, [], IfOk};
+ghost use Rattle.std.specs.Prelude.{◌≡◌, [], IfOk, Some};
+ghost use Rattle.std.specs.Option.{option_map};
 ghost use Rattle.job_runner.specs.Told.{told_of};
-ghost use Rattle.http_jobs.specs.Response.{told_by, failed_with, body_as_warning};
+ghost use Rattle.http_jobs.specs.Response.{body_as_warning, failed_with, failure_by, reply_of, told_by, told_in};
+ghost use Rattle.http_jobs.specs.declared.outcome.Failure.TheVariants.{TooLarge};
 
 use job_runner::{End, Note, Outcome};
 use std::alloc::{AllocError, Global};
+use thiserror::Error;
 
 /// The warning of a result that may be cut.
 const UNBOUNDED: &[u8] = b"only the end of the connection bounds the body, which may be cut";
 
+/// Why a response fails its job.
+#[derive(Clone, Copy, Debug, PartialEq, Eq, Error)]
+pub enum Failure {
+    /// Its status, which is none of 200 to 299.
+    #[error("status {0}")]
+    Status(u16),
+    /// Only the end of the connection bounds the result, which may be cut.
+    #[error("the response may be cut")]
+    Unbounded,
+    /// The result is too large for a packet.
+    #[error("the response is too large")]
+    TooLarge,
+}
+
+/// What a response comes to.
+#[derive(Drop)]
+pub struct Reply {
+    /// What its job reports.
+    pub outcome: Outcome,
+    /// Why the job failed, if it did.
+    pub failure: Option<Failure>,
+}
+
+impl Reply {
+    /// What its job reports, if there was one.
+    pub fn outcome_in(reply: Option<Reply>) -> Option<Outcome>
+        ensures { option_map told_of result ≡ told_in (option_map reply_of reply) }
+    {
+        match reply {
+            Some(reply) => Some(reply.outcome),
+            None => None,
+        }
+    }
+}
+
 /// A job that failed without a warning.
-pub fn failure(alloc: Global) -> Outcome
+fn failed_job(alloc: Global) -> Outcome
     ensures { told_of result ≡ failed_with [] }
 {
     Outcome {
@@ -24,30 +62,52 @@ pub fn failure(alloc: Global) -> Outcome
 fn failure_with(alloc: Global, warning: Vec<u8>) -> Result<Outcome, AllocError>
     ensures { IfOk result (λ outcome. told_of outcome ≡ failed_with (body_as_warning warning.items)) }
 {
-    let mut outcome = failure(alloc);
+    let mut outcome = failed_job(alloc);
     if !warning.is_empty() {
         outcome.notes.push(Note::Warning(warning))?;
     }
     Ok(outcome)
 }
 
-/// What a whole response reports, by its status, its body, and whether only the end of the connection bounds that.
-pub fn outcome_of(
+/// What a response comes to that is too large for a packet.
+pub fn oversized(alloc: Global) -> Reply
+    ensures told { told_of result.outcome ≡ failed_with [] }
+    ensures failure { result.failure ≡ Some TooLarge }
+{
+    Reply {
+        outcome: failed_job(alloc),
+        failure: Some(Failure::TooLarge),
+    }
+}
+
+/// What a whole response comes to, by its status, its body, and whether only the end of the connection bounds that. The only error is out
+/// of memory.
+pub fn reply_to(
     alloc: Global,
     status: u16,
     is_unbounded: bool,
     body: Vec<u8>,
-) -> Result<Outcome, AllocError>
-    ensures { IfOk result (λ outcome. told_of outcome ≡ told_by status is_unbounded body.items) }
+) -> Result<Reply, AllocError>
+    ensures told { IfOk result (λ reply. told_of reply.outcome ≡ told_by status is_unbounded body.items) }
+    ensures failure { IfOk result (λ reply. reply.failure ≡ failure_by status is_unbounded) }
 {
     if status < 200 || status >= 300 {
-        return failure_with(alloc, body);
+        return Ok(Reply {
+            outcome: failure_with(alloc, body)?,
+            failure: Some(Failure::Status(status)),
+        });
     }
     if is_unbounded {
-        return failure_with(alloc, Vec::from_slice(alloc, UNBOUNDED)?);
+        return Ok(Reply {
+            outcome: failure_with(alloc, Vec::from_slice(alloc, UNBOUNDED)?)?,
+            failure: Some(Failure::Unbounded),
+        });
     }
-    Ok(Outcome {
-        notes: Vec::new(alloc),
-        end: End::Complete(body),
+    Ok(Reply {
+        outcome: Outcome {
+            notes: Vec::new(alloc),
+            end: End::Complete(body),
+        },
+        failure: None,
     })
 }

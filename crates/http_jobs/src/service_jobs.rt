@@ -2,7 +2,7 @@
 
 ghost use Rattle.std.specs.Prelude.{◌≡◌, ◌++◌, ◌+◌, ◌∷◌, [], ℕ, List, Option, Bool, IfSome, IfOk, IfErr, Ok, Some, None, true};
 ghost use Rattle.gear_packets.specs.Reading.{job_of};
-ghost use Rattle.job_runner.specs.Told.{told_of};
+ghost use Rattle.http_jobs.specs.Response.{reply_of};
 ghost use Rattle.std.specs.Option.{option_map};
 ghost use Rattle.job_runner.specs.Run.{seen_link};
 ghost use Rattle.http_jobs.specs.Serving.{DialCall, IsNew, IsOpened, Leaves, NotServed, Opens, Reuses, Tells, closed, closings};
@@ -12,6 +12,7 @@ ghost use Rattle.http_jobs.specs.Clock.{shown_then};
 use crate::clock::Clock;
 use crate::exchanging::exchange;
 use crate::fault::NotDone;
+use crate::outcome::Reply;
 use crate::request::has_no_path;
 use crate::service::Service;
 use byte_io::{Device, Sink, Source};
@@ -197,11 +198,11 @@ impl<L: Source + Sink + Look + Drop, D: Dial<L>, C: Clock> ServiceJobs<L, D, C> 
     ///
     /// It is sent once at most: over the kept connection, or over a new one if there is none, or if that has ended or holds a byte that
     /// nobody asked for. Unserved says that no answer came, and why.
-    pub fn serve(&mut self, alloc: Global, job: &Assignment) -> Result<Option<Outcome>, NotDone>
-        ensures served { IfOk result (λ outcome. Tells self.old.service self.old.timeout_ms
+    pub fn serve(&mut self, alloc: Global, job: &Assignment) -> Result<Option<Reply>, NotDone>
+        ensures served { IfOk result (λ reply. Tells self.old.service self.old.timeout_ms
             (visible L.input L.output L.quiet self.old.kept (D.calls self.old.dial) (C.shown self.old.clock))
             (visible L.input L.output L.quiet self.new.kept (D.calls self.new.dial) (C.shown self.new.clock))
-            (job_of job.now) (option_map told_of outcome)) }
+            (job_of job.now) (option_map reply_of reply)) }
         ensures failed { IfErr result (NotServed self.old.service self.old.timeout_ms
             (visible L.input L.output L.quiet self.old.kept (D.calls self.old.dial) (C.shown self.old.clock))
             (visible L.input L.output L.quiet self.new.kept (D.calls self.new.dial) (C.shown self.new.clock))
@@ -224,7 +225,7 @@ impl<L: Source + Sink + Look + Drop, D: Dial<L>, C: Clock> ServiceJobs<L, D, C> 
         ) {
             Ok(done) => {
                 self.leave(link, done.is_kept);
-                Ok(Some(done.outcome))
+                Ok(Some(done.reply))
             }
             Err(e) => {
                 self.leave(link, false);
@@ -253,6 +254,6 @@ impl<L: Source + Sink + Look + Drop, D: Dial<L>, C: Clock> Jobs for ServiceJobs<
         alloc: Global,
         job: Assignment,
     ) -> Result<Option<Outcome>, job_runner::NotDone> {
-        Ok(self.serve(alloc, &job)?)
+        Ok(Reply::outcome_in(self.serve(alloc, &job)?))
     }
 }

@@ -7,7 +7,7 @@ use crate::job_lines::{failure_of, line_of};
 use devices::DialError;
 use farm_notes::{JobEnd, Tally};
 use gear_packets::Assignment;
-use http_jobs::{ServiceJobs, Unserved, dial_words};
+use http_jobs::{Reply, ServiceJobs, Unserved, dial_words};
 use job_runner::{End, Jobs, NotDone, Outcome};
 use plan_model::{MachineId, SlotId};
 use pool_supervisor::JobSource;
@@ -113,7 +113,7 @@ fn news_of<R: Wait>(
     rt: &R,
     hosts: &Hosts,
     machine: MachineId,
-    done: &Result<Option<Outcome>, http_jobs::NotDone>,
+    done: &Result<Option<Reply>, http_jobs::NotDone>,
 ) -> Option<HostNews> {
     match done {
         Ok(Some(_)) => hosts.was_asked(rt, machine, true),
@@ -128,9 +128,9 @@ fn news_of<R: Wait>(
 }
 
 /// How a job ended.
-fn end_of(done: &Result<Option<Outcome>, http_jobs::NotDone>) -> JobEnd {
+fn end_of(done: &Result<Option<Reply>, http_jobs::NotDone>) -> JobEnd {
     match done {
-        Ok(Some(outcome)) => match &outcome.end {
+        Ok(Some(reply)) => match &reply.outcome.end {
             End::Complete(_) => JobEnd::Completed,
             End::Fail => JobEnd::Failed,
         },
@@ -220,8 +220,8 @@ impl<'e, H: FarmHost> Jobs for FarmJobs<'e, H> {
         let dated = failure
             .ok()
             .flatten()
-            .map(|failure| self.host.dated(failure));
+            .map(|failure| self.host.dated(failure.view));
         self.tally.note(self.host, dated);
-        Ok(done?)
+        Ok(Reply::outcome_in(done?))
     }
 }

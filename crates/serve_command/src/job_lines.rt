@@ -3,8 +3,8 @@
 use crate::farm::Farm;
 use farm_page::{FailureEnd, FailureView};
 use gear_packets::Assignment;
-use http_jobs::NotDone;
-use job_runner::{End, Note, Outcome};
+use http_jobs::{NotDone, Reply};
+use job_runner::{Note, Outcome};
 use percent_encoding::{AsciiSet, CONTROLS, ascii_set, percent_encode};
 use std::alloc::{AllocError, Global};
 use worker_state::WorkerName;
@@ -17,6 +17,18 @@ const LONGEST_NAME: usize = 256;
 
 /// How many bytes are shown at most of what a service said of a job.
 const LONGEST_SAYING: usize = 200;
+
+/// Why a job of such a function failed: no service was asked.
+const NO_PATH: &str = "the function has no path";
+
+/// A job that was not completed.
+#[derive(Drop)]
+pub struct Uncompleted {
+    /// What the page shows of it.
+    pub view: FailureView,
+    /// Why it failed or was lost, in words.
+    pub why: String,
+}
 
 /// These bytes as one word, and `-` if there are none.
 fn word(alloc: Global, bytes: &[u8]) -> Result<String, AllocError> {
@@ -39,24 +51,38 @@ fn end_of_failed(alloc: Global, outcome: &Outcome) -> Result<FailureEnd, AllocEr
     Ok(FailureEnd::Said(words))
 }
 
-/// How a job ended, if it was not completed. The only error is out of memory.
-pub fn failure_end(
+/// How a job ended that failed or was lost. The only error is out of memory.
+fn failure_end(
     alloc: Global,
-    done: &Result<Option<Outcome>, NotDone>,
-) -> Result<Option<FailureEnd>, AllocError> {
+    done: &Result<Option<Reply>, NotDone>,
+) -> Result<FailureEnd, AllocError> {
     match done {
-        Ok(Some(outcome)) => match &outcome.end {
-            End::Complete(_) => Ok(None),
-            End::Fail => Ok(Some(end_of_failed(alloc, outcome)?)),
-        },
-        Ok(None) => Ok(Some(FailureEnd::Failed)),
-        Err(why) => Ok(Some(FailureEnd::Lost(format!(in alloc; "{why}")?))),
+        Ok(Some(reply)) => end_of_failed(alloc, &reply.outcome),
+        Ok(None) => Ok(FailureEnd::Failed),
+        Err(why) => Ok(FailureEnd::Lost(format!(in alloc; "{why}")?)),
     }
 }
 
-/// A job that ended so at the worker of this name. Of its own names each is one word: at most 256 bytes, percent-encoded if they are not
-/// visible characters. Its time is not known yet. The only error is out of memory.
-pub fn failure_view(
+/// Why a job was not completed, in words, if it was not: the status of its service's response, or what was wrong with the response, or why
+/// none came. The only error is out of memory.
+pub fn why_not_completed(
+    alloc: Global,
+    done: &Result<Option<Reply>, NotDone>,
+) -> Result<Option<String>, AllocError> {
+    let why = match done {
+        Ok(Some(reply)) => match reply.failure {
+            None => return Ok(None),
+            Some(why) => format!(in alloc; "{why}")?,
+        },
+        Ok(None) => String::from_str(alloc, NO_PATH)?,
+        Err(why) => format!(in alloc; "{why}")?,
+    };
+    Ok(Some(why))
+}
+
+/// What the page shows of a job that ended so at the worker of this name. Of its own names each is one word: at most 256 bytes,
+/// percent-encoded if they are not visible characters. Its time is not known yet. The only error is out of memory.
+fn failure_view(
     alloc: Global,
     job: &Assignment,
     worker: String,
@@ -78,19 +104,31 @@ pub fn failure_of(
     farm: &Farm,
     worker: WorkerName,
     job: &Assignment,
-    done: &Result<Option<Outcome>, NotDone>,
-) -> Result<Option<FailureView>, AllocError> {
-    let Some(end) = failure_end(alloc, done)? else {
+    done: &Result<Option<Reply>, NotDone>,
+) -> Result<Option<Uncompleted>, AllocError> {
+    let name = farm.name_of(alloc, worker)?;
+    uncompleted_job(alloc, name, job, done)
+}
+
+/// A job of the worker of this name, if it was not completed. The only error is out of memory.
+pub fn uncompleted_job(
+    alloc: Global,
+    worker: String,
+    job: &Assignment,
+    done: &Result<Option<Reply>, NotDone>,
+) -> Result<Option<Uncompleted>, AllocError> {
+    let Some(why) = why_not_completed(alloc, done)? else {
         return Ok(None);
     };
-    let name = farm.name_of(alloc, worker)?;
-    Ok(Some(failure_view(alloc, job, name, end)?))
+    let end = failure_end(alloc, done)?;
+    let view = failure_view(alloc, job, worker, end)?;
+    Ok(Some(Uncompleted { view, why }))
 }
 
 /// The line of a job, if it was not completed.
 pub fn line_of(
     alloc: Global,
-    failure: &Result<Option<FailureView>, AllocError>,
+    failure: &Result<Option<Uncompleted>, AllocError>,
 ) -> Option<Result<String, AllocError>> {
     match failure {
         Ok(Some(failure)) => Some(failure_line(alloc, failure)),
@@ -99,19 +137,17 @@ pub fn line_of(
     }
 }
 
-/// The line of a job that was not completed: its handle, its unique id, its function and the worker, and why it was lost, as
-/// `failed H:srv:12 order-7 resize north/0#3`. The only error is out of memory.
-pub fn failure_line(alloc: Global, failure: &FailureView) -> Result<String, AllocError> {
-    let handle = &failure.handle;
-    let unique = &failure.unique;
-    let function = &failure.function;
-    let worker = &failure.worker;
-    match &failure.end {
-        FailureEnd::Failed | FailureEnd::Said(_) => format!(in alloc;
-            "failed {handle} {unique} {function} {worker}"
-        ),
-        FailureEnd::Lost(why) => {
-            format!(in alloc; "lost {handle} {unique} {function} {worker}: {why}")
-        }
-    }
+/// The line of a job that was not completed: its handle, its unique id, its function and the worker, and why it failed or was lost, as
+/// `failed H:srv:12 order-7 resize north/0#3: status 404`. The only error is out of memory.
+pub fn failure_line(alloc: Global, failure: &Uncompleted) -> Result<String, AllocError> {
+    let Uncompleted { view, why } = failure;
+    let ended = match &view.end {
+        FailureEnd::Failed | FailureEnd::Said(_) => "failed",
+        FailureEnd::Lost(_) => "lost",
+    };
+    let handle = &view.handle;
+    let unique = &view.unique;
+    let function = &view.function;
+    let worker = &view.worker;
+    format!(in alloc; "{ended} {handle} {unique} {function} {worker}: {why}")
 }

@@ -15,7 +15,7 @@ pub use farm::{Farm, FarmTexts};
 pub use farm_jobs::{FarmJobs, FarmSource};
 pub use host::FarmHost;
 pub use hosts::{HostNews, Hosts, Reason};
-pub use job_lines::{failure_end, failure_line, failure_view};
+pub use job_lines::{Uncompleted, failure_line, uncompleted_job, why_not_completed};
 pub use line_queue::{LineQueue, Taken, write_lines};
 pub use page_server::{EndFlag, SharedPage, end_with_input, serve_page};
 pub use reporting::Outlook;

@@ -1,5 +1,7 @@
 use Rattle.std.proofs.Common.{refl, ap, ◌∙◌}
+use Rattle.std.specs.Option.{option_map}
 use Rattle.std.specs.Result.{result_from_control_flow}
+use Rattle.http_jobs.specs.Response.{reply_of}
 use Rattle.serve_command.proofs.Kept.{heard, of_ok}
 use Rattle.serve_command.proofs.farm_jobs.FarmJobsJobs.run.Goals as goal
 
@@ -11,7 +13,9 @@ returns-clause-tells g c =
     let served = rw (set.service, set.timeout, set.kept, set.dial, set.clock, facts, c.deref-2.ensures.value) at c.serve-done.ensures.served in (
       refl,
       (
+        option_map reply_of c.in_ok-done.field-0,
         of_ok _ c.serve-done.result c.in_ok-done.field-0 is_ok served,
+        c.outcome_in.ensures,
         (rw set.service at c.serve-done.ensures.service),
         (rw (set.timeout, facts, c.deref-2.ensures.value) at c.serve-done.ensures.timeout),
       ),
