@@ -1,53 +1,116 @@
 -- Sessions that have ended, and their sums.
-use Rattle.std.proofs.Common.{◌≡◌, ◌⊎◌, ◌+◌, ℕ, List, [], ◌∷◌, refl, subst, ◌∙◌, arith, inl, inr}
-use Rattle.std.proofs.lemmas.List.Sums.{sum_by-cons}
+use Rattle.std.proofs.Common.{◌≡◌, ◌⊎◌, ◌+◌, ◌<◌, ℕ, List, [], ◌∷◌, ◌++◌, Option, Some, None, refl, subst, ap, ◌∙◌, arith, inl, inr}
+use Rattle.std.proofs.Math.Logic.{∥∥₁_elim, ∥∥₁_prop}
+use Rattle.std.specs.List.{AllByRecursion}
+use Rattle.std.proofs.lemmas.List.Sums.{sum_by-append}
 use Rattle.byte_io.specs.Sides.{and_then}
+use Rattle.gear_packets.specs.Response.{AssignedJob}
 use Rattle.worker_state.specs.declared.slot.WorkerName.{WorkerName}
+use Rattle.std.specs.Prelude.{sum_by, IfSome, IfNone}
+use Rattle.pool_core.specs.declared.answer.Totals.{Totals}
 use Rattle.pool_settings.specs.Settings.{Settings}
+use Rattle.pool_settings.specs.Slots.{slots}
 use Rattle.job_runner.specs.declared.end.SessionEnd.{SessionEnd}
+use Rattle.job_runner.specs.declared.jobs.NotDone.{NotDone}
 use Rattle.job_runner.specs.Book.{Ledger}
 use Rattle.job_runner.specs.Course.{session_of}
 use Rattle.job_runner.specs.Loop.{duty_of}
-use Rattle.job_runner.specs.Run.{Link, Served}
-use Rattle.job_runner.specs.Told.{Telling}
-use Rattle.pool_supervisor.specs.Sessions.{turned_away, HasEnded, was_served, had_no_jobs, AddUp}
+use Rattle.job_runner.specs.Run.{Link, Served, EndTold}
+use Rattle.job_runner.specs.Told.{Told, Telling, AreTold, IsMeant}
+use Rattle.pool_supervisor.specs.Dials.{IsNew}
+use Rattle.pool_supervisor.specs.Sessions.{Counts, no_counts, counts_of, counted, PastSession, past_session, turned_away, HasEnded, HadJobs, HadNamedJobs, IsPast, AllHad, AreSums, Covers}
 
 -- a session of a worker of the run, by what its run promises
-pub has_ended : {D B F : Type 0} {G : F → Type 0} {E : F → F → List Telling → Type 0} (settings own : Settings) (worker : WorkerName) (end : SessionEnd) (first last_link : Link) → own ≡ settings
-    → (D × B × (end ≡ turned_away))
-    ⊎ ((read bytes : List ℕ) × (told : List Telling) × (book : Ledger) × (start last : F) × G start × (last_link.input.given ≡ and_then first.input.given read)
-    × (last_link.output.got ≡ and_then first.output.got bytes) × E start last told × Served (session_of (duty_of own worker) first.output.got read) told bytes first last_link book end)
-    → HasEnded settings end
-has_ended settings own worker end first last_link same (inl away) = had_no_jobs away.2
-has_ended settings own worker end first last_link same (inr ran) = was_served (record {
-  worker = worker;
-  first = first;
-  last = last_link;
-  read = ran.0;
-  bytes = ran.1;
-  told = ran.2;
-  book = ran.3;
-  reads = ran.7;
-  writes = ran.8;
-  served = subst (λ (s : Settings). Served (session_of (duty_of s worker) first.output.got ran.0) ran.2 ran.1 first last_link ran.3 end) same ran.10;
-})
+pub is_past : {L F : Type 0} (see : L → Link) (tells : F → F → AssignedJob → Option Told → Type 0) (fails : F → F → AssignedJob → NotDone → Type 0)
+    (gives : WorkerName → F → Type 0) (denies : WorkerName → Type 0) (had_jobs : PastSession → Type 0)
+    (settings own : Settings) (worker : WorkerName) (end : SessionEnd) (old new : L)
+    → Covers had_jobs (HadJobs tells fails gives denies) → own ≡ settings → worker.slot < slots settings → IsNew (see old)
+    → (denies worker × (new ≡ old) × (end ≡ turned_away))
+    ⊎ ((read bytes : List ℕ) × (told : List Telling) × (book : Ledger) × (first last : F) × gives worker first × ((see new).input.given ≡ and_then (see old).input.given read)
+    × ((see new).output.got ≡ and_then (see old).output.got bytes) × EndTold tells fails first last end.cause told
+    × Served (session_of (duty_of own worker) (see old).output.got read) told bytes (see old) (see new) book end)
+    → IsPast settings had_jobs worker end
+is_past see tells fails gives denies had_jobs settings own worker end old new covers same known fresh (inl away) =
+    let session = past_session worker end None in (
+      None,
+      record { known = known; served = tt; away = away.2 },
+      covers session (record { given = tt; denied = away.0 }),
+    )
+is_past see tells fails gives denies had_jobs settings own worker end old new covers same known fresh (inr ran) =
+    let session = past_session worker end (Some ran.2) in (
+      Some ran.2,
+      record {
+        known = known;
+        served = record {
+          first = see old;
+          last = see new;
+          fresh = fresh;
+          read = ran.0;
+          bytes = ran.1;
+          book = ran.3;
+          reads = ran.7;
+          writes = ran.8;
+          served = subst (λ (s : Settings). Served (session_of (duty_of s worker) (see old).output.got ran.0) ran.2 ran.1 (see old) (see new) ran.3 end) same ran.10;
+        };
+        away = tt;
+      },
+      covers session (record { given = (ran.4, ran.5, ran.6, ran.9); denied = tt }),
+    )
 
-pub none_ended : (settings : Settings) → AddUp settings 0 0
-none_ended settings = record { ends = []; ended = tt; grabs = refl; reports = refl }
+-- ---- what they counted
 
-pub one_ended : (settings : Settings) (end : SessionEnd) (grabbed reported more_grabbed more_reported : ℕ) → AddUp settings grabbed reported → HasEnded settings end
-    → more_grabbed ≡ grabbed + end.grabbed → more_reported ≡ reported + end.reported → AddUp settings more_grabbed more_reported
-one_ended settings end grabbed reported more_grabbed more_reported sums ended grabs reports = record {
-  ends = end ∷ sums.ends;
-  ended = (ended, sums.ended);
-  grabs = omega (arith, grabs, sums.grabs, sum_by-cons (λ (e : SessionEnd). e.grabbed) end sums.ends);
-  reports = omega (arith, reports, sums.reports, sum_by-cons (λ (e : SessionEnd). e.reported) end sums.ends);
+abbrev counts : ℕ → ℕ → Counts
+counts grabbed reported = record { grabbed = grabbed; reported = reported }
+
+pub same_counts : (one other : Counts) → one.grabbed ≡ other.grabbed → one.reported ≡ other.reported → one ≡ other
+same_counts one other grabs reports = ap (λ (g : ℕ). counts g one.reported) grabs ∙ ap (λ (r : ℕ). counts other.grabbed r) reports
+
+pub counted_none : (before : Counts) → counted before [] ≡ before
+counted_none before = same_counts (counted before []) before (omega arith) (omega arith)
+
+-- what some sessions counted, and then more
+pub counted_both : (before between now : Counts) (xs ys : List PastSession) → between ≡ counted before xs → now ≡ counted between ys → now ≡ counted before (xs ++ ys)
+counted_both before between now xs ys first then =
+    let grabs : now.grabbed ≡ before.grabbed + sum_by (λ (s : PastSession). s.end.grabbed) (xs ++ ys)
+    = omega (arith, ap (λ (c : Counts). c.grabbed) first, ap (λ (c : Counts). c.grabbed) then, sum_by-append (λ (s : PastSession). s.end.grabbed) xs ys) in
+    let reports : now.reported ≡ before.reported + sum_by (λ (s : PastSession). s.end.reported) (xs ++ ys)
+    = omega (arith, ap (λ (c : Counts). c.reported) first, ap (λ (c : Counts). c.reported) then, sum_by-append (λ (s : PastSession). s.end.reported) xs ys) in
+    same_counts now (counted before (xs ++ ys)) grabs reports
+
+-- the sums of sessions, where none was counted before
+pub are_sums : (settings : Settings) (sessions : List PastSession) (totals : Totals) → AllByRecursion (HasEnded settings) sessions → counts_of totals ≡ counted no_counts sessions
+    → AreSums settings sessions totals.grabbed totals.reported
+are_sums settings sessions totals ended counts = record {
+  ended = ended;
+  grabs = omega (arith, ap (λ (c : Counts). c.grabbed) counts);
+  reports = omega (arith, ap (λ (c : Counts). c.reported) counts);
 }
 
-pub same_sums : (settings : Settings) (grabbed reported all_grabbed all_reported : ℕ) → AddUp settings grabbed reported → all_grabbed ≡ grabbed → all_reported ≡ reported → AddUp settings all_grabbed all_reported
-same_sums settings grabbed reported all_grabbed all_reported sums grabs reports = record {
-  ends = sums.ends;
-  ended = sums.ended;
-  grabs = grabs ∙ sums.grabs;
-  reports = reports ∙ sums.reports;
-}
+-- ---- jobs by name
+
+told_so : {J : Type 0} (meaning : J → List ℕ → List ℕ → Option Told) (source first last : J) (told : List Telling) → first ≡ source
+    → AreTold (λ (b a : J) (job : AssignedJob) (t : Option Told). (a ≡ b) × (t ≡ meaning b job.function job.payload)) first last told → AllByRecursion (IsMeant (meaning source)) told
+told_so meaning source first last [] same all = tt
+told_so meaning source first last (t ∷ ts) same all = (
+  all.1.1 ∙ ap (λ j. meaning j t.job.function t.job.payload) same,
+  told_so meaning source all.0 last ts (all.1.0 ∙ same) all.2,
+)
+
+abbrev by_name : {J : Type 0} → (J → List ℕ → List ℕ → Option Told) → J → J → AssignedJob → Option Told → Type 0
+by_name meaning before after job told = (after ≡ before) × (told ≡ meaning before job.function job.payload)
+
+named_or_not : {J : Type 0} (source : J) (meaning : J → List ℕ → List ℕ → Option Told) (fails : J → J → AssignedJob → NotDone → Type 0) (session : PastSession) (told : Option (List Telling))
+    → session.told ≡ told → HadJobs (by_name meaning) fails (λ (w : WorkerName) (j : J). j ≡ source) (λ (w : WorkerName). ⊥) session → ∥ HadNamedJobs (meaning source) session ∥₁
+named_or_not source meaning fails session None same had = absurd (subst (λ (o : Option (List Telling)). IfNone o ⊥) same had.denied)
+named_or_not {J} source meaning fails session (Some told) same had =
+    let given = subst (λ (o : Option (List Telling)). IfSome o (λ (ts : List Telling). (first last : J) × (first ≡ source) × EndTold (by_name meaning) fails first last session.end.cause ts)) same had.given in
+    ∣ (told, same, told_so meaning source given.0 given.3.0 told given.2 given.3.1) ∣₁
+
+-- the jobs of a source that gives each session the same jobs by name
+pub named : {J : Type 0} (source : J) (meaning : J → List ℕ → List ℕ → Option Told) (fails : J → J → AssignedJob → NotDone → Type 0)
+    → Covers (HadNamedJobs (meaning source)) (HadJobs (by_name meaning) fails (λ (w : WorkerName) (j : J). j ≡ source) (λ (w : WorkerName). ⊥))
+named source meaning fails session had = named_or_not source meaning fails session session.told refl had
+
+pub all_covered : (wide narrow : PastSession → Type 0) (sessions : List PastSession) → Covers wide narrow → AllHad narrow sessions → AllHad wide sessions
+all_covered wide narrow [] covers all = tt
+all_covered wide narrow (session ∷ sessions) covers all = (∥∥₁_elim all.0 ∥∥₁_prop (λ had. covers session had), all_covered wide narrow sessions covers all.1)

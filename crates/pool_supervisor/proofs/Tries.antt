@@ -4,14 +4,19 @@ use Rattle.std.specs.Prelude.{Result, IfErr}
 use Rattle.std.specs.List.{flat_map, AllByRecursion}
 use Rattle.std.proofs.lemmas.List.{append-nil, map-append}
 use Rattle.gear_status.specs.Status.{Line}
+use Rattle.pool_core.specs.declared.answer.Totals.{Totals}
 use Rattle.pool_settings.specs.Settings.{Settings}
 use Rattle.pool_settings.specs.Slots.{slots}
 use Rattle.pool_supervisor.specs.declared.attempt.Attempt.{Attempt}
 use Rattle.pool_supervisor.specs.Asking.{Asks, IsNotTaken, Tells}
+use Rattle.job_runner.specs.declared.end.SessionEnd.{SessionEnd}
 use Rattle.job_runner.specs.Run.{Link}
+use Rattle.worker_state.specs.declared.slot.WorkerName.{WorkerName}
 use Rattle.pool_supervisor.specs.Dials.{DialCall, closed, then_called}
 use Rattle.pool_supervisor.specs.Joined.{Joins}
-use Rattle.pool_supervisor.specs.Tries.{Rule, Look, dials_of, IsOneDial, DialsOnce, FillsSlot, FillFrom, IsSeenAs, FillsOne, Fills, Try, calls_of, line_of, IsTry, Attempts}
+use Rattle.pool_supervisor.specs.Sessions.{Counts, no_counts, counts_of, counted, PastSession, past_session, HasEnded, IsPast, Covers}
+use Rattle.pool_supervisor.specs.Tries.{Rule, Look, dials_of, IsOneDial, DialsOnce, FillsSlot, FillFrom, IsSeenAs, FillsOne, Fills, Try, calls_of, joined_of, joined_by, line_of, IsTry, Attempts, Dials}
+use Rattle.pool_supervisor.proofs.Sessions.{all_covered, are_sums, counted_both, counted_none, same_counts}
 use Rattle.pool_supervisor.proofs.Called.{called_none, called_both, flat_map_both}
 
 -- ---- slots
@@ -62,19 +67,45 @@ one_slot_more settings allows count before between now f one = record {
 
 -- ---- sessions
 
-pub no_joins : (before : Option (List DialCall)) → Joins before before
-no_joins before = record { links = []; calls = sym (called_none before) }
+all_of_both : {A : Type 0} (P : A → Type 0) (xs ys : List A) → AllByRecursion P xs → AllByRecursion P ys → AllByRecursion P (xs ++ ys)
+all_of_both P [] ys all more = more
+all_of_both P (x ∷ xs) ys all more = (all.0, all_of_both P xs ys all.1 more)
+
+pub no_joins : (settings : Settings) (had_jobs : PastSession → Type 0) (counts : Counts) (before : Option (List DialCall)) → Joins settings had_jobs counts counts before before
+no_joins settings had_jobs counts before = record { sessions = []; ended = tt; jobs = tt; links = []; one_each = refl; counts = sym (counted_none counts); calls = sym (called_none before) }
 
 -- one session was joined
-pub one_join : (before now : Option (List DialCall)) (link : Link) → now ≡ then_called before (closed link ∷ []) → Joins before now
-one_join before now link calls = record { links = link ∷ []; calls = calls }
+pub one_join : (settings : Settings) (had_jobs : PastSession → Type 0) (worker : WorkerName) (end : SessionEnd) (link : Link) (old new : Counts) (before now : Option (List DialCall))
+    → IsPast settings had_jobs worker end → new.grabbed ≡ old.grabbed + end.grabbed → new.reported ≡ old.reported + end.reported
+    → now ≡ then_called before (closed link ∷ []) → Joins settings had_jobs old new before now
+one_join settings had_jobs worker end link old new before now past grabs reports calls = record {
+  sessions = past_session worker end past.0 ∷ [];
+  ended = (past.1, tt);
+  jobs = (past.2, tt);
+  links = link ∷ [];
+  one_each = refl;
+  counts = same_counts new (counted old (past_session worker end past.0 ∷ [])) (omega (arith, grabs)) (omega (arith, reports));
+  calls = calls;
+}
 
-pub more_joins : (before between now : Option (List DialCall)) → Joins before between → Joins between now → Joins before now
-more_joins before between now first then = record {
+pub more_joins : (settings : Settings) (had_jobs : PastSession → Type 0) (old mid new : Counts) (before between now : Option (List DialCall)) → Joins settings had_jobs old mid before between
+    → Joins settings had_jobs mid new between now → Joins settings had_jobs old new before now
+more_joins settings had_jobs old mid new before between now first then = record {
+  sessions = first.sessions ++ then.sessions;
+  ended = all_of_both (HasEnded settings) first.sessions then.sessions first.ended then.ended;
+  jobs = all_of_both (λ (s : PastSession). ∥ had_jobs s ∥₁) first.sessions then.sessions first.jobs then.jobs;
   links = first.links ++ then.links;
+  one_each = omega (arith, length-append first.links then.links, length-append first.sessions then.sessions, first.one_each, then.one_each);
+  counts = counted_both old mid new first.sessions then.sessions first.counts then.counts;
   calls = called_both before between now (map closed first.links) (map closed then.links) first.calls then.calls
       ∙ ap (λ l. then_called before l) (sym (map-append closed first.links then.links));
 }
+
+-- the same, told by the totals
+pub same_joins : (settings : Settings) (had_jobs : PastSession → Type 0) (old new : Counts) (totals : Totals) (before now : Option (List DialCall)) → Joins settings had_jobs old new before now
+    → totals.grabbed ≡ new.grabbed → totals.reported ≡ new.reported → Joins settings had_jobs old (counts_of totals) before now
+same_joins settings had_jobs old new totals before now joins grabs reports =
+    record { sessions = joins.sessions; ended = joins.ended; jobs = joins.jobs; links = joins.links; one_each = joins.one_each; counts = same_counts (counts_of totals) new grabs reports ∙ joins.counts; calls = joins.calls }
 
 -- ---- lines
 
@@ -91,37 +122,82 @@ tells_if_not_taken settings load before now (Err line) asks not_taken = tells_no
 
 -- ---- attempts
 
-all_of_both : {A : Type 0} (P : A → Type 0) (xs ys : List A) → AllByRecursion P xs → AllByRecursion P ys → AllByRecursion P (xs ++ ys)
-all_of_both P [] ys all more = more
-all_of_both P (x ∷ xs) ys all more = (all.0, all_of_both P xs ys all.1 more)
+pub no_attempts : (settings : Settings) (allows : Rule) (had_jobs : PastSession → Type 0) (lines : List Attempt) (counts : Counts) (before : Option (List DialCall)) → Attempts settings allows had_jobs lines lines counts counts before before
+no_attempts settings allows had_jobs lines counts before = record { tries = []; lines = sym (append-nil lines); counts = sym (counted_none counts); calls = sym (called_none before); each = tt }
 
-pub no_attempts : (settings : Settings) (allows : Rule) (lines : List Attempt) (before : Option (List DialCall)) → Attempts settings allows lines lines before before
-no_attempts settings allows lines before = record { tries = []; lines = sym (append-nil lines); calls = sym (called_none before); each = tt }
-
-pub one_attempt : (settings : Settings) (allows : Rule) (lines : List Attempt) (line : Attempt) (before joined filled now : Option (List DialCall)) → Joins before joined
-    → Fills settings allows (slots settings) joined filled → Tells settings line filled now → Attempts settings allows lines (lines ++ line ∷ []) before now
-one_attempt settings allows lines line before joined filled now joins fills tells =
-    let try : Try = record { joined = joins.links; looks = fills.looks; asked = tells.asked; line = line } in
+pub one_attempt : (settings : Settings) (allows : Rule) (had_jobs : PastSession → Type 0) (lines : List Attempt) (line : Attempt) (old mid new : Counts) (before joined filled now : Option (List DialCall)) → Joins settings had_jobs old mid before joined
+    → new ≡ mid → Fills settings allows (slots settings) joined filled → Tells settings line filled now → Attempts settings allows had_jobs lines (lines ++ line ∷ []) old new before now
+one_attempt settings allows had_jobs lines line old mid new before joined filled now joins same fills tells =
+    let try : Try = record { joined = joins.sessions; links = joins.links; looks = fills.looks; asked = tells.asked; line = line } in
     let after = called_both joined filled now (flat_map dials_of fills.looks) tells.asked fills.calls tells.calls in
     let all = called_both before joined now (map closed joins.links) (flat_map dials_of fills.looks ++ tells.asked) joins.calls after in
     record {
       tries = try ∷ [];
       lines = refl;
+      counts = same ∙ (joins.counts ∙ ap (λ l. counted old l) (sym (append-nil joins.sessions)));
       calls = all ∙ ap (λ l. then_called before l) (sym (append-nil (calls_of try)));
-      each = ((fills.all, fills.each, tells.follows), tt);
+      each = (record { ended = joins.ended; jobs = joins.jobs; one_each = joins.one_each; all = fills.all; fills = fills.each; follows = tells.follows }, tt);
     }
 
 -- the same attempts, after other lines
-pub attempts_after : (settings : Settings) (allows : Rule) (lines more : List Attempt) (before now : Option (List DialCall)) → Attempts settings allows [] more before now
-    → Attempts settings allows lines (lines ++ more) before now
-attempts_after settings allows lines more before now made = record { tries = made.tries; lines = ap (λ (l : List Attempt). lines ++ l) made.lines; calls = made.calls; each = made.each }
+pub attempts_after : (settings : Settings) (allows : Rule) (had_jobs : PastSession → Type 0) (lines more : List Attempt) (old new : Counts) (before now : Option (List DialCall)) → Attempts settings allows had_jobs [] more old new before now
+    → Attempts settings allows had_jobs lines (lines ++ more) old new before now
+attempts_after settings allows had_jobs lines more old new before now made = record { tries = made.tries; lines = ap (λ (l : List Attempt). lines ++ l) made.lines; counts = made.counts; calls = made.calls; each = made.each }
 
-pub more_attempts : (settings : Settings) (allows : Rule) (old mid new : List Attempt) (before between now : Option (List DialCall)) → Attempts settings allows old mid before between
-    → Attempts settings allows mid new between now → Attempts settings allows old new before now
-more_attempts settings allows old mid new before between now first then = record {
+pub more_attempts : (settings : Settings) (allows : Rule) (had_jobs : PastSession → Type 0) (old mid new : List Attempt) (c d e : Counts) (before between now : Option (List DialCall)) → Attempts settings allows had_jobs old mid c d before between
+    → Attempts settings allows had_jobs mid new d e between now → Attempts settings allows had_jobs old new c e before now
+more_attempts settings allows had_jobs old mid new c d e before between now first then = record {
   tries = first.tries ++ then.tries;
   lines = then.lines ∙ (ap (λ (l : List Attempt). l ++ map line_of then.tries) first.lines ∙ (append_assoc old (map line_of first.tries) (map line_of then.tries) ∙ ap (λ (l : List Attempt). old ++ l) (sym (map-append line_of first.tries then.tries))));
+  counts = counted_both c d e (flat_map joined_of first.tries) (flat_map joined_of then.tries) first.counts then.counts
+      ∙ ap (λ l. counted c l) (sym (flat_map_both joined_of first.tries then.tries));
   calls = called_both before between now (flat_map calls_of first.tries) (flat_map calls_of then.tries) first.calls then.calls
       ∙ ap (λ l. then_called before l) (sym (flat_map_both calls_of first.tries then.tries));
-  each = all_of_both (IsTry settings allows) first.tries then.tries first.each then.each;
+  each = all_of_both (IsTry settings allows had_jobs) first.tries then.tries first.each then.each;
 }
+
+joined_ended : (settings : Settings) (allows : Rule) (had_jobs : PastSession → Type 0) (tries : List Try) → AllByRecursion (IsTry settings allows had_jobs) tries
+    → AllByRecursion (HasEnded settings) (flat_map joined_of tries)
+joined_ended settings allows had_jobs [] all = tt
+joined_ended settings allows had_jobs (try ∷ tries) all =
+    let one = all.0 in all_of_both (HasEnded settings) try.joined (flat_map joined_of tries) one.ended (joined_ended settings allows had_jobs tries all.1)
+
+-- a whole run
+pub dials_of_run : (settings : Settings) (allows : Rule) (had_jobs : PastSession → Type 0) (old new : List Attempt) (first middle : Counts) (totals : Totals) (before between now : Option (List DialCall))
+    → first ≡ no_counts → Attempts settings allows had_jobs old new first middle before between → Joins settings had_jobs middle (counts_of totals) between now
+    → Dials settings allows had_jobs old new totals before now
+dials_of_run settings allows had_jobs old new first middle totals before between now none attempts last =
+    let from_none = subst (λ (c : Counts). Attempts settings allows had_jobs old new c middle before between) none attempts in
+    let ended = all_of_both (HasEnded settings) (flat_map joined_of from_none.tries) last.sessions (joined_ended settings allows had_jobs from_none.tries from_none.each) last.ended in
+    let counts = counted_both no_counts middle (counts_of totals) (flat_map joined_of from_none.tries) last.sessions from_none.counts last.counts in
+    record {
+      middle = middle;
+      between = between;
+      attempts = from_none;
+      last = last;
+      sums = are_sums settings (joined_by from_none.tries last.sessions) totals ended counts;
+    }
+
+-- ---- what is said of jobs
+
+tries_covered : (settings : Settings) (allows : Rule) (wide narrow : PastSession → Type 0) (tries : List Try) → Covers wide narrow
+    → AllByRecursion (IsTry settings allows narrow) tries → AllByRecursion (IsTry settings allows wide) tries
+tries_covered settings allows wide narrow [] covers all = tt
+tries_covered settings allows wide narrow (try ∷ tries) covers all =
+    let one = all.0 in (
+      record { ended = one.ended; jobs = all_covered wide narrow try.joined covers one.jobs; one_each = one.one_each; all = one.all; fills = one.fills; follows = one.follows },
+      tries_covered settings allows wide narrow tries covers all.1,
+    )
+
+pub dials_covered : (settings : Settings) (allows : Rule) (wide narrow : PastSession → Type 0) (old new : List Attempt) (totals : Totals) (before now : Option (List DialCall)) → Covers wide narrow
+    → Dials settings allows narrow old new totals before now → Dials settings allows wide old new totals before now
+dials_covered settings allows wide narrow old new totals before now covers dials =
+    let made = dials.attempts in
+    let last = dials.last in
+    record {
+      middle = dials.middle;
+      between = dials.between;
+      attempts = record { tries = made.tries; lines = made.lines; counts = made.counts; calls = made.calls; each = tries_covered settings allows wide narrow made.tries covers made.each };
+      last = record { sessions = last.sessions; ended = last.ended; jobs = all_covered wide narrow last.sessions covers last.jobs; links = last.links; one_each = last.one_each; counts = last.counts; calls = last.calls };
+      sums = dials.sums;
+    }

@@ -6,22 +6,22 @@ use Rattle.pool_core.specs.declared.answer.Ran.{Ran}
 use Rattle.pool_core.specs.declared.answer.Totals.{Totals}
 use Rattle.pool_supervisor.specs.declared.attempt.Attempt.{Attempt}
 use Rattle.pool_supervisor.specs.declared.attempts.Until.{Until}
-use Rattle.pool_supervisor.specs.declared.attempts.Until.TheVariants.{Rounds, Told}
+use Rattle.pool_supervisor.specs.declared.attempts.Until.TheVariants.{Rounds, Ended}
 use Rattle.pool_supervisor.specs.Counted.{CountAHistory}
 use Rattle.pool_supervisor.specs.Dials.{DialCall}
 use Rattle.pool_supervisor.specs.Rounds.{AreNoted, TellRun}
-use Rattle.pool_supervisor.specs.Sessions.{AddUp}
+use Rattle.pool_supervisor.specs.Sessions.{PastSession}
 use Rattle.pool_supervisor.specs.Tries.{Dials, Rule}
 
 -- how many lines are kept
 abbrev pub most_kept : Until → ℕ
 most_kept (Rounds rounds) = rounds
-most_kept Told = 0
+most_kept Ended = 0
 
 -- what is kept of the lines: all of them, if so many attempts were to be made
 abbrev pub Keeps : Until → List Attempt → List Attempt → Type 0
 Keeps (Rounds rounds) lines kept = (kept ≡ lines) × (length lines ≡ rounds)
-Keeps Told lines kept = ⊤
+Keeps Ended lines kept = ⊤
 
 -- One history of a pool of these settings has both: the totals count its events, and the lines report its rounds, each as what it came to,
 -- in order, and no other round.
@@ -29,12 +29,11 @@ abbrev pub AreOfOneHistory : Settings → Totals → List Attempt → Type 0
 AreOfOneHistory settings totals lines = (rounds : List Ran) × CountAHistory settings totals rounds × AreNoted lines rounds
 
 -- Attempts were made, one after the other, and added these lines, of which some are kept. Then Stop was posted, and the sessions that were
--- left were joined. The lines and the totals are of one history, and the totals are the sums of what sessions by these settings counted.
-pub record IsRun (settings : Settings) (allows : Rule) (until : Until) (old kept : List Attempt) (totals : Totals)
-    (posts : List Post) (before now : Option (List DialCall)) : Type 0 where
+-- left were joined. The lines and the totals are of one history, and the totals are the sums of what the joined sessions counted.
+pub record IsRun (settings : Settings) (allows : Rule) (had_jobs : PastSession → Type 0) (until : Until) (old kept : List Attempt)
+    (totals : Totals) (posts : List Post) (before now : Option (List DialCall)) : Type 0 where
   pub lines : List Attempt
   pub keeps : Keeps until lines kept
   pub tells : TellRun settings old lines posts
-  pub dials : Dials settings allows old lines before now
+  pub dials : Dials settings allows had_jobs old lines totals before now
   pub history : AreOfOneHistory settings totals lines
-  pub sums : AddUp settings totals.grabbed totals.reported

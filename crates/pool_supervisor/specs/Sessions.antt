@@ -1,49 +1,106 @@
 -- What contracts see of a run's sessions.
-use Rattle.std.specs.Prelude.{◌≡◌, ℕ, List, sum_by}
+use Rattle.std.specs.Prelude.{◌≡◌, ℕ, ◌+◌, ◌<◌, List, Option, Some, IfSome, IfNone, sum_by}
 use Rattle.std.specs.List.{AllByRecursion}
 use Rattle.byte_io.specs.Sides.{and_then}
+use Rattle.gear_packets.specs.Response.{AssignedJob}
 use Rattle.worker_state.specs.declared.slot.WorkerName.{WorkerName}
+use Rattle.pool_core.specs.declared.answer.Totals.{Totals}
 use Rattle.pool_settings.specs.Settings.{Settings}
+use Rattle.pool_settings.specs.Slots.{slots}
 use Rattle.job_runner.specs.declared.end.EndCause.TheVariants as cause
 use Rattle.job_runner.specs.declared.end.SessionEnd.{SessionEnd}
+use Rattle.job_runner.specs.declared.jobs.NotDone.{NotDone}
 use Rattle.job_runner.specs.Book.{Ledger}
 use Rattle.job_runner.specs.Course.{session_of}
 use Rattle.job_runner.specs.Loop.{duty_of}
-use Rattle.job_runner.specs.Run.{Link, Served}
-use Rattle.job_runner.specs.Told.{Telling}
+use Rattle.job_runner.specs.Run.{Link, Served, EndTold}
+use Rattle.job_runner.specs.Told.{Told, Telling, IsMeant}
+use Rattle.pool_supervisor.specs.Dials.{IsNew}
 
--- how many run, for how many there is room, and how many could not be started
+-- how many jobs were grabbed, and how many were reported
+pub record Counts : Type 0 where
+  pub grabbed : ℕ
+  pub reported : ℕ
+
+abbrev pub no_counts : Counts
+no_counts = record { grabbed = 0; reported = 0 }
+
+-- how many run, for how many there is room, how many could not be started, and what those counted that have ended
 pub record Sessions : Type 0 where
   pub running : ℕ
   pub room : ℕ
   pub not_started : ℕ
+  pub counts : Counts
 
 -- how a session ends that is given no jobs: before it begins
 abbrev pub turned_away : SessionEnd
 turned_away = record { cause = cause.Unserved; grabbed = 0; answered = 0; reported = 0 }
 
--- The session of a worker of a pool of these settings ended so. Its link showed `first` when it began and `last` at the end, and what a
--- session promises of what it reads and writes holds of it.
-pub record WasServed (settings : Settings) (end : SessionEnd) : Type 0 where
+-- A session that has ended: its worker, how it ended, and what its jobs reported, if it was given jobs.
+pub record PastSession : Type 0 where
   pub worker : WorkerName
+  pub end : SessionEnd
+  pub told : Option (List Telling)
+
+abbrev pub past_session : WorkerName → SessionEnd → Option (List Telling) → PastSession
+past_session worker end told = record { worker = worker; end = end; told = told }
+
+-- The session began on a new link, and what a session promises of what it reads and writes holds of it.
+pub record WasServed (settings : Settings) (session : PastSession) (told : List Telling) : Type 0 where
   pub first : Link
   pub last : Link
+  pub fresh : IsNew first
   pub read : List ℕ
   pub bytes : List ℕ
-  pub told : List Telling
   pub book : Ledger
   pub reads : last.input.given ≡ and_then first.input.given read
   pub writes : last.output.got ≡ and_then first.output.got bytes
-  pub served : Served (session_of (duty_of settings worker) first.output.got read) told bytes first last book end
+  pub served : Served (session_of (duty_of settings session.worker) first.output.got read) told bytes first last book session.end
 
--- A session ended so: it was served, or given no jobs.
-pub data HasEnded (settings : Settings) (end : SessionEnd) : Type 0 where
-  was_served : WasServed settings end → HasEnded settings end
-  had_no_jobs : end ≡ turned_away → HasEnded settings end
+-- The session was of a worker of a pool of these settings. It was served; or it had no jobs, and ended before it began.
+pub record HasEnded (settings : Settings) (session : PastSession) : Type 0 where
+  pub known : session.worker.slot < slots settings
+  pub served : IfSome session.told (WasServed settings session)
+  pub away : IfNone session.told (session.end ≡ turned_away)
 
--- Sessions of these settings have ended, which grabbed and reported so many jobs together.
-pub record AddUp (settings : Settings) (grabbed reported : ℕ) : Type 0 where
-  pub ends : List SessionEnd
-  pub ended : AllByRecursion (HasEnded settings) ends
-  pub grabs : grabbed ≡ sum_by (λ end. end.grabbed) ends
-  pub reports : reported ≡ sum_by (λ end. end.reported) ends
+-- The session's jobs were such as its source may give its worker, and reported what such jobs may. It had none only if the source may deny
+-- its worker jobs.
+pub record HadJobs {J : Type 0} (tells : J → J → AssignedJob → Option Told → Type 0) (fails : J → J → AssignedJob → NotDone → Type 0)
+    (gives : WorkerName → J → Type 0) (denies : WorkerName → Type 0) (session : PastSession) : Type 0 where
+  pub given : IfSome session.told (λ told. (first last : J) × gives session.worker first
+      × EndTold tells fails first last session.end.cause told)
+  pub denied : IfNone session.told (denies session.worker)
+
+-- The session had jobs, each of which reported what this says of its name and input.
+abbrev pub HadNamedJobs : (List ℕ → List ℕ → Option Told) → PastSession → Type 0
+HadNamedJobs meaning session = (told : List Telling) × (session.told ≡ Some told) × AllByRecursion (IsMeant meaning) told
+
+-- A session of this worker has ended so, with such jobs.
+abbrev pub IsPast : Settings → (PastSession → Type 0) → WorkerName → SessionEnd → Type 0
+IsPast settings had_jobs worker end =
+    (told : Option (List Telling)) × HasEnded settings (past_session worker end told) × ∥ had_jobs (past_session worker end told) ∥₁
+
+-- The sessions have ended, and grabbed and reported so many jobs together.
+pub record AreSums (settings : Settings) (sessions : List PastSession) (grabbed reported : ℕ) : Type 0 where
+  pub ended : AllByRecursion (HasEnded settings) sessions
+  pub grabs : grabbed ≡ sum_by (λ session. session.end.grabbed) sessions
+  pub reports : reported ≡ sum_by (λ session. session.end.reported) sessions
+
+abbrev pub counts_of : Totals → Counts
+counts_of totals = record { grabbed = totals.grabbed; reported = totals.reported }
+
+-- the counts before, and what these sessions counted
+abbrev pub counted : Counts → List PastSession → Counts
+counted before sessions =
+    record {
+      grabbed = before.grabbed + sum_by (λ session. session.end.grabbed) sessions;
+      reported = before.reported + sum_by (λ session. session.end.reported) sessions;
+    }
+
+-- each session had such jobs
+abbrev pub AllHad : (PastSession → Type 0) → List PastSession → Type 0
+AllHad had_jobs sessions = AllByRecursion (λ session. ∥ had_jobs session ∥₁) sessions
+
+-- whatever is said by the one is said by the other
+abbrev pub Covers : (PastSession → Type 0) → (PastSession → Type 0) → Type 0
+Covers wide narrow = (session : PastSession) → narrow session → ∥ wide session ∥₁

@@ -4,6 +4,7 @@ use Rattle.std.specs.List.{flat_map, AllByRecursion}
 use Rattle.worker_state.specs.Slots.{is_live}
 use Rattle.job_runner.specs.Run.{Link}
 use Rattle.pool_core.specs.Machine.{State, slot_in}
+use Rattle.pool_core.specs.declared.answer.Totals.{Totals}
 use Rattle.pool_settings.specs.Settings.{Settings}
 use Rattle.pool_settings.specs.Slots.{slots}
 use Rattle.pool_supervisor.specs.declared.attempt.Attempt.{Attempt}
@@ -11,6 +12,7 @@ use Rattle.pool_supervisor.specs.Asking.{Follows}
 use Rattle.pool_supervisor.specs.Dials.{DialCall, failed, opened, closed, then_called}
 use Rattle.pool_supervisor.specs.Joined.{Joins}
 use Rattle.pool_supervisor.specs.Reached.{IsReached}
+use Rattle.pool_supervisor.specs.Sessions.{Counts, PastSession, AllHad, HasEnded, AreSums, counted, counts_of, no_counts}
 
 -- a look at a slot: the pool as it stood then, and the dials that were made for the slot
 pub record Look : Type 0 where
@@ -60,36 +62,56 @@ pub record Fills (settings : Settings) (allows : Rule) (count : ℕ) (before now
   pub all : length looks ≡ count
   pub each : FillFrom settings allows 0 looks
 
--- An attempt: the links of the sessions that it joined, its looks at the slots, its calls for the load, and its line.
+-- An attempt: the sessions that it joined, their links at the end, its looks at the slots, its calls for the load, and its line.
 pub record Try : Type 0 where
-  pub joined : List Link
+  pub joined : List PastSession
+  pub links : List Link
   pub looks : List Look
   pub asked : List DialCall
   pub line : Attempt
 
 abbrev pub calls_of : Try → List DialCall
-calls_of try = map closed try.joined ++ (flat_map dials_of try.looks ++ try.asked)
+calls_of try = map closed try.links ++ (flat_map dials_of try.looks ++ try.asked)
+
+abbrev pub joined_of : Try → List PastSession
+joined_of try = try.joined
 
 abbrev pub line_of : Try → Attempt
 line_of try = try.line
 
--- Every slot was looked at, each once and in order, and the line follows from the calls for the load.
-abbrev pub IsTry : Settings → Rule → Try → Type 0
-IsTry settings allows try =
-    (length try.looks ≡ slots settings) × FillFrom settings allows 0 try.looks × Follows settings try.asked try.line
+-- Each session that it joined was one by these settings, and had such jobs, and one link was closed for each. Every slot was looked at,
+-- each once and in order. The line follows from the calls for the load.
+pub record IsTry (settings : Settings) (allows : Rule) (had_jobs : PastSession → Type 0) (try : Try) : Type 0 where
+  pub ended : AllByRecursion (HasEnded settings) try.joined
+  pub jobs : AllHad had_jobs try.joined
+  pub one_each : length try.links ≡ length try.joined
+  pub all : length try.looks ≡ slots settings
+  pub fills : FillFrom settings allows 0 try.looks
+  pub follows : Follows settings try.asked try.line
 
--- attempts were made one after the other: their lines were added, and these calls were made
-pub record Attempts (settings : Settings) (allows : Rule) (old new : List Attempt) (before now : Option (List DialCall)) : Type 0 where
+-- Attempts were made one after the other: their lines were added, and what the sessions counted that they joined, and these calls were
+-- made.
+pub record Attempts (settings : Settings) (allows : Rule) (had_jobs : PastSession → Type 0) (old new : List Attempt)
+    (first last : Counts) (before now : Option (List DialCall)) : Type 0 where
   pub tries : List Try
   pub lines : new ≡ old ++ map line_of tries
+  pub counts : last ≡ counted first (flat_map joined_of tries)
   pub calls : now ≡ then_called before (flat_map calls_of tries)
-  pub each : AllByRecursion (IsTry settings allows) tries
+  pub each : AllByRecursion (IsTry settings allows had_jobs) tries
 
--- What a run does with links: attempts, one after the other, and then the sessions that are left are joined.
-pub record Dials (settings : Settings) (allows : Rule) (old new : List Attempt) (before now : Option (List DialCall)) : Type 0 where
+-- the sessions that attempts joined, and these
+abbrev pub joined_by : List Try → List PastSession → List PastSession
+joined_by tries last = flat_map joined_of tries ++ last
+
+-- What a run does with links: attempts, one after the other, and then the sessions that are left are joined. The totals are the sums of
+-- what just these sessions counted, each of which was joined once.
+pub record Dials (settings : Settings) (allows : Rule) (had_jobs : PastSession → Type 0) (old new : List Attempt) (totals : Totals)
+    (before now : Option (List DialCall)) : Type 0 where
+  pub middle : Counts
   pub between : Option (List DialCall)
-  pub attempts : Attempts settings allows old new before between
-  pub last : Joins between now
+  pub attempts : Attempts settings allows had_jobs old new no_counts middle before between
+  pub last : Joins settings had_jobs middle (counts_of totals) between now
+  pub sums : AreSums settings (joined_by attempts.tries last.sessions) totals.grabbed totals.reported
 
 -- of each slot it is said that it may have a worker
 abbrev pub all_slots : Rule

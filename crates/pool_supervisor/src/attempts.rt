@@ -1,9 +1,12 @@
 //! The supervisor of a run, and the steps of an attempt, one after the other.
 ghost use Rattle.std.specs.Prelude.{◌≡◌, ◌+◌, ◌-◌, ◌<◌, ◌≤◌, ◌^◌, ◌∷◌, [], List, not, IfOk, OnOk, vec_len, vec_capacity};
 ghost use Rattle.pool_settings.specs.Slots.{slots as slot_count};
+ghost use Rattle.job_runner.specs.Run.{seen_link};
 ghost use Rattle.pool_supervisor.specs.Asking.{Tells};
+ghost use Rattle.pool_supervisor.specs.Dials.{IsNew};
 ghost use Rattle.pool_supervisor.specs.Rounds.{AreNoted, Notes, PostAndStop, Posts, PostSince, StopsAll};
 ghost use Rattle.pool_supervisor.specs.Runs.{IsRun, Keeps, most_kept};
+ghost use Rattle.pool_supervisor.specs.Sessions.{Covers, HadJobs, no_counts};
 ghost use Rattle.pool_supervisor.specs.Tries.{Attempts, Fills, FillsOne, IsSeenAs};
 
 use crate::attempt::Attempt;
@@ -46,7 +49,7 @@ pub enum Until {
     /// Until so many were made. Their lines are kept.
     Rounds(u32),
     /// Until the watch says that the run has to end. No line is kept.
-    Told,
+    Ended,
 }
 
 /// What a run has to tell so far, with room for the lines that it keeps.
@@ -84,6 +87,9 @@ pub struct Supervisor<'e, N: RunId, L: Source + Sink, Y, P, J: JobSource, C, R> 
     pub ghost can_seat: { seats.source.board ≡ N.board },
     /// Which slots may have a worker is for the run's source to say.
     pub ghost rule: { J.allows site.lent.jobs.now ≡ N.allows },
+    /// The jobs that it gives are as the run says.
+    pub ghost source: { Covers N.had_jobs
+        (HadJobs J.Jobs.tells J.Jobs.fails (J.gives site.lent.jobs.now) (J.denies site.lent.jobs.now)) },
 }
 
 impl<'e, N: RunId, J, C: Watch, R: Wait> Site<'e, N, J, C, R> {
@@ -164,10 +170,11 @@ impl<
         N: 's,
         L: 's,
         requires slot { slot < slot_count N.settings }
-        requires link { ((L.output link).failures < 2 ^ 64 - 1) × ((L.input link).failures < 2 ^ 64 - 1) }
+        requires fresh { IsNew (seen_link L.input L.output link) }
         ensures posts { self.new.seats.publisher ≡ self.old.seats.publisher }
         ensures rounds { self.new.rounds ≡ self.old.rounds }
         ensures dial { self.new.dial ≡ self.old.dial }
+        ensures counts { self.new.crew.counts ≡ self.old.crew.counts }
     {
         let site = self.site;
         let Ok(berth) = self.crew.berth(site.lent.alloc) else {
@@ -204,6 +211,7 @@ impl<
         requires slot { slot < slot_count N.settings }
         ensures posts { self.new.seats.publisher ≡ self.old.seats.publisher }
         ensures rounds { self.new.rounds ≡ self.old.rounds }
+        ensures counts { self.new.crew.counts ≡ self.old.crew.counts }
         ensures fills { FillsOne N.settings N.allows slot (Y.calls self.old.dial) (Y.calls self.new.dial) }
     {
         if !self.site.is_empty(slot) {
@@ -227,6 +235,7 @@ impl<
         L: 's,
         ensures posts { self.new.seats.publisher ≡ self.old.seats.publisher }
         ensures rounds { self.new.rounds ≡ self.old.rounds }
+        ensures counts { self.new.crew.counts ≡ self.old.crew.counts }
         ensures fills { OnOk result
             (Fills N.settings N.allows (slot_count N.settings) (Y.calls self.old.dial) (Y.calls self.new.dial)) }
     {
@@ -241,6 +250,7 @@ impl<
         ensures stops { StopsAll N.settings self.old.seats.publisher.posts self.new.seats.publisher.posts }
         ensures rounds { self.new.rounds ≡ self.old.rounds }
         ensures dial { self.new.dial ≡ self.old.dial }
+        ensures crew { self.new.crew ≡ self.old.crew }
     {
         let site = self.site;
         let held = site.shared.hold(site.lent.rt);
@@ -252,6 +262,7 @@ impl<
     fn make_round(&mut self) -> Attempt
         ensures posts { Posts N.settings result self.old.seats.publisher.posts self.new.seats.publisher.posts }
         ensures notes { Notes result self.old.rounds self.new.rounds }
+        ensures crew { self.new.crew ≡ self.old.crew }
         ensures tells { Tells N.settings result (Y.calls self.old.dial) (Y.calls self.new.dial) }
     {
         match self.take_load() {
@@ -275,7 +286,8 @@ impl<
             (λ line. Posts N.settings line self.old.seats.publisher.posts self.new.seats.publisher.posts) }
         ensures notes { IfOk result (λ line. Notes line self.old.rounds self.new.rounds) }
         ensures calls { IfOk result
-            (λ line. Attempts N.settings N.allows [] (line ∷ []) (Y.calls self.old.dial) (Y.calls self.new.dial)) }
+            (λ line. Attempts N.settings N.allows N.had_jobs [] (line ∷ []) self.old.crew.counts self.new.crew.counts
+            (Y.calls self.old.dial) (Y.calls self.new.dial)) }
     {
         let site = self.site;
         self.crew
@@ -319,8 +331,8 @@ impl<
         ensures lines { OnOk result (vec_len lines.new.told ≡ attempts) }
         ensures posts { OnOk result (PostSince N.settings lines.old.told.items lines.new.told.items
             self.old.seats.publisher.posts self.new.seats.publisher.posts) }
-        ensures calls { OnOk result (Attempts N.settings N.allows lines.old.told.items lines.new.told.items
-            (Y.calls self.old.dial) (Y.calls self.new.dial)) }
+        ensures calls { OnOk result (Attempts N.settings N.allows N.had_jobs lines.old.told.items lines.new.told.items
+            self.old.crew.counts self.new.crew.counts (Y.calls self.old.dial) (Y.calls self.new.dial)) }
     {
         let site = self.site;
         while lines.told.len() < attempts as usize {
@@ -333,7 +345,7 @@ impl<
     }
 
     /// Attempts until the watch says that the run has to end. The error is that a thread could not be started.
-    fn attempt_until_told<'s>(
+    fn attempt_until_ended<'s>(
         &mut self,
         scope: &Scope<'s, &'e ()>,
         chapters: &mut u32,
@@ -345,7 +357,8 @@ impl<
         requires noted { AreNoted [] self.old.rounds }
         ensures attempts { OnOk result ((lines : List Attempt)
             × PostSince N.settings [] lines self.old.seats.publisher.posts self.new.seats.publisher.posts
-            × Attempts N.settings N.allows [] lines (Y.calls self.old.dial) (Y.calls self.new.dial)
+            × Attempts N.settings N.allows N.had_jobs [] lines self.old.crew.counts self.new.crew.counts
+            (Y.calls self.old.dial) (Y.calls self.new.dial)
             × AreNoted lines self.new.rounds) }
     {
         let site = self.site;
@@ -374,12 +387,13 @@ impl<
         requires noted { AreNoted lines.old.told.items self.old.rounds }
         ensures attempts { OnOk result ((all : List Attempt) × Keeps lines.old.until all lines.new.told.items
             × PostAndStop N.settings lines.old.told.items all self.old.seats.publisher.posts self.new.seats.publisher.posts
-            × Attempts N.settings N.allows lines.old.told.items all (Y.calls self.old.dial) (Y.calls self.new.dial)
+            × Attempts N.settings N.allows N.had_jobs lines.old.told.items all self.old.crew.counts self.new.crew.counts
+            (Y.calls self.old.dial) (Y.calls self.new.dial)
             × AreNoted all self.new.rounds) }
     {
         let attempted = match lines.until {
             Until::Rounds(rounds) => self.attempt_all(scope, rounds, lines),
-            Until::Told => self.attempt_until_told(scope, &mut lines.chapters),
+            Until::Ended => self.attempt_until_ended(scope, &mut lines.chapters),
         };
         self.stop_all();
         attempted
@@ -396,8 +410,9 @@ impl<
         N: 's,
         L: 's,
         requires noted { AreNoted lines.told.items self.rounds }
-        ensures runs { IfOk result (λ ended. IsRun N.settings N.allows lines.until lines.told.items ended.0.lines.items ended.0.totals
-            self.entry.seats.publisher.posts (Y.calls self.entry.dial) (Y.calls ended.1)) }
+        requires none_joined { self.crew.counts ≡ no_counts }
+        ensures runs { IfOk result (λ ended. IsRun N.settings N.allows N.had_jobs lines.until lines.told.items ended.0.lines.items
+            ended.0.totals self.entry.seats.publisher.posts (Y.calls self.entry.dial) (Y.calls ended.1)) }
     {
         let attempted = self.attempt_and_stop(scope, &mut lines);
         let Supervisor {
@@ -420,15 +435,17 @@ impl<
     /// The run, with its sessions as threads of one scope. All that they are lent has one lifetime. What dials is handed back.
     pub fn run(self, lines: Lines) -> Result<(RunEnd, Y), AllocError>
         requires noted { AreNoted lines.told.items self.rounds }
-        ensures runs { IfOk result (λ ended. IsRun N.settings N.allows lines.until lines.told.items ended.0.lines.items ended.0.totals
-            self.entry.seats.publisher.posts (Y.calls self.entry.dial) (Y.calls ended.1)) }
+        requires none_joined { self.crew.counts ≡ no_counts }
+        ensures runs { IfOk result (λ ended. IsRun N.settings N.allows N.had_jobs lines.until lines.told.items ended.0.lines.items
+            ended.0.totals self.entry.seats.publisher.posts (Y.calls self.entry.dial) (Y.calls ended.1)) }
     {
         thread::scope(
             thread::scope_env(),
             self.site.lent.rt,
             |scope| -> Result<(RunEnd, Y), AllocError>
                 requires noted { AreNoted lines.told.items self.rounds }
-                ensures runs { IfOk result (λ ended. IsRun N.settings N.allows lines.until lines.told.items ended.0.lines.items
+                requires none_joined { self.crew.counts ≡ no_counts }
+                ensures runs { IfOk result (λ ended. IsRun N.settings N.allows N.had_jobs lines.until lines.told.items ended.0.lines.items
                     ended.0.totals self.entry.seats.publisher.posts (Y.calls self.entry.dial) (Y.calls ended.1)) }
             { self.supervise(scope, lines) },
         )

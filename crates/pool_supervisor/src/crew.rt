@@ -1,10 +1,12 @@
 //! The sessions of a run: started as threads, and joined as they end.
 ghost use Rattle.std.specs.Prelude.{◌≡◌, ◌+◌, ◌-◌, ◌<◌, ◌≤◌, ◌^◌, IfSome, OnOk, vec_len};
+ghost use Rattle.job_runner.specs.Run.{seen_link};
 ghost use Rattle.pool_settings.specs.Slots.{slots as slot_count};
 ghost use Rattle.pool_supervisor.specs.Counted.{CountAHistory};
 ghost use Rattle.pool_supervisor.specs.JobCounts.{answered};
+ghost use Rattle.pool_supervisor.specs.Dials.{IsNew};
 ghost use Rattle.pool_supervisor.specs.Joined.{Joins};
-ghost use Rattle.pool_supervisor.specs.Sessions.{AddUp};
+ghost use Rattle.pool_supervisor.specs.Sessions.{Covers, HadJobs, counts_of, no_counts};
 
 use crate::attempts::Lines;
 use crate::dial::Dial;
@@ -20,14 +22,13 @@ use crate::session::{Enrolled, Papers, Returned, Site};
 use byte_io::{Sink, Source};
 use order_board::SeatSource;
 use std::alloc::{AllocError, Global};
-use std::marker::{Model, PhantomData};
+use std::marker::Model;
 use std::snapshot::Snapshot;
 use std::sync::atomic::{AtomicBool, Ordering};
 use std::sync::ledger::Share;
 use std::sync::{Arc, Wait};
 use std::thread;
 use std::thread::{JoinHandle, Scope, Threads};
-use worker_state::WorkerName;
 
 /// Into how many parts the ledgers of a run are cut: one for each session that runs, and one at least for the crew.
 pub const PARTS: u64 = 1 << 40;
@@ -36,14 +37,6 @@ pub const PARTS: u64 = 1 << 40;
 /// is on the heap.
 const STACK: usize = 256 * 1024;
 
-/// The name of a worker of the run.
-#[derive(Drop)]
-struct RunWorker<N: RunId> {
-    name: WorkerName,
-    of: PhantomData<N>,
-    ghost known: { name.slot < slot_count N.settings },
-}
-
 /// A session that was started.
 #[derive(Drop)]
 struct Started<N: RunId, L: Source + Sink> {
@@ -51,7 +44,6 @@ struct Started<N: RunId, L: Source + Sink> {
     handle: JoinHandle<(EndedSession<N>, Snapshot<L>)>,
     /// Set by the session as the last that it does.
     has_ended: Arc<AtomicBool>,
-    worker: RunWorker<N>,
 }
 
 /// Room for one more session: what its start needs of memory but for the thread.
@@ -64,7 +56,7 @@ pub struct Berth {
 /// The sessions that run, and what those that ended handed back.
 ///
 /// Our shares and the running sessions' shares make up both ledgers, less two for each session that failed to start. Our shares
-/// equal the sums of what the sessions reported that have ended.
+/// equal the sums of what the sessions reported that were joined.
 #[derive(Drop)]
 pub struct Crew<N: RunId, L: Source + Sink> {
     running: Vec<Started<N, L>>,
@@ -80,24 +72,29 @@ pub struct Crew<N: RunId, L: Source + Sink> {
 impl<N: RunId, L: Source + Sink> Model for Crew<N, L> {
     ghost use Rattle.std.specs.Prelude.{◌≡◌, ◌+◌, ◌^◌, vec_len, vec_capacity};
     ghost use Rattle.pool_supervisor.specs.JobCounts.{answered};
-    ghost use Rattle.pool_supervisor.specs.Sessions.{AddUp, Sessions};
+    ghost use Rattle.pool_supervisor.specs.Sessions.{Sessions};
 
     ghost Value = { Sessions };
 
-    ghost view = { λ c. record { running = vec_len c.running; room = vec_capacity c.running; not_started = c.not_started } };
+    ghost view = { λ c. record {
+      running = vec_len c.running;
+      room = vec_capacity c.running;
+      not_started = c.not_started;
+      counts = record { grabbed = c.grabbed; reported = c.reported };
+    } };
 
     ghost invariant = { λ c.
         (c.grabs.parts + vec_len c.running + c.not_started ≡ 2 ^ 40) × (c.grabs.amount ≡ c.grabbed)
         × (c.reports.parts + vec_len c.running + c.not_started ≡ 2 ^ 40) × (c.reports.amount ≡ c.reported)
-        × (answered c.jobs ≡ c.reported) × AddUp N.settings c.grabbed c.reported };
+        × (answered c.jobs ≡ c.reported) };
 }
 
 impl<N: RunId, L: Source + Sink> Crew<N, L> {
     /// No session yet, over the whole shares, which stand at 0.
-    #[tactic(auto, using(crate::proofs::Sessions::none_ended))]
     pub fn new(alloc: Global, grabs: Share<Grabs<N>>, reports: Share<Reports<N>>) -> Crew<N, L>
         requires grabs { (grabs.parts ≡ 2 ^ 40) × (grabs.amount ≡ 0) }
         requires reports { (reports.parts ≡ 2 ^ 40) × (reports.amount ≡ 0) }
+        ensures counts { result.counts ≡ no_counts }
     {
         Crew {
             running: Vec::new(alloc),
@@ -114,6 +111,7 @@ impl<N: RunId, L: Source + Sink> Crew<N, L> {
     /// Makes room for one more session. The error is that memory was refused, or that so many run that no part of a ledger is left.
     pub fn berth(&mut self, alloc: Global) -> Result<Berth, AllocError>
         ensures room { OnOk result (self.new.running < self.new.room) }
+        ensures counts { self.new.counts ≡ self.old.counts }
         ensures parts { OnOk result (self.new.running + self.new.not_started + 2 ≤ 2 ^ 40) }
     {
         if self.running.len() as u64 >= PARTS / 2 || self.not_started >= PARTS / 4 {
@@ -147,7 +145,7 @@ impl<N: RunId, L: Source + Sink> Crew<N, L> {
         requires board { source.old.board ≡ N.board }
         ensures one { self.new.running + 1 ≡ self.old.running }
         ensures source { source.new ≡ source.old }
-        ensures joins { Joins (Y.calls dial.old) (Y.calls dial.new) }
+        ensures joins { Joins N.settings N.had_jobs self.old.counts self.new.counts (Y.calls dial.old) (Y.calls dial.new) }
     {
         let Crew {
             running,
@@ -162,16 +160,16 @@ impl<N: RunId, L: Source + Sink> Crew<N, L> {
         let Started {
             handle,
             has_ended: _,
-            worker: RunWorker { name, of: _ },
         } = running.swap_remove(at);
         let (ended, link) = handle.join(site.lent.rt);
+        let (worker, returned) = ended.into_parts();
         let Returned {
             end,
             jobs: jobs_of_session,
             place,
             grabbed: grab_share,
             reported: report_share,
-        } = ended.into_returned();
+        } = returned;
         grabs.merge(grab_share);
         reports.merge(report_share);
         // The books bound the shares, and so the sums.
@@ -182,7 +180,7 @@ impl<N: RunId, L: Source + Sink> Crew<N, L> {
         ends.count(end.cause);
         site.lent.watch.ended(&EndedWorker {
             settings: site.run.settings,
-            worker: name,
+            worker,
             cause: end.cause,
         });
         let Place { seat, of: _ } = place;
@@ -200,7 +198,7 @@ impl<N: RunId, L: Source + Sink> Crew<N, L> {
     )
         requires board { source.old.board ≡ N.board }
         ensures source { source.new ≡ source.old }
-        ensures joins { Joins (Y.calls dial.old) (Y.calls dial.new) }
+        ensures joins { Joins N.settings N.had_jobs self.old.counts self.new.counts (Y.calls dial.old) (Y.calls dial.new) }
     {
         let mut at = self.running.len();
         while at > 0 {
@@ -213,7 +211,7 @@ impl<N: RunId, L: Source + Sink> Crew<N, L> {
 
     /// Joins all sessions, as each ends, and takes the totals: what the run came to, with these lines. The totals are of the history of
     /// which these rounds were told, and are the sums of what its sessions counted. None if a session could not be started.
-    #[tactic(auto, using(crate::proofs::Sessions::same_sums))]
+    #[tactic(auto, using(crate::proofs::Tries::same_joins))]
     pub fn join_all<J, C: Progress, R: Threads + Wait, Y: Dial<L>>(
         mut self,
         site: &Site<'_, N, J, C, R>,
@@ -223,11 +221,11 @@ impl<N: RunId, L: Source + Sink> Crew<N, L> {
         lines: Lines,
     ) -> Option<RunEnd>
         requires board { source.old.board ≡ N.board }
-        ensures joins { Joins (Y.calls dial.old) (Y.calls dial.new) }
+        ensures joins { IfSome result (λ ended. Joins N.settings N.had_jobs self.counts (counts_of ended.totals)
+            (Y.calls dial.old) (Y.calls dial.new)) }
         ensures lines { IfSome result (λ ended. vec_len ended.lines ≡ vec_len lines.told) }
         ensures told { IfSome result (λ ended. ended.lines.items ≡ lines.told.items) }
         ensures counts { IfSome result (λ ended. CountAHistory N.settings ended.totals rounds) }
-        ensures sums { IfSome result (λ ended. AddUp N.settings ended.totals.grabbed ended.totals.reported) }
     {
         while self.running.len() > 0 {
             let last = self.running.len() - 1;
@@ -290,7 +288,9 @@ impl<'e, N: RunId, J: JobSource + Sync, C: Watch + Sync, R: Threads + Wait + Syn
         requires room { crew.old.running < crew.old.room }
         requires parts { crew.old.running + crew.old.not_started + 2 ≤ 2 ^ 40 }
         requires slot { worker.pass.slot < slot_count self.run.settings.now }
-        requires link { ((L.output link).failures < 2 ^ 64 - 1) × ((L.input link).failures < 2 ^ 64 - 1) }
+        requires fresh { IsNew (seen_link L.input L.output link) }
+        requires source { Covers N.had_jobs (HadJobs J.Jobs.tells J.Jobs.fails (J.gives self.lent.jobs.now) (J.denies self.lent.jobs.now)) }
+        ensures counts { crew.new.counts ≡ crew.old.counts }
     {
         let site = self;
         let Crew {
@@ -309,13 +309,11 @@ impl<'e, N: RunId, J: JobSource + Sync, C: Watch + Sync, R: Threads + Wait + Syn
             has_ended,
             of_session,
         } = berth;
-        let worker = RunWorker {
-            name: site.run.worker_of(&papers.worker.pass),
-            of: PhantomData,
-        };
         let work = move || -> (EndedSession<N>, Snapshot<L>)
             requires slot { papers.worker.pass.slot < slot_count site.run.settings.now }
-            requires link { ((L.output link).failures < 2 ^ 64 - 1) × ((L.input link).failures < 2 ^ 64 - 1) }
+            requires fresh { IsNew (seen_link L.input L.output link) }
+            requires source { Covers N.had_jobs
+                (HadJobs J.Jobs.tells J.Jobs.fails (J.gives site.lent.jobs.now) (J.denies site.lent.jobs.now)) }
         {
             let mut link = link;
             let ended = EndedSession::of(&site, &mut link, papers);
@@ -329,11 +327,7 @@ impl<'e, N: RunId, J: JobSource + Sync, C: Watch + Sync, R: Threads + Wait + Syn
             .spawn_scoped(scope, work)
         {
             Ok(handle) => {
-                running.push_reserved(Started {
-                    handle,
-                    has_ended,
-                    worker,
-                });
+                running.push_reserved(Started { handle, has_ended });
                 Ok(())
             }
             Err(_) => {

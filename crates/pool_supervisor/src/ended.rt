@@ -1,7 +1,9 @@
 //! A session that has ended, as its thread hands it back.
-ghost use Rattle.std.specs.Prelude.{◌-◌, ◌<◌, ◌^◌};
+ghost use Rattle.std.specs.Prelude.{◌<◌};
+ghost use Rattle.job_runner.specs.Run.{seen_link};
 ghost use Rattle.pool_settings.specs.Slots.{slots};
-ghost use Rattle.pool_supervisor.specs.Sessions.{HasEnded};
+ghost use Rattle.pool_supervisor.specs.Dials.{IsNew};
+ghost use Rattle.pool_supervisor.specs.Sessions.{Covers, HadJobs, IsPast};
 
 use crate::jobs::JobSource;
 use crate::place::RunId;
@@ -10,23 +12,25 @@ use crate::session::{Papers, Returned, Site, run_worker};
 use byte_io::{Sink, Source};
 use std::marker::Model;
 use std::sync::Wait;
+use worker_state::WorkerName;
 
-/// A session of a worker of the run that has ended: it was served, or ended as one without jobs. Of what a thread returns only the type
-/// is known, so the type says this.
+/// A session of a worker of the run that has ended: it was served with jobs of the run's source, or ended as one without jobs. Of what a
+/// thread returns only the type is known, so the type says this.
 #[derive(Drop)]
 pub struct EndedSession<N: RunId> {
+    worker: WorkerName,
     returned: Returned<N>,
 }
 
 impl<N: RunId> Model for EndedSession<N> {
     ghost use Rattle.job_runner.specs.declared.end.SessionEnd.{SessionEnd};
-    ghost use Rattle.pool_supervisor.specs.Sessions.{HasEnded};
+    ghost use Rattle.pool_supervisor.specs.Sessions.{IsPast};
 
     ghost Value = { SessionEnd };
 
     ghost view = { λ s. s.returned.end };
 
-    ghost invariant = { λ s. HasEnded N.settings s.returned.end };
+    ghost invariant = { λ s. IsPast N.settings N.had_jobs s.worker s.returned.end };
 }
 
 impl<N: RunId> EndedSession<N> {
@@ -37,18 +41,21 @@ impl<N: RunId> EndedSession<N> {
         papers: Papers<N>,
     ) -> EndedSession<N>
         requires slot { papers.worker.pass.slot < slots site.now.run.settings.now }
-        requires output { (L.output link.old).failures < 2 ^ 64 - 1 }
-        requires input { (L.input link.old).failures < 2 ^ 64 - 1 }
+        requires fresh { IsNew (seen_link L.input L.output link.old) }
+        requires source { Covers N.had_jobs (HadJobs J.Jobs.tells J.Jobs.fails (J.gives site.now.lent.jobs.now)
+            (J.denies site.now.lent.jobs.now)) }
     {
+        let worker = papers.worker.pass.name();
         let returned = run_worker(site, link, papers);
-        EndedSession { returned }
+        EndedSession { worker, returned }
     }
 
-    /// What it hands back.
-    pub fn into_returned(self) -> Returned<N>
-        ensures ended { HasEnded N.settings result.end }
+    /// Its worker, and what it hands back.
+    pub fn into_parts(self) -> (WorkerName, Returned<N>)
+        ensures known { result.0.slot < slots N.settings }
+        ensures past { IsPast N.settings N.had_jobs result.0 result.1.end }
     {
-        let EndedSession { returned } = self;
-        returned
+        let EndedSession { worker, returned } = self;
+        (worker, returned)
     }
 }

@@ -41,6 +41,6 @@ pub use planner::{ArenaPlanner, Planner};
 pub use port::{SharedPort, Watch};
 pub use posting::{publish, publish_by};
 pub use queue::Queue;
-pub use run::{RunEnd, run_pool, run_sessions, run_until_told};
+pub use run::{RunEnd, run_pool, run_sessions, run_until_ended};
 pub use session::{Enrolled, Lent, Papers, Returned, Site, run_worker};
 pub use shared::Shared;

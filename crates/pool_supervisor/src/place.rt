@@ -1,29 +1,30 @@
 //! The name of a run, and a session's place at its board.
-ghost use Rattle.std.specs.Prelude.{◌≡◌, ◌<◌, ◌≤◌};
+ghost use Rattle.std.specs.Prelude.{◌≡◌, ◌≤◌};
 ghost use Rattle.atomic_table.specs.Seated.{TableId};
 ghost use Rattle.pool_settings.specs.Slots.{slots};
 
 use agreed_rounds::{RoundsId, RoundsTold};
 use order_board::{Board, ReaderSeat};
-use pool_core::Pass;
 use pool_settings::Settings;
 use std::alloc::AllocError;
 use std::marker::{Brand, PhantomData};
 use std::sync::ledger::Ledger;
-use worker_state::WorkerName;
 
-/// The name of a run: its board, the settings of its pool, which slots its source allows, the ledgers of its grabs and of its reports, and
-/// its rounds. Each call of a program picks it, so that what a thread hands back is known to be of its own run.
+/// The name of a run: its board, the settings of its pool, which slots its source allows and which jobs it gives, the ledgers of its grabs
+/// and of its reports, and its rounds. Each call of a program picks it, so that what a thread hands back is known to be of its own run.
 pub trait RunId {
     ghost use Rattle.std.specs.Prelude.{ℕ, Bool};
     ghost use Rattle.atomic_table.specs.Seated.{TableId};
     ghost use Rattle.pool_settings.specs.Settings.{Settings};
+    ghost use Rattle.pool_supervisor.specs.Sessions.{PastSession};
 
     ghost board: { TableId };
 
     ghost settings: { Settings };
 
     ghost allows: { ℕ → Bool → Bool };
+
+    ghost had_jobs: { PastSession → Type 0 };
 
     ghost grabs: { ℕ };
 
@@ -33,6 +34,7 @@ pub trait RunId {
 }
 
 impl RunId for Brand {
+    ghost use Rattle.std.specs.Prelude.{⊤};
     ghost use Rattle.pool_supervisor.specs.Boards.{no_board, no_settings, no_rule};
 
     ghost board = { no_board };
@@ -40,6 +42,8 @@ impl RunId for Brand {
     ghost settings = { no_settings };
 
     ghost allows = { no_rule };
+
+    ghost had_jobs = { λ _. ⊤ };
 
     ghost grabs = { 0 };
 
@@ -127,17 +131,6 @@ pub struct RunBoard<'e, N: RunId> {
     pub ghost settings_are: { settings.now ≡ N.settings },
     /// There is a place for each slot.
     pub ghost room: { slots settings.now ≤ board.now.slots },
-}
-
-impl<'e, N: RunId> RunBoard<'e, N> {
-    /// The worker that a pass speaks for, which is one of the run's.
-    pub fn worker_of(&self, pass: &Pass) -> WorkerName
-        requires { pass.now.slot < slots self.now.settings.now }
-        ensures worker { result ≡ pass.now }
-        ensures known { result.slot < slots N.settings }
-    {
-        pass.name()
-    }
 }
 
 impl<'e, N: RunId> Clone for RunBoard<'e, N> {

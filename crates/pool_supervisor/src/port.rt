@@ -25,7 +25,7 @@ pub trait Watch {
     /// Lets so many milliseconds pass.
     fn pause(&self, milliseconds: u32);
 
-    /// Whether a run that makes attempts until it is told has to end. Any other run does not ask.
+    /// Whether the run has to end. A run of so many attempts does not ask.
     fn has_to_end(&self) -> bool {
         false
     }

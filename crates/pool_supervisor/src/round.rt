@@ -78,6 +78,7 @@ impl<
         ensures no_round { IfErr result (λ line. is_round line ≡ false) }
         ensures posts { self.new.seats.publisher ≡ self.old.seats.publisher }
         ensures rounds { self.new.rounds ≡ self.old.rounds }
+        ensures crew { self.new.crew ≡ self.old.crew }
     {
         let load = ask_for_load(self.site.lent.alloc, &mut self.dial)?;
         give_load(&self.site, load)
@@ -91,6 +92,7 @@ impl<
         ensures stale { IfNone result ((self.new.seats.publisher ≡ self.old.seats.publisher) × (self.new.rounds ≡ self.old.rounds)) }
         ensures planned { IfSome result (λ line. is_planned line ≡ true) }
         ensures dial { self.new.dial ≡ self.old.dial }
+        ensures crew { self.new.crew ≡ self.old.crew }
     {
         let site = self.site;
         let viewed = match view_pool(&site) {
@@ -124,6 +126,7 @@ impl<
         ensures notes { Notes result self.old.rounds self.new.rounds }
         ensures planned { is_planned result ≡ true }
         ensures dial { self.new.dial ≡ self.old.dial }
+        ensures crew { self.new.crew ≡ self.old.crew }
     {
         for _turn in 0..TRIES {
             if let Some(attempt) = self.try_round() {

@@ -5,7 +5,7 @@ ghost use Rattle.pool_core.specs.Book.{totals_of};
 ghost use Rattle.pool_supervisor.specs.JobCounts.{answered};
 ghost use Rattle.pool_supervisor.specs.Rounds.{TellRun};
 ghost use Rattle.pool_supervisor.specs.Runs.{AreOfOneHistory, IsRun};
-ghost use Rattle.pool_supervisor.specs.Sessions.{AddUp};
+ghost use Rattle.pool_supervisor.specs.Sessions.{Covers, HadJobs, HadNamedJobs};
 ghost use Rattle.pool_supervisor.specs.Tries.{Dials, all_slots};
 
 use crate::attempt::Attempt;
@@ -49,7 +49,7 @@ pub struct RunEnd {
     pub ends: EndCounts,
     /// How many chapters of the history ended.
     pub chapters: u32,
-    /// What each attempt came to, the first one first. Nothing if the run made attempts until it was told.
+    /// What each attempt came to, the first one first. Nothing if the run went on until its watch ended it.
     pub lines: Vec<Attempt>,
     /// Each job that was grabbed is running, reported or lost.
     pub ghost accounts: { totals.grabbed ≡ totals.running + totals.reported + totals.lost },
@@ -109,8 +109,9 @@ impl<'e, L: Source + Sink + Send + Drop, Y: Dial<L> + Drop, P: Planner> Tools<'e
         requires reported { (reported.name ≡ N.reports) × (reported.parts ≡ 2 ^ 40) }
         requires rounds { made.rounds ≡ N.rounds }
         requires rule { J.allows lent.jobs.now ≡ N.allows }
-        ensures runs { IfOk result (λ ended. IsRun made.pool.settings N.allows made.lines.until [] ended.0.lines.items ended.0.totals []
-            (Y.calls self.entry.dial) (Y.calls ended.1)) }
+        requires source { Covers N.had_jobs (HadJobs J.Jobs.tells J.Jobs.fails (J.gives lent.jobs.now) (J.denies lent.jobs.now)) }
+        ensures runs { IfOk result (λ ended. IsRun made.pool.settings N.allows N.had_jobs made.lines.until [] ended.0.lines.items
+            ended.0.totals [] (Y.calls self.entry.dial) (Y.calls ended.1)) }
     {
         let Tools {
             settings,
@@ -154,8 +155,9 @@ impl<'e, L: Source + Sink + Send + Drop, Y: Dial<L> + Drop, P: Planner> Tools<'e
         lent: Lent<'e, J, C, R>,
         until: Until,
     ) -> Result<(RunEnd, Y), AllocError>
-        ensures runs { IfOk result (λ e. IsRun self.entry.settings.now (J.allows lent.entry.jobs.now) until [] e.0.lines.items
-            e.0.totals [] (Y.calls self.entry.dial) (Y.calls e.1)) }
+        ensures runs { IfOk result (λ e. IsRun self.entry.settings.now (J.allows lent.entry.jobs.now)
+            (HadJobs J.Jobs.tells J.Jobs.fails (J.gives lent.entry.jobs.now) (J.denies lent.entry.jobs.now))
+            until [] e.0.lines.items e.0.totals [] (Y.calls self.entry.dial) (Y.calls e.1)) }
     {
         report_lacking(lent.watch, lent.jobs, self.settings);
         let made = make(lent.alloc, self.settings, until)?;
@@ -173,7 +175,7 @@ fn no_lines(alloc: Global, until: Until) -> Result<Lines, AllocError>
 {
     let told = match until {
         Until::Rounds(rounds) => Vec::with_capacity(alloc, rounds as usize)?,
-        Until::Told => Vec::new(alloc),
+        Until::Ended => Vec::new(alloc),
     };
     Ok(Lines {
         told,
@@ -205,7 +207,8 @@ fn make(alloc: Global, settings: &Settings, until: Until) -> Result<Made, AllocE
 /// Runs a pool of these settings for so many attempts, with a session for each slot, and then ends all sessions. Each session has the jobs
 /// that the source gives it. The watch is told of each function without a job, of each attempt, of each worker's end, and of what the run
 /// came to. What dials is handed back with that, so that its calls are known. Lines and totals are of one history, which keeps to the
-/// promise, and the totals are the sums of what sessions counted. The only error is that memory or a thread was refused.
+/// promise, and the totals are the sums of what the joined sessions counted, each of which had jobs of the source or was denied them. The
+/// only error is that memory or a thread was refused.
 pub fn run_sessions<
     L: Source + Sink + Send + Drop,
     Y: Dial<L> + Drop,
@@ -222,8 +225,9 @@ pub fn run_sessions<
     ensures lines { IfOk result (λ e. vec_len e.0.lines ≡ rounds) }
     ensures told { IfOk result (λ e. TellRun settings [] e.0.lines.items []) }
     ensures one_history { IfOk result (λ e. AreOfOneHistory settings e.0.totals e.0.lines.items) }
-    ensures sums { IfOk result (λ e. AddUp settings e.0.totals.grabbed e.0.totals.reported) }
-    ensures dials { IfOk result (λ e. Dials settings (S.allows lent.entry.jobs.now) [] e.0.lines.items (Y.calls dial) (Y.calls e.1)) }
+    ensures dials { IfOk result (λ e. Dials settings (S.allows lent.entry.jobs.now)
+        (HadJobs S.Jobs.tells S.Jobs.fails (S.gives lent.entry.jobs.now) (S.denies lent.entry.jobs.now))
+        [] e.0.lines.items e.0.totals (Y.calls dial) (Y.calls e.1)) }
 {
     let tools: Tools<'_, L, Y, P> = Tools {
         settings: &settings,
@@ -236,7 +240,7 @@ pub fn run_sessions<
 
 /// [`run_sessions`] that makes attempts until the watch says that the run has to end. It keeps no line of an attempt: the watch is told
 /// each.
-pub fn run_until_told<
+pub fn run_until_ended<
     L: Source + Sink + Send + Drop,
     Y: Dial<L> + Drop,
     P: Planner,
@@ -249,9 +253,10 @@ pub fn run_until_told<
     settings: Settings,
 ) -> Result<(RunEnd, Y), AllocError>
     ensures attempts { IfOk result (λ e. (lines : List Attempt) × TellRun settings [] lines []
-        × Dials settings (S.allows lent.entry.jobs.now) [] lines (Y.calls dial) (Y.calls e.1)
+        × Dials settings (S.allows lent.entry.jobs.now)
+        (HadJobs S.Jobs.tells S.Jobs.fails (S.gives lent.entry.jobs.now) (S.denies lent.entry.jobs.now)) [] lines
+        e.0.totals (Y.calls dial) (Y.calls e.1)
         × AreOfOneHistory settings e.0.totals lines) }
-    ensures sums { IfOk result (λ e. AddUp settings e.0.totals.grabbed e.0.totals.reported) }
 {
     let tools: Tools<'_, L, Y, P> = Tools {
         settings: &settings,
@@ -259,10 +264,11 @@ pub fn run_until_told<
         planner,
         links: PhantomData,
     };
-    tools.run_whole(lent, Until::Told)
+    tools.run_whole(lent, Until::Ended)
 }
 
-/// [`run_sessions`] with jobs by name, the same for each session, and with what it is lent one by one.
+/// [`run_sessions`] with jobs by name, the same for each session, and with what it is lent one by one. Each session has them, and they
+/// report what they mean.
 pub fn run_pool<
     L: Source + Sink + Send + Drop,
     Y: Dial<L> + Drop,
@@ -283,8 +289,8 @@ pub fn run_pool<
     ensures lines { IfOk result (λ e. vec_len e.0.lines ≡ rounds) }
     ensures told { IfOk result (λ e. TellRun settings [] e.0.lines.items []) }
     ensures one_history { IfOk result (λ e. AreOfOneHistory settings e.0.totals e.0.lines.items) }
-    ensures sums { IfOk result (λ e. AddUp settings e.0.totals.grabbed e.0.totals.reported) }
-    ensures dials { IfOk result (λ e. Dials settings all_slots [] e.0.lines.items (Y.calls dial) (Y.calls e.1)) }
+    ensures dials { IfOk result (λ e. Dials settings all_slots (HadNamedJobs (J.told jobs.now)) [] e.0.lines.items e.0.totals
+        (Y.calls dial) (Y.calls e.1)) }
 {
     let tools: Tools<'_, L, Y, P> = Tools {
         settings: &settings,

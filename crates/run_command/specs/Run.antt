@@ -14,7 +14,7 @@ use Rattle.pool_settings.specs.Settings.{Settings}
 use Rattle.pool_supervisor.specs.Lines.{attempt_line}
 use Rattle.pool_supervisor.specs.Rounds.{TellRun}
 use Rattle.pool_supervisor.specs.Runs.{AreOfOneHistory}
-use Rattle.pool_supervisor.specs.Sessions.{AddUp}
+use Rattle.pool_supervisor.specs.Sessions.{PastSession, AreSums}
 use Rattle.pool_supervisor.specs.declared.attempt.Attempt.{Attempt}
 use Rattle.pool_supervisor.specs.declared.attempt.Attempt.TheVariants.{NoPlan}
 use Rattle.pool_supervisor.specs.declared.run.RunEnd.{RunEnd}
@@ -50,7 +50,8 @@ IsKeptFrom settings_text f = Reads settings_text (Err f)
 abbrev pub IsRunBy : List ℕ → RunEnd → Type 0
 IsRunBy settings_text ended =
     (settings : Settings) × (reading settings_text ≡ Ok settings) × TellRun settings [] ended.lines.items []
-    × AreOfOneHistory settings ended.totals ended.lines.items × AddUp settings ended.totals.grabbed ended.totals.reported
+    × AreOfOneHistory settings ended.totals ended.lines.items
+    × (sessions : List PastSession) × AreSums settings sessions ended.totals.grabbed ended.totals.reported
 
 -- The settings mean something, a run by them ended after so many attempts, and what it came to is written. Or it is kept from that by a
 -- fault, and nothing is written.

@@ -1,9 +1,9 @@
 //! The command `run`: from a settings text to what a run of the pool came to.
 
-ghost use Rattle.std.specs.Prelude.{◌≡◌, ◌-◌, ◌^◌, ◌<◌, IfErr, IfOk, [], length, string_bytes};
+ghost use Rattle.std.specs.Prelude.{◌≡◌, ◌-◌, ◌^◌, ◌<◌, IfErr, IfOk, List, [], length, string_bytes};
 ghost use Rattle.pool_supervisor.specs.Rounds.{TellRun};
 ghost use Rattle.pool_supervisor.specs.Runs.{AreOfOneHistory};
-ghost use Rattle.pool_supervisor.specs.Sessions.{AddUp};
+ghost use Rattle.pool_supervisor.specs.Sessions.{AreSums, PastSession};
 ghost use Rattle.run_command.specs.Run as spec;
 
 use crate::host::{Host, Route};
@@ -27,7 +27,8 @@ fn run_with<H: Host, J: JobSource + Sync>(
     ensures lines { IfOk result (λ ended. length ended.lines.items ≡ rounds) }
     ensures told { IfOk result (λ ended. TellRun settings [] ended.lines.items []) }
     ensures one_history { IfOk result (λ ended. AreOfOneHistory settings ended.totals ended.lines.items) }
-    ensures sums { IfOk result (λ ended. AddUp settings ended.totals.grabbed ended.totals.reported) }
+    ensures sums { IfOk result (λ ended. (sessions : List PastSession)
+        × AreSums settings sessions ended.totals.grabbed ended.totals.reported) }
 {
     let route = Route {
         host,

@@ -6,7 +6,7 @@ use Rattle.plan_commands.specs.declared.fault.Fault.{Fault}
 use Rattle.pool_settings.specs.Settings.{Settings}
 use Rattle.pool_supervisor.specs.Rounds.{TellRun}
 use Rattle.pool_supervisor.specs.Runs.{AreOfOneHistory}
-use Rattle.pool_supervisor.specs.Sessions.{AddUp}
+use Rattle.pool_supervisor.specs.Sessions.{PastSession, AreSums}
 use Rattle.pool_supervisor.specs.declared.attempt.Attempt.{Attempt}
 use Rattle.pool_supervisor.specs.declared.run.RunEnd.{RunEnd}
 use Rattle.serve_command.specs.Farm.{IsOf, IsRefused}
@@ -19,7 +19,7 @@ use Rattle.service_settings.specs.Services.{Services}
 abbrev pub IsFarmRun : Settings → RunEnd → Type 0
 IsFarmRun settings ended =
     (lines : List Attempt) × TellRun settings [] lines [] × AreOfOneHistory settings ended.totals lines
-    × AddUp settings ended.totals.grabbed ended.totals.reported
+    × (sessions : List PastSession) × AreSums settings sessions ended.totals.grabbed ended.totals.reported
 
 -- The texts mean a farm, and a run of it came to this.
 abbrev pub IsFarmRunBy : List ℕ → List ℕ → RunEnd → Type 0

@@ -13,7 +13,7 @@ use farm_notes::Tally;
 use page_server::PageTimes;
 use plan_commands::{Exit, Fault};
 use pool_settings::Settings;
-use pool_supervisor::{ArenaPlanner, Lent, RunEnd, run_until_told};
+use pool_supervisor::{ArenaPlanner, Lent, RunEnd, run_until_ended};
 use run_command::Route;
 use std::alloc::{AllocError, Global};
 
@@ -76,7 +76,7 @@ fn run_until_end<'x, H: FarmHost>(
         watch: &watch,
         jobs: &source,
     };
-    let (run, _route) = run_until_told(lent, route, &planner, settings)?;
+    let (run, _route) = run_until_ended(lent, route, &planner, settings)?;
     Ok(FarmEnd {
         run,
         outlook: watch.outlook(),

@@ -10,7 +10,7 @@ pub loop-site-init : goal.loop-site-init
 loop-site-init g c = (
   since_none g.N.RunId.settings c.args.lines.now.told.items c.args.self.now.seats.publisher.posts,
   refl,
-  no_attempts g.N.RunId.settings g.N.RunId.allows c.args.lines.now.told.items (g.Y.Dial.calls c.args.self.now.dial),
+  no_attempts g.N.RunId.settings g.N.RunId.allows g.N.RunId.had_jobs c.args.lines.now.told.items c.args.self.now.crew.counts (g.Y.Dial.calls c.args.self.now.dial),
   c.requires.noted,
 )
 
@@ -24,16 +24,19 @@ loop-site-preserved g c =
     let before = c.args.self.now.seats.publisher.posts in
     let between = c.loop-site.self.seats.publisher.posts in
     let after = c.attempt.new.self.seats.publisher.posts in
+    let counts = c.args.self.now.crew.counts in
+    let counting = c.loop-site.self.crew.counts in
+    let counts_now = c.attempt.new.self.crew.counts in
     let called = g.Y.Dial.calls c.args.self.now.dial in
     let calling = g.Y.Dial.calls c.loop-site.self.dial in
     let calls = g.Y.Dial.calls c.attempt.new.self.dial in
     let posts = since_both settings first now more before between after c.loop-site.invariant.0
     (since_one settings now line between after c.in_ok-line.ensures.posts) in
-    let made = more_attempts settings g.N.RunId.allows first now more called calling calls c.loop-site.invariant.2
-    (attempts_after settings g.N.RunId.allows now (line ∷ []) calling calls c.in_ok-line.ensures.calls) in (
+    let made = more_attempts settings g.N.RunId.allows g.N.RunId.had_jobs first now more counts counting counts_now called calling calls c.loop-site.invariant.2
+    (attempts_after settings g.N.RunId.allows g.N.RunId.had_jobs now (line ∷ []) counting counts_now calling calls c.in_ok-line.ensures.calls) in (
       subst (λ (l : List Attempt). PostSince settings first l before after) (sym c.push_reserved.ensures.items) posts,
       c.loop-site.invariant.1,
-      subst (λ (l : List Attempt). Attempts settings g.N.RunId.allows first l called calls) (sym c.push_reserved.ensures.items) made,
+      subst (λ (l : List Attempt). Attempts settings g.N.RunId.allows g.N.RunId.had_jobs first l counts counts_now called calls) (sym c.push_reserved.ensures.items) made,
       subst (λ (l : List Attempt). AreNoted l c.attempt.new.self.rounds) (sym c.push_reserved.ensures.items)
           (noted_more now line c.loop-site.self.rounds c.attempt.new.self.rounds c.loop-site.invariant.3 c.in_ok-line.ensures.notes),
     )

@@ -7,7 +7,7 @@ abbrev pub invariant-loop-site : goal.invariant-loop-site
 invariant-loop-site g l =
     PostSince g.N.RunId.settings l.initial.lines.told.items l.lines.told.items l.initial.self.seats.publisher.posts l.self.seats.publisher.posts
     × (l.lines.until ≡ l.initial.lines.until)
-    × Attempts g.N.RunId.settings g.N.RunId.allows l.initial.lines.told.items l.lines.told.items (g.Y.Dial.calls l.initial.self.dial) (g.Y.Dial.calls l.self.dial)
+    × Attempts g.N.RunId.settings g.N.RunId.allows g.N.RunId.had_jobs l.initial.lines.told.items l.lines.told.items l.initial.self.crew.counts l.self.crew.counts (g.Y.Dial.calls l.initial.self.dial) (g.Y.Dial.calls l.self.dial)
     × AreNoted l.lines.told.items l.self.rounds
 
 abbrev pub decreases-loop-site : goal.decreases-loop-site

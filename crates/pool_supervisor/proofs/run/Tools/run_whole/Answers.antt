@@ -3,15 +3,17 @@ use Rattle.std.specs.Prelude.{IfOk}
 use Rattle.pool_settings.specs.Settings.{Settings}
 use Rattle.pool_supervisor.specs.declared.attempts.Until.{Until}
 use Rattle.pool_supervisor.specs.Runs.{IsRun}
+use Rattle.pool_supervisor.specs.Sessions.{HadJobs}
 use Rattle.pool_supervisor.proofs.run.Tools.run_whole.Goals as goal
 
 pub returns : goal.returns
 returns g c =
+    let had = HadJobs g.J.Jobs.Jobs.tells g.J.Jobs.Jobs.fails (g.J.JobSource.gives c.args.lent.jobs.now) (g.J.JobSource.denies c.args.lent.jobs.now) in
     let called = g.Y.Dial.calls c.args.self.dial in
     let made = c.in_ok-made.made in
     let of_settings =
-    subst (λ (s : Settings). IfOk c.run-ran.result (λ e. IsRun s (g.J.JobSource.allows c.args.lent.jobs.now) made.lines.until [] e.0.lines.items e.0.totals [] called (g.Y.Dial.calls e.1))) c.in_ok-made.ensures.settings c.run-ran.ensures.runs
+    subst (λ (s : Settings). IfOk c.run-ran.result (λ e. IsRun s (g.J.JobSource.allows c.args.lent.jobs.now) had made.lines.until [] e.0.lines.items e.0.totals [] called (g.Y.Dial.calls e.1))) c.in_ok-made.ensures.settings c.run-ran.ensures.runs
     in
     record {
-      runs = subst (λ (u : Until). IfOk c.run-ran.result (λ e. IsRun c.args.self.settings.now (g.J.JobSource.allows c.args.lent.jobs.now) u [] e.0.lines.items e.0.totals [] called (g.Y.Dial.calls e.1))) c.in_ok-made.ensures.until of_settings;
+      runs = subst (λ (u : Until). IfOk c.run-ran.result (λ e. IsRun c.args.self.settings.now (g.J.JobSource.allows c.args.lent.jobs.now) had u [] e.0.lines.items e.0.totals [] called (g.Y.Dial.calls e.1))) c.in_ok-made.ensures.until of_settings;
     }
