@@ -6,11 +6,13 @@ use Rattle.farm_page.specs.declared.view.Evidence.{Evidence}
 use Rattle.gear_status.specs.Status.{Line, status}
 use Rattle.plan_model.specs.Certificate.{Certificate}
 use Rattle.plan_model.specs.Planning.{Instance, is_live}
+use Rattle.plan_model.specs.Shown.{Shown}
 use Rattle.pool_report.specs.Answered.{report_text}
 use Rattle.pool_settings.specs.Names.{name_at}
 use Rattle.pool_settings.specs.Planning.{waiting_of}
 use Rattle.pool_settings.specs.Settings.{Settings}
 use Rattle.pool_settings.specs.Slots.{slots, worker_name}
+use Rattle.pool_supervisor.specs.Steps.{IsMadeOf}
 
 -- the line of a function for which so many jobs wait, and none runs
 abbrev pub status_line : List ℕ → ℕ → List ℕ
@@ -51,3 +53,11 @@ pub record IsSameEvidence (old new : Evidence) : Type 0 where
   pub report : new.report.items ≡ old.report.items
   pub status : new.status.items ≡ old.status.items
   pub lost : map string_bytes new.lost.items ≡ map string_bytes old.lost.items
+
+-- The evidence is that of an answer that is shown for its input, and the input is one of these settings.
+pub record IsOfAShownAnswer (evidence : Evidence) : Type 0 where
+  pub settings : Settings
+  pub certified : Certificate
+  pub input : IsMadeOf settings certified.input
+  pub shown : Shown certified.input certified.answer
+  pub is_its : IsEvidenceOf settings certified evidence

@@ -1,6 +1,6 @@
 -- What is kept of the answers to attempts.
 use Rattle.std.specs.Prelude.{ℕ, Bool, true, false, Option, Some, None, ⊤}
-use Rattle.farm_notes.specs.Evidence.{IsSameEvidence}
+use Rattle.farm_notes.specs.Evidence.{IsOfAShownAnswer, IsSameEvidence}
 use Rattle.farm_notes.specs.declared.found.Found.{Found}
 use Rattle.farm_page.specs.declared.view.Evidence.{Evidence}
 use Rattle.pool_supervisor.specs.declared.attempt.Attempt.{Attempt}
@@ -32,3 +32,8 @@ ShowsEvidence None None = ⊤
 ShowsEvidence None (Some shown) = ⊥
 ShowsEvidence (Some found) None = ⊥
 ShowsEvidence (Some found) (Some shown) = IsSameEvidence found.evidence shown
+
+-- If there is evidence, it is that of an answer that is shown.
+abbrev pub ShowsAShownAnswer : Option Evidence → Type 0
+ShowsAShownAnswer None = ⊤
+ShowsAShownAnswer (Some shown) = IsOfAShownAnswer shown

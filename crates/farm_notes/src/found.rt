@@ -1,11 +1,12 @@
 //! What a page shows of an answer.
 
-ghost use Rattle.std.specs.Prelude.{IfOk};
+ghost use Rattle.std.specs.Prelude.{◌≡◌, IfOk};
 ghost use Rattle.farm_notes.specs.Evidence as spec;
+ghost use Rattle.farm_notes.specs.Notes.{numbered};
 ghost use Rattle.pool_supervisor.specs.Steps.{IsMadeOf};
 
-use crate::evidence::evidence_of;
-use farm_page::{Evidence, Shortage};
+use crate::kept_evidence::KeptEvidence;
+use farm_page::Shortage;
 use plan_model::{Answer, Certified, FuncSet, Input, Plan, TOP_LEVEL, count_neighbours};
 use pool_settings::Settings;
 use std::alloc::{AllocError, Global};
@@ -14,7 +15,7 @@ use std::alloc::{AllocError, Global};
 #[derive(Drop)]
 pub struct Found {
     /// What it can be checked with.
-    pub evidence: Evidence,
+    pub evidence: KeptEvidence,
     /// The functions that are short of workers, if the answer names any.
     pub shortage: Option<Shortage>,
     /// By function, how many jobs wait.
@@ -116,11 +117,24 @@ impl Found {
             ),
         };
         Ok(Found {
-            evidence: evidence_of(alloc, settings, certified)?,
+            evidence: KeptEvidence::of(alloc, settings, certified)?,
             shortage,
             waiting: Vec::from_slice(alloc, input.waiting())?,
             workers,
             alive: alive_by_machine(alloc, input)?,
         })
+    }
+
+    /// The same, as that of an attempt of this number.
+    pub fn numbered(self, attempt: u32) -> Found
+        ensures { result ≡ numbered attempt self }
+    {
+        Found {
+            evidence: self.evidence.numbered(attempt),
+            shortage: self.shortage,
+            waiting: self.waiting,
+            workers: self.workers,
+            alive: self.alive,
+        }
     }
 }

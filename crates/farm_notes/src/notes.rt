@@ -1,7 +1,6 @@
 //! What the page of a farm is made of, kept from attempt to attempt.
 
 ghost use Rattle.std.specs.Prelude.{◌≡◌, ◌<◌, IfOk, None, length};
-ghost use Rattle.farm_notes.specs.Evidence.{IsSameEvidence};
 ghost use Rattle.farm_notes.specs.Notes as spec;
 ghost use Rattle.pool_supervisor.specs.Steps.{IsMadeOf};
 
@@ -93,24 +92,13 @@ fn queue_view(waiting: Option<u32>, jobs: Option<FunctionJobs>) -> Option<QueueV
     waiting.map(|waiting| QueueView { waiting, running })
 }
 
-/// The same evidence again. The only error is out of memory.
-fn copy_evidence(alloc: Global, evidence: &Evidence) -> Result<Evidence, AllocError>
-    ensures { IfOk result (IsSameEvidence evidence.now) }
-{
-    Ok(Evidence {
-        attempt: evidence.attempt,
-        report: Vec::from_slice(alloc, &evidence.report)?,
-        status: Vec::from_slice(alloc, &evidence.status)?,
-        lost: evidence.lost.clone()?,
-    })
-}
-
 /// The evidence of what was found, if anything was. The only error is out of memory.
 fn evidence_shown(alloc: Global, found: &Option<Found>) -> Result<Option<Evidence>, AllocError>
-    ensures { IfOk result (spec.ShowsEvidence found.now) }
+    ensures same { IfOk result (spec.ShowsEvidence found.now) }
+    ensures answers { IfOk result spec.ShowsAShownAnswer }
 {
     match found {
-        Some(found) => Ok(Some(copy_evidence(alloc, &found.evidence)?)),
+        Some(found) => Ok(Some(found.evidence.copy(alloc)?)),
         None => Ok(None),
     }
 }
@@ -144,9 +132,8 @@ impl Kept {
     {
         let found = self.found.take();
         if is_round(made.attempt) {
-            if let Some(mut found) = found {
-                found.evidence.attempt = made.number;
-                self.last = Some(found);
+            if let Some(found) = found {
+                self.last = Some(found.numbered(made.number));
             }
         }
         self.backlogs.add(backlog_of(made.attempt))
@@ -256,7 +243,9 @@ impl Kept {
         made: &Attempted<'_>,
         known: &Known<'_>,
     ) -> Result<FarmView, AllocError>
-        ensures { IfOk result (λ view. spec.ShowsEvidence self.now.last view.evidence) }
+        ensures evidence { IfOk result (λ view. spec.ShowsEvidence self.now.last view.evidence) }
+        ensures answers { IfOk result (λ view. spec.ShowsAShownAnswer view.evidence) }
+        ensures attempt { IfOk result (λ view. view.attempt ≡ made.now.number) }
     {
         let settings = made.settings;
         let evidence = evidence_shown(alloc, &self.last)?;
@@ -316,14 +305,18 @@ impl PageNotes {
         self.kept.lock(rt).ends.count(cause);
     }
 
-    /// What a page shows after an attempt. Its time is left open. The only error is out of memory.
+    /// What a page shows after an attempt. If it has evidence, that is of an answer that is shown for its input, whole. Its time is left open.
+    /// The only error is out of memory.
     pub fn view<R: Wait>(
         &self,
         rt: &R,
         alloc: Global,
         made: &Attempted<'_>,
         known: &Known<'_>,
-    ) -> Result<FarmView, AllocError> {
+    ) -> Result<FarmView, AllocError>
+        ensures answers { IfOk result (λ view. spec.ShowsAShownAnswer view.evidence) }
+        ensures attempt { IfOk result (λ view. view.attempt ≡ made.now.number) }
+    {
         let mut held = self.kept.lock(rt);
         held.note(made)?;
         held.view(alloc, made, known)
