@@ -305,8 +305,8 @@ impl PageNotes {
         self.kept.lock(rt).ends.count(cause);
     }
 
-    /// What a page shows after an attempt. If it has evidence, that is of an answer that is shown for its input, whole. Its time is left open.
-    /// The only error is out of memory.
+    /// What a page shows after an attempt. If it has evidence, that is of an answer that is shown for its input, whole. Its time is left
+    /// open. The only error is out of memory.
     pub fn view<R: Wait>(
         &self,
         rt: &R,
