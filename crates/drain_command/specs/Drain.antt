@@ -11,7 +11,7 @@ use Rattle.http_jobs.specs.Exchange.{Explains}
 use Rattle.http_jobs.specs.Post.{post_text}
 use Rattle.http_jobs.specs.Reasons.{HasStatus, Seen}
 use Rattle.http_jobs.specs.Response.{Answers, OnlyLarger, ends_with_connection, head_limits}
-use Rattle.http_jobs.specs.Serving.{DialCall, IsNew, IsVain, closed, opened}
+use Rattle.http_jobs.specs.Serving.{DialCall, IsNew, IsFailedDial, closed, opened}
 use Rattle.http_jobs.specs.declared.answers.Answer.{Answer}
 use Rattle.http_jobs.specs.declared.answers.Received.{Received}
 use Rattle.http_jobs.specs.declared.answers.Received.TheVariants as received
@@ -104,7 +104,7 @@ IsToldIn calls totals = (after : Link) × EndsOver calls after × IsTold totals 
 -- Why no totals were told: the only dial failed, or the first connection brought no whole answer, or the last one a refusal. Or memory was
 -- refused.
 abbrev pub IsNotToldIn : List DialCall → Fault → Type 0
-IsNotToldIn calls (fault.Page page.Unreached) = IsVain calls
+IsNotToldIn calls (fault.Page page.Unreached) = IsFailedDial calls
 IsNotToldIn calls (fault.Page page.Unanswered) = (after : Link) × BeginsOver calls after × IsUnanswered after
 IsNotToldIn calls (fault.Page (page.Refused status)) = (after : Link) × EndsOver calls after × IsRefused status after
 IsNotToldIn calls fault.Memory = Unit {0}

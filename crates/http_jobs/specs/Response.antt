@@ -119,7 +119,7 @@ pub record Replied : Type 0 where
 abbrev pub reply_of : Reply → Replied
 reply_of r = record { told = told_of r.outcome; failure = r.failure }
 
--- what the job reports, if there was one
+-- what the job reports, or none if the service has no job of its function
 abbrev pub told_in : Option Replied → Option Told
 told_in reply = option_map (λ r. r.told) reply
 

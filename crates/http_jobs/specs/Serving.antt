@@ -29,8 +29,8 @@ pub data DialCall : Type 0 where
   closed : Link → DialCall
 
 -- the only call was a dial that failed
-abbrev pub IsVain : List DialCall → Type 0
-IsVain calls = (why : DialError) × (calls ≡ failed why ∷ [])
+abbrev pub IsFailedDial : List DialCall → Type 0
+IsFailedDial calls = (why : DialError) × (calls ≡ failed why ∷ [])
 
 -- the calls so far, if they are shown, and these more
 abbrev pub then_called : Option (List DialCall) → List DialCall → Option (List DialCall)

@@ -79,7 +79,7 @@ pub fn dial_words(why: DialError) -> &'static str {
         DialError::NoAnswer => "the service did not answer",
         DialError::TooManyFiles => "too many files are open",
         DialError::Memory => "out of memory",
-        DialError::Failed => "it failed",
+        DialError::Failed => "the system gave another error",
     }
 }
 

@@ -37,7 +37,7 @@ pub struct Reply {
 }
 
 impl Reply {
-    /// What its job reports, if there was one.
+    /// What the job reports, or none if the service has no job of its function.
     pub fn outcome_in(reply: Option<Reply>) -> Option<Outcome>
         ensures { option_map told_of result ≡ told_in (option_map reply_of reply) }
     {

@@ -103,7 +103,7 @@ impl<R: Net<Stream = TcpStream> + time::Clock> TcpDial<R> {
         }
     }
 
-    /// A connection over a stream that was just opened.
+    /// A connection over a stream that was just opened. The error says why the system set no times for it.
     fn link_over(&self, stream: TcpStream) -> Result<TcpLink, DialError>
         ensures { IfOk result (λ link. IsNew (seen_link ⟦<TcpLink as Device>⟧.input ⟦<TcpLink as Device>⟧.output link)) }
     {
@@ -114,7 +114,8 @@ impl<R: Net<Stream = TcpStream> + time::Clock> TcpDial<R> {
     }
 }
 
-/// Each address of the host is tried in turn, and the error says why the last one was not reached.
+/// Each address of the host is tried in turn, until one accepts or the time is up. The error is `NoAnswer` if the time is up, else why the
+/// last address was not reached, or why its stream could not be used.
 impl<R: Net<Stream = TcpStream> + time::Clock> Dial<TcpLink> for TcpDial<R> {
     ghost use Rattle.std.specs.Prelude.{◌≡◌, None};
 

@@ -8,10 +8,10 @@ use Rattle.serve_command.specs.declared.hosts.Reason.{Reason}
 use Rattle.serve_command.specs.declared.hosts.Reason.TheVariants.{Unreachable}
 
 -- The dial failed for what this process or machine lacked, and says nothing of the host.
-abbrev pub is_own : DialError → Bool
-is_own TooManyFiles = true
-is_own Memory = true
-is_own other = false
+abbrev pub is_local : DialError → Bool
+is_local TooManyFiles = true
+is_local Memory = true
+is_local other = false
 
 -- why a host is left alone, if it is
 abbrev pub reason_of : HostState → Option Reason
@@ -26,5 +26,5 @@ after_opening before = before
 -- The same after a dial, by what it was before. A dial that failed marks the host, if it did not fail for what was lacked here. One that
 -- succeeded frees a host that was left alone since it was not reached, and no other.
 abbrev pub after_dial : Option Reason → Result (Unit {0}) DialError → Option Reason
-after_dial before (Err why) = if is_own why then before else Some Unreachable
+after_dial before (Err why) = if is_local why then before else Some Unreachable
 after_dial before (Ok _) = after_opening before

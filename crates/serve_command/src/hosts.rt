@@ -1,6 +1,6 @@
 //! Which hosts of a farm are reached, and when one that is not is tried again.
 
-ghost use Rattle.std.specs.Prelude.{◌≡◌, Some};
+ghost use Rattle.std.specs.Prelude.{◌≡◌, IfErr, Some, true};
 ghost use Rattle.serve_command.specs.Hosts as spec;
 
 use devices::DialError;
@@ -17,7 +17,7 @@ const MOST_UNSERVED: u32 = 3;
 /// Why a host is left alone.
 #[derive(Clone, Copy, Debug, PartialEq, Eq)]
 pub enum Reason {
-    /// No connection could be opened.
+    /// A dial failed, and not since files or memory were lacking here.
     Unreachable,
     /// Three jobs, one after the other, were not served.
     Unserved,
@@ -52,8 +52,8 @@ enum HostState {
 }
 
 /// Whether a dial that failed so says nothing of the host: this process or machine lacked what a dial needs.
-fn is_own(why: DialError) -> bool
-    ensures { result ≡ spec.is_own why }
+fn is_local(why: DialError) -> bool
+    ensures { result ≡ spec.is_local why }
 {
     matches!(why, DialError::TooManyFiles | DialError::Memory)
 }
@@ -73,13 +73,14 @@ impl HostState {
         }
     }
 
-    /// After a connection was opened, or could not be. If that was for want of files or memory here, the host is as before.
+    /// After a connection was opened, or could not be. If files or memory were lacking here, the host is as before.
     fn after_dial(self, dialled: Result<(), DialError>, attempt: u64) -> HostState
         ensures marks { spec.reason_of result ≡ spec.after_dial (spec.reason_of self) dialled }
+        ensures stays { IfErr dialled (λ why. spec.is_local why ≡ true → result ≡ self) }
     {
         match dialled {
             Ok(()) => self.after_opening(),
-            Err(why) if is_own(why) => self,
+            Err(why) if is_local(why) => self,
             Err(_) => self.away(Reason::Unreachable, attempt),
         }
     }
@@ -175,8 +176,8 @@ struct Table {
     hosts: Vec<HostEntry>,
 }
 
-/// Which hosts of a farm are reached. A host is left alone if a connection could not be opened to it, until one can; or if three jobs,
-/// one after the other, were not served, until one is. To one that is left alone one worker comes at a time.
+/// Which hosts of a farm are reached. A host is left alone if a dial to it failed, unless files or memory were lacking here, until one
+/// succeeds; or if three jobs, one after the other, were not served, until one is. To one that is left alone one worker comes at a time.
 #[derive(Drop)]
 pub struct Hosts {
     table: Mutex<Table>,
