@@ -6,6 +6,7 @@ serves all, and gives back each body. Prints how many seconds pass until each wo
 bytes are done in a second with 1,000 ahead of the answers, how many seconds the end takes, and memory when all sleep and at its peak.
 """
 import asyncio
+import atexit
 import multiprocessing
 import os
 import subprocess
@@ -84,11 +85,8 @@ def measure(program, files, server, jobs):
     with open(f"{os.path.dirname(files[0])}/out", "w") as out, Seconds() as start:
         words = [program, "serve", *files, "--until-input"]
         child = subprocess.Popen(words, stdin=subprocess.PIPE, stdout=out)
-        try:
-            wait_until(lambda: server.workers("echo") == HOSTS * WORKERS, PATIENCE, "each worker has its function")
-        except AssertionError:
-            child.kill()
-            raise
+        atexit.register(child.kill)
+        wait_until(lambda: server.workers("echo") == HOSTS * WORKERS, PATIENCE, "each worker has its function")
     asleep = memory(child, "VmRSS")
     client = Client(server.port, PATIENCE)
     with Seconds() as work:

@@ -197,6 +197,8 @@ def are_late(edge, waits, failed):
     pipe.give()
     edge.keeps_pace_while(lambda: edge.ask(bad_jobs(f"late-{waits}", failed)))
     take = pipe.read()
+    # From here on the pipe has room, however late its reader is.
+    fcntl.fcntl(pipe.read_end, fcntl.F_SETPIPE_SZ, 1 << 20)
     edge.keeps_pace_while(lambda: edge.ask(good_jobs(f"late-{waits}", 100)))
     edge.end(failed + 100)
     account_for_lines(take(), failed)
@@ -247,6 +249,7 @@ def with_a_silent_resolver(program, processes):
     raise_loopback()
     with socket.socket(socket.AF_INET, socket.SOCK_DGRAM) as resolver:
         resolver.bind((HOST, 53))
+        resolver.settimeout(PATIENCE)
         with open(f"{processes.folder}/resolv.conf", "w") as it:
             it.write(f"nameserver {HOST}\noptions timeout:{LOOKUP_S} attempts:1\n")
         subprocess.run(["mount", "--bind", it.name, "/etc/resolv.conf"], check=True)

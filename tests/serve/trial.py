@@ -1,8 +1,8 @@
 """A farm of six hosts, three of which misbehave: trial.py PROGRAM FOLDER [long]
 
 tests/serve/run calls this. Three hosts run the service of examples/serve with four functions more. The others never answer, answer what
-is no HTTP, or send without an end. Clients ask for jobs of six functions. Meanwhile each healthy host is killed in mid job, the plan
-after the next gives its functions to others, and it is started again and gets jobs; and the server is killed and started again. Each job
+is no HTTP, or send without an end. Clients ask for jobs of six functions. Meanwhile each healthy host is killed in mid job, a plan
+gives its functions to others, and it is started again and gets jobs; and the server is killed and started again. Each job
 has to be answered rightly, and to be in a service's log. The page has to refuse what is asked wrongly, and to give the evidence of a plan
 that `poolman check` finds shown. A drain ends the farm; its totals have to account for each job. SIGTERM has to end the unit's script as
 a drain does, and a services file without a URL has to be refused before anything is dialled.
@@ -194,16 +194,14 @@ class Farm:
         self.services[name] = self.start_service(name)
         wait_until(lambda: not self.is_away(name) and len(self.done(name)) > before, PATIENCE, f"{name} does jobs again")
 
-    def rounds(self):
-        return sum(" round " in line for line in self.lines() if line.startswith("attempt "))
+    def served_without(self, name):
+        """The functions that the last plan gives to other hosts."""
+        places = [line.split()[1:] for line in self.page.text("/report").splitlines() if line.startswith("work ")]
+        return {function for worker, function in places if not worker.startswith(f"{name}/")}
 
     def hold_that_others_have_all(self, name):
-        """The plan after the next gives each function to other hosts than the one that is lost."""
-        before = self.rounds()
-        wait_until(lambda: self.rounds() >= before + 2, PATIENCE, "two plans more")
-        places = [line.split()[1:] for line in self.page.text("/report").splitlines() if line.startswith("work ")]
-        served = {function for worker, function in places if not worker.startswith(f"{name}/")}
-        held(served == set(LEAST), f"without {name} only {served} have workers")
+        """A plan gives each function to other hosts than the one that is lost, whose idle workers live on until they get a job."""
+        wait_until(lambda: self.served_without(name) == set(LEAST), PATIENCE, f"without {name} each function has a worker")
 
     def look_at_its_page(self):
         """A peer sees that it is well, and can check its plan."""
