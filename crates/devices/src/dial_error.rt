@@ -2,6 +2,7 @@
 
 use std::io;
 use std::io::ErrorKind;
+use std::net::{Net, UdpSocket};
 use thiserror::Error;
 
 /// The system's number for a process that may open no more files, and the one for a system that may not (`EMFILE` and `ENFILE`).
@@ -34,7 +35,23 @@ pub enum DialError {
 }
 
 impl DialError {
-    /// Why a name was not looked up.
+    /// Why a name was not found. Where no more files may be open the resolver says no more than that it found nothing, so this looks
+    /// whether a socket can be opened at all.
+    pub fn why_not_found<R: Net>(net: &R, error: &io::Error) -> DialError {
+        let why = DialError::of_lookup(error);
+        if why != DialError::NoAddress {
+            return why;
+        }
+        match UdpSocket::bind(net, "127.0.0.1:0") {
+            Ok(_) => why,
+            Err(error) => match DialError::of_connect(&error) {
+                DialError::TooManyFiles => DialError::TooManyFiles,
+                _ => why,
+            },
+        }
+    }
+
+    /// Why a name was not looked up, by what the system said.
     pub fn of_lookup(error: &io::Error) -> DialError {
         match error.kind() {
             ErrorKind::InvalidInput => DialError::BadName,

@@ -68,7 +68,7 @@ impl TcpLink {
         let patience = Duration::from_millis(lull_ms as u64 * PATIENCE);
         let addresses = match server.to_socket_addrs(net) {
             Ok(addresses) => addresses,
-            Err(error) => return Err(DialError::of_lookup(&error)),
+            Err(error) => return Err(DialError::why_not_found(net, &error)),
         };
         let mut last = DialError::NoAddress;
         for address in addresses {

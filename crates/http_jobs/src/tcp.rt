@@ -7,10 +7,10 @@ use crate::clock::Clock;
 use crate::service_jobs::{Dial, Look};
 use byte_io::Device;
 use devices::{DialError, TcpLink};
-use std::net::{Net, TcpStream, ToSocketAddrs, UdpSocket};
+use std::net::{Net, TcpStream, ToSocketAddrs};
 use std::snapshot::Snapshot;
+use std::time;
 use std::time::Duration;
-use std::{io, time};
 
 /// The system's monotonic clock.
 #[derive(Clone, Copy, Drop)]
@@ -87,22 +87,6 @@ impl<R: Net<Stream = TcpStream> + time::Clock> TcpDial<R> {
         }
     }
 
-    /// Why the host's name was not found. Where no more files may be open the resolver says no more than that it found nothing, so this
-    /// looks whether a socket can be opened at all.
-    fn why_not_found(&self, error: &io::Error) -> DialError {
-        let why = DialError::of_lookup(error);
-        if why != DialError::NoAddress {
-            return why;
-        }
-        match UdpSocket::bind(&self.rt, "127.0.0.1:0") {
-            Ok(_) => why,
-            Err(error) => match DialError::of_connect(&error) {
-                DialError::TooManyFiles => DialError::TooManyFiles,
-                _ => why,
-            },
-        }
-    }
-
     /// A connection over a stream that was just opened. The error says why the system set no times for it.
     fn link_over(&self, stream: TcpStream) -> Result<TcpLink, DialError>
         ensures { IfOk result (λ link. IsNew (seen_link ⟦<TcpLink as Device>⟧.input ⟦<TcpLink as Device>⟧.output link)) }
@@ -124,7 +108,7 @@ impl<R: Net<Stream = TcpStream> + time::Clock> Dial<TcpLink> for TcpDial<R> {
     fn dial(&mut self, deadline: Option<u64>) -> Result<TcpLink, DialError> {
         let addresses = match self.host.as_str().to_socket_addrs(&self.rt) {
             Ok(addresses) => addresses,
-            Err(error) => return Err(self.why_not_found(&error)),
+            Err(error) => return Err(DialError::why_not_found(&self.rt, &error)),
         };
         let end = self.end_of_dial(deadline);
         let mut why = DialError::NoAddress;

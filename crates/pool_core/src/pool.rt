@@ -172,6 +172,13 @@ impl Pool {
         self.standings.forgotten()
     }
 
+    /// How many chapters of the history have ended.
+    pub fn chapters(&self) -> u32
+        ensures { result ≡ self.now.chapters }
+    {
+        self.chapters
+    }
+
     /// The counts of the pool.
     pub fn totals(&self) -> Totals
         ensures exact { result ≡ totals_of self.now }
