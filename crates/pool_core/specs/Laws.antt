@@ -304,6 +304,14 @@ JobsAreHandedOutOnce =
     → AreNext book.forgotten (all_forgotten calls) (last_of book calls).state
     × ((last_of book calls).forgotten ≡ book.forgotten + length (all_forgotten calls))
 
+-- the events of all these chapters, in order
+abbrev pub joined : List (List Event) → List Event
+joined chapters = flat_map (λ chapter. chapter) chapters
+
+-- the events are those of so many chapters, in order
+abbrev pub AreOfChapters : ℕ → List Event → Type 0
+AreOfChapters count events = (chapters : List (List Event)) × (length chapters ≡ count) × (events ≡ joined chapters)
+
 -- After any list of calls the state is the replay of the events that were handed out and of those that are there, from the base
 -- that it was before.
 abbrev pub CallsReplay : Type 0

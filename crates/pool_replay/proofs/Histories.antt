@@ -5,11 +5,11 @@ use Rattle.pool_settings.specs.Settings.{Settings}
 use Rattle.pool_core.specs.declared.event.Event.{Event}
 use Rattle.pool_core.specs.Machine.{State, IsReplay}
 use Rattle.pool_core.specs.Book.{Book, IsStep, next_chapter}
-use Rattle.pool_core.specs.Laws.{Called}
+use Rattle.pool_core.specs.Laws.{Called, joined}
 use Rattle.pool_commands.specs.Grammar.{command_in}
 use Rattle.pool_commands.specs.declared.command.Command.{Command}
 use Rattle.pool_replay.specs.declared.desk.Desk.{Desk}
-use Rattle.pool_replay.specs.Law.{ComesBy, DoesTo, TranscriptsAreHistories, is_chapter, is_chapter_line, joined}
+use Rattle.pool_replay.specs.Law.{ComesBy, DoesTo, TranscriptsAreHistories, is_chapter, is_chapter_line}
 use Rattle.pool_replay.proofs.Called.{called, moves}
 
 -- the pool has come from the older one, and so many chapters have ended at most

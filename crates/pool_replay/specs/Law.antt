@@ -1,11 +1,10 @@
 -- What each command does to the pool, and what all of them do.
 use Rattle.std.specs.Prelude.{◌≡◌, ℕ, ◌+◌, ◌≤◌, List, ◌++◌, length, count_by, Bool, true, false, Option, Some, ◌⊎◌}
-use Rattle.std.specs.List.{flat_map}
 use Rattle.pool_settings.specs.Settings.{Settings}
 use Rattle.pool_core.specs.declared.event.Event.{Event}
 use Rattle.pool_core.specs.Machine.{IsReplay}
 use Rattle.pool_core.specs.Book.{Book, next_chapter}
-use Rattle.pool_core.specs.Laws.{Called}
+use Rattle.pool_core.specs.Laws.{Called, joined}
 use Rattle.pool_commands.specs.Grammar.{command_in}
 use Rattle.pool_commands.specs.declared.command.Command.{Command}
 use Rattle.pool_commands.specs.declared.command.Command.TheVariants as command
@@ -32,10 +31,6 @@ is_chapter _ = false
 
 abbrev pub is_chapter_line : Settings → List ℕ → Bool
 is_chapter_line settings line = is_chapter (command_in settings line)
-
--- the events of all these chapters, in order
-abbrev pub joined : List (List Event) → List Event
-joined chapters = flat_map (λ chapter. chapter) chapters
 
 -- The pool has come from the older one by these events, which are a history of the machine. They follow those that the older one had,
 -- and all of them are the events of the chapters that have ended meanwhile, which were handed out, and then those of the pool.

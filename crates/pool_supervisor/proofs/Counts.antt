@@ -1,5 +1,5 @@
 -- How a call moves the totals, and what they count, by the pool's own laws.
-use Rattle.std.proofs.Common.{◌≡◌, ℕ, ◌+◌, List, [], ◌∷◌, ◌++◌, length, false, refl, sym, ap, subst, ◌∙◌, arith, append_assoc, length-append}
+use Rattle.std.proofs.Common.{◌≡◌, ℕ, zero, suc, ◌+◌, List, [], ◌∷◌, ◌++◌, length, false, refl, sym, ap, subst, ◌∙◌, arith, append_assoc, length-append}
 use Rattle.std.specs.Prelude.{Result, Ok, Err, OnOk, OnErr, Option, Some, None, OnSome, IfNone, count_by}
 use Rattle.std.proofs.lemmas.List.{append-nil}
 use Rattle.pool_settings.specs.Settings.{Settings, AreSettings}
@@ -12,7 +12,7 @@ use Rattle.pool_core.specs.declared.answer.Ran.{Ran}
 use Rattle.plan_model.specs.declared.answer.Answer.{Answer}
 use Rattle.plan_model.specs.declared.answer.Answer.TheVariants as answers
 use Rattle.pool_core.specs.Machine.{State, first, replay, after, after_round, IsHistory, IsPossible, IsReplay}
-use Rattle.pool_core.specs.Laws.{is_grab, is_report, one_if, EventsCount, HistoriesCount, HistoriesJoin, HistoriesAreSound, RoundsAreShown, JobsAreAccountedFor}
+use Rattle.pool_core.specs.Laws.{AreOfChapters, joined, is_grab, is_report, one_if, EventsCount, HistoriesCount, HistoriesJoin, HistoriesAreSound, RoundsAreShown, JobsAreAccountedFor}
 use Rattle.pool_core.specs.Kept.{IsChapter, IsSoundState}
 use Rattle.pool_core.specs.Book.{Book, IsStep, totals_of, ran_of, next_chapter, forget_first}
 use Rattle.pool_supervisor.specs.Counted.{CountsItsEvents, HasRounds, CameTo, round_at, rounds_of}
@@ -32,9 +32,41 @@ same_totals e old new (Err x) counts no_grab no_report step same =
 
 -- ---- histories
 
+-- nothing, so many times
+no_events : ℕ → List (List Event)
+no_events zero = []
+no_events (suc count) = [] ∷ no_events count
+
+none_joined : (count : ℕ) → joined (no_events count) ≡ []
+none_joined zero = refl
+none_joined (suc count) = none_joined count
+
+so_many : (count : ℕ) → length (no_events count) ≡ count
+so_many zero = refl
+so_many (suc count) = ap suc (so_many count)
+
+-- events are those of any number of chapters, and of none if there are none
+in_chapters : (count : ℕ) (events : List Event) → (count ≡ 0 → events ≡ []) → AreOfChapters count events
+in_chapters zero events none = ([], refl, none refl)
+in_chapters (suc count) events none =
+    (events ∷ no_events count, ap suc (so_many count), sym (ap (λ (l : List Event). events ++ l) (none_joined count) ∙ append-nil events))
+
+joined_more : (chapters : List (List Event)) (events : List Event) → joined (chapters ++ events ∷ []) ≡ joined chapters ++ events
+joined_more [] events = append-nil events
+joined_more (c ∷ cs) events = ap (λ (l : List Event). c ++ l) (joined_more cs events) ∙ sym (append_assoc c (joined cs) events)
+
+-- one chapter more
+one_chapter_more : (count : ℕ) (earlier events : List Event) → AreOfChapters count earlier → AreOfChapters (count + 1) (earlier ++ events)
+one_chapter_more count earlier events are = (
+  are.0 ++ events ∷ [],
+  omega (arith, are.1, length-append are.0 (events ∷ [])),
+  ap (λ (l : List Event). l ++ events) are.2 ∙ sym (joined_more are.0 events),
+)
+
 -- the whole history of a pool
 pub record Whole (book : Book) : Type 0 where
   pub earlier : List Event
+  pub chapters_are : AreOfChapters book.chapters earlier
   pub replays : IsReplay book.settings (first book.settings) (earlier ++ book.events) book.state
 
 whole_of : (book : Book) → IsChapter book.settings book.chapters book.events book.state → HistoriesJoin → Whole book
@@ -46,6 +78,7 @@ whole_of book chapter join =
     let joined = join book.settings base before book.events to_base.history from_base in
     record {
       earlier = before;
+      chapters_are = in_chapters book.chapters before chapter.begins.none_before;
       replays = record {
         history = joined.0;
         replayed = chapter.replays.replayed ∙ (ap (λ (s : State). replay book.settings s book.events) to_base.replayed ∙ sym joined.1);
@@ -96,14 +129,15 @@ no_rounds_yet book chapter join none =
     let counted : (replay book.settings (first book.settings) all).rounds ≡ 0 + length (rounds_of book.settings (first book.settings) all) = rounds_counted book.settings (first book.settings) all in
     record {
       earlier = whole.earlier;
+      chapters_are = whole.chapters_are;
       replays = whole.replays;
       rounds_are = sym (none_of (rounds_of book.settings (first book.settings) all) (omega (arith, counted, ap (λ (s : State). s.rounds) whole.replays.replayed, none)));
     }
 
 -- one event more
-has_more : (settings : Settings) (events : List Event) (state : State) (rounds : List Ran) (e : Event) → HistoriesJoin → IsPossible settings e state
-    → HasRounds settings events state rounds → HasRounds settings (events ++ e ∷ []) (after settings e state) (rounds ++ round_at e state)
-has_more settings events state rounds e join possible has =
+has_more : (settings : Settings) (chapters : ℕ) (events : List Event) (state : State) (rounds : List Ran) (e : Event) → HistoriesJoin → IsPossible settings e state
+    → HasRounds settings chapters events state rounds → HasRounds settings chapters (events ++ e ∷ []) (after settings e state) (rounds ++ round_at e state)
+has_more settings chapters events state rounds e join possible has =
     let base = first settings in
     let all = has.earlier ++ events in
     let here : IsHistory settings (replay settings base all) (e ∷ []) = subst (λ (s : State). IsHistory settings s (e ∷ [])) has.replays.replayed (possible, tt) in
@@ -114,6 +148,7 @@ has_more settings events state rounds e join possible has =
     in
     record {
       earlier = has.earlier;
+      chapters_are = has.chapters_are;
       replays = subst (λ (l : List Event). IsReplay settings base l (after settings e state)) same longer;
       rounds_are = ap (λ (l : List Ran). l ++ round_at e state) has.rounds_are
           ∙ (ap (λ (s : State). rounds_of settings base all ++ round_at e s) has.replays.replayed
@@ -123,10 +158,11 @@ has_more settings events state rounds e join possible has =
 step_more : (e : Event) (old new : Book) (rounds : List Ran) → HistoriesJoin → IsStep e old new → CameTo old rounds → CameTo new (rounds ++ round_at e old.state)
 step_more e old new rounds join step has =
     let more = rounds ++ round_at e old.state in
-    let there = has_more old.settings old.events old.state rounds e join step.possible has in
-    let of_state = subst (λ (s : State). HasRounds old.settings (old.events ++ e ∷ []) s more) (sym step.state) there in
-    let of_events = subst (λ (l : List Event). HasRounds old.settings l new.state more) (sym step.events) of_state in
-    subst (λ (s : Settings). HasRounds s new.events new.state more) (sym step.settings) of_events
+    let there = has_more old.settings old.chapters old.events old.state rounds e join step.possible has in
+    let of_state = subst (λ (s : State). HasRounds old.settings old.chapters (old.events ++ e ∷ []) s more) (sym step.state) there in
+    let of_events = subst (λ (l : List Event). HasRounds old.settings old.chapters l new.state more) (sym step.events) of_state in
+    let of_chapters = subst (λ (n : ℕ). HasRounds old.settings n new.events new.state more) (sym step.chapters) of_events in
+    subst (λ (s : Settings). HasRounds s new.chapters new.events new.state more) (sym step.settings) of_chapters
 
 -- an event that is no round
 pub step_without_round : (e : Event) (old new : Book) (rounds : List Ran) → HistoriesJoin → round_at e old.state ≡ [] → IsStep e old new → CameTo old rounds → CameTo new rounds
@@ -153,6 +189,7 @@ next_rounds old new rounds is has =
     let ended : CameTo (next_chapter old) rounds =
     record {
       earlier = all;
+      chapters_are = one_chapter_more old.chapters has.earlier old.events has.chapters_are;
       replays = subst (λ (l : List Event). IsReplay old.settings (first old.settings) l old.state) same has.replays;
       rounds_are = has.rounds_are ∙ ap (λ (l : List Event). rounds_of old.settings (first old.settings) l) same;
     }
@@ -166,7 +203,7 @@ chapter_rounds old new rounds (Err x) is same has = subst (λ (b : Book). CameTo
 -- a job that is forgotten
 pub forgotten_rounds : {A : Type 0} (old new : Book) (rounds : List Ran) (result : Option A) → OnSome result (new ≡ forget_first old) → IfNone result (new ≡ old) → CameTo old rounds → CameTo new rounds
 forgotten_rounds old new rounds (Some x) is same has =
-    let here : CameTo (forget_first old) rounds = record { earlier = has.earlier; replays = has.replays; rounds_are = has.rounds_are } in
+    let here : CameTo (forget_first old) rounds = record { earlier = has.earlier; chapters_are = has.chapters_are; replays = has.replays; rounds_are = has.rounds_are } in
     subst (λ (b : Book). CameTo b rounds) (sym is) here
 forgotten_rounds old new rounds None is same has = subst (λ (b : Book). CameTo b rounds) (sym same) has
 
@@ -193,6 +230,7 @@ counts_its_events book rounds valid has count shown accounted =
     let number : (replay book.settings (first book.settings) all).rounds ≡ 0 + length (rounds_of book.settings (first book.settings) all) = rounds_counted book.settings (first book.settings) all in
     record {
       earlier = has.earlier;
+      chapters_are = has.chapters_are;
       replays = has.replays;
       totals_are = refl;
       grabs = ap (λ (s : State). length s.standings) has.replays.replayed ∙ counted.grabs;

@@ -23,17 +23,18 @@ abbrev pub Keeps : Until → List Attempt → List Attempt → Type 0
 Keeps (Rounds rounds) lines kept = (kept ≡ lines) × (length lines ≡ rounds)
 Keeps Ended lines kept = ⊤
 
--- One history of a pool of these settings has both: the totals count its events, and the lines report its rounds, each as what it came to,
--- in order, and no other round.
-abbrev pub AreOfOneHistory : Settings → Totals → List Attempt → Type 0
-AreOfOneHistory settings totals lines = (rounds : List Ran) × CountAHistory settings totals rounds × AreNoted lines rounds
+-- One history of a pool of these settings has all: the totals count its events, so many of its chapters ended, and the lines report its
+-- rounds, each as what it came to, in order, and no other round.
+abbrev pub AreOfOneHistory : Settings → Totals → ℕ → List Attempt → Type 0
+AreOfOneHistory settings totals chapters lines =
+    (rounds : List Ran) × CountAHistory settings totals chapters rounds × AreNoted lines rounds
 
 -- Attempts were made, one after the other, and added these lines, of which some are kept. Then Stop was posted, and the sessions that were
--- left were joined. The lines and the totals are of one history, and the totals are the sums of what the joined sessions counted.
+-- left were joined. Lines, totals and chapters are of one history, and the totals are the sums of what the joined sessions counted.
 pub record IsRun (settings : Settings) (allows : Rule) (had_jobs : PastSession → Type 0) (until : Until) (old kept : List Attempt)
-    (totals : Totals) (posts : List Post) (before now : Option (List DialCall)) : Type 0 where
+    (totals : Totals) (chapters : ℕ) (posts : List Post) (before now : Option (List DialCall)) : Type 0 where
   pub lines : List Attempt
   pub keeps : Keeps until lines kept
   pub tells : TellRun settings old lines posts
   pub dials : Dials settings allows had_jobs old lines totals before now
-  pub history : AreOfOneHistory settings totals lines
+  pub history : AreOfOneHistory settings totals chapters lines

@@ -57,8 +57,6 @@ pub enum Until {
 pub struct Lines {
     /// What each attempt so far came to, the first one first, if lines are kept.
     pub told: Vec<Attempt>,
-    /// How many chapters of the history ended. It stays at the greatest number that it can hold.
-    pub chapters: u32,
     /// How long the run makes attempts.
     pub until: Until,
     /// There is room for the lines to come.
@@ -272,12 +270,7 @@ impl<
     }
 
     /// The steps of the attempt of this number but for its pause, and what it came to. The error is that a thread could not be started.
-    fn attempt<'s>(
-        &mut self,
-        scope: &Scope<'s, &'e ()>,
-        number: u32,
-        chapters: &mut u32,
-    ) -> Result<Attempt, AllocError>
+    fn attempt<'s>(&mut self, scope: &Scope<'s, &'e ()>, number: u32) -> Result<Attempt, AllocError>
     where
         'e: 's,
         N: 's,
@@ -293,11 +286,7 @@ impl<
         self.crew
             .join_ended(&site, &mut self.seats.source, &mut self.dial);
         // The lock is free when the events of the chapter are dropped.
-        let ended = site.end_chapter_if_due();
-        if ended.is_some() {
-            *chapters = chapters.saturating_add(1);
-        }
-        drop(ended);
+        drop(site.end_chapter_if_due());
         self.start_all(scope)?;
         site.expire_late();
         site.forget_ended();
@@ -337,7 +326,7 @@ impl<
         let site = self.site;
         while lines.told.len() < attempts as usize {
             let number = lines.told.len() as u32 + 1;
-            let line = self.attempt(scope, number, &mut lines.chapters)?;
+            let line = self.attempt(scope, number)?;
             lines.told.push_reserved(line);
             site.lent.watch.pause(site.run.settings.round_ms());
         }
@@ -345,11 +334,7 @@ impl<
     }
 
     /// Attempts until the watch says that the run has to end. The error is that a thread could not be started.
-    fn attempt_until_ended<'s>(
-        &mut self,
-        scope: &Scope<'s, &'e ()>,
-        chapters: &mut u32,
-    ) -> Result<(), AllocError>
+    fn attempt_until_ended<'s>(&mut self, scope: &Scope<'s, &'e ()>) -> Result<(), AllocError>
     where
         'e: 's,
         N: 's,
@@ -368,7 +353,7 @@ impl<
                 return Ok(());
             }
             number = number.saturating_add(1);
-            self.attempt(scope, number, chapters)?;
+            self.attempt(scope, number)?;
             site.lent.watch.pause(site.run.settings.round_ms());
         }
         Ok(())
@@ -393,7 +378,7 @@ impl<
     {
         let attempted = match lines.until {
             Until::Rounds(rounds) => self.attempt_all(scope, rounds, lines),
-            Until::Ended => self.attempt_until_ended(scope, &mut lines.chapters),
+            Until::Ended => self.attempt_until_ended(scope),
         };
         self.stop_all();
         attempted
@@ -412,7 +397,7 @@ impl<
         requires noted { AreNoted lines.told.items self.rounds }
         requires none_joined { self.crew.counts ≡ no_counts }
         ensures runs { IfOk result (λ ended. IsRun N.settings N.allows N.had_jobs lines.until lines.told.items ended.0.lines.items
-            ended.0.totals self.entry.seats.publisher.posts (Y.calls self.entry.dial) (Y.calls ended.1)) }
+            ended.0.totals ended.0.chapters self.entry.seats.publisher.posts (Y.calls self.entry.dial) (Y.calls ended.1)) }
     {
         let attempted = self.attempt_and_stop(scope, &mut lines);
         let Supervisor {
@@ -437,7 +422,7 @@ impl<
         requires noted { AreNoted lines.told.items self.rounds }
         requires none_joined { self.crew.counts ≡ no_counts }
         ensures runs { IfOk result (λ ended. IsRun N.settings N.allows N.had_jobs lines.until lines.told.items ended.0.lines.items
-            ended.0.totals self.entry.seats.publisher.posts (Y.calls self.entry.dial) (Y.calls ended.1)) }
+            ended.0.totals ended.0.chapters self.entry.seats.publisher.posts (Y.calls self.entry.dial) (Y.calls ended.1)) }
     {
         thread::scope(
             thread::scope_env(),
@@ -446,7 +431,7 @@ impl<
                 requires noted { AreNoted lines.told.items self.rounds }
                 requires none_joined { self.crew.counts ≡ no_counts }
                 ensures runs { IfOk result (λ ended. IsRun N.settings N.allows N.had_jobs lines.until lines.told.items ended.0.lines.items
-                    ended.0.totals self.entry.seats.publisher.posts (Y.calls self.entry.dial) (Y.calls ended.1)) }
+                    ended.0.totals ended.0.chapters self.entry.seats.publisher.posts (Y.calls self.entry.dial) (Y.calls ended.1)) }
             { self.supervise(scope, lines) },
         )
     }

@@ -181,7 +181,7 @@ impl<N: RunId, L: Source + Sink> Crew<N, L> {
         site.lent.watch.ended(&EndedWorker {
             settings: site.run.settings,
             worker,
-            cause: end.cause,
+            end,
         });
         let Place { seat, of: _ } = place;
         site.run.board.give_back(seat, source);
@@ -209,8 +209,9 @@ impl<N: RunId, L: Source + Sink> Crew<N, L> {
         }
     }
 
-    /// Joins all sessions, as each ends, and takes the totals: what the run came to, with these lines. The totals are of the history of
-    /// which these rounds were told, and are the sums of what its sessions counted. None if a session could not be started.
+    /// Joins all sessions, as each ends, and takes the totals: what the run came to, with these lines. Totals and chapters are of the
+    /// history of which these rounds were told, and the totals are the sums of what its sessions counted. None if a session could not be
+    /// started.
     #[tactic(auto, using(crate::proofs::Tries::same_joins))]
     pub fn join_all<J, C: Progress, R: Threads + Wait, Y: Dial<L>>(
         mut self,
@@ -225,7 +226,7 @@ impl<N: RunId, L: Source + Sink> Crew<N, L> {
             (Y.calls dial.old) (Y.calls dial.new)) }
         ensures lines { IfSome result (λ ended. vec_len ended.lines ≡ vec_len lines.told) }
         ensures told { IfSome result (λ ended. ended.lines.items ≡ lines.told.items) }
-        ensures counts { IfSome result (λ ended. CountAHistory N.settings ended.totals rounds) }
+        ensures counts { IfSome result (λ ended. CountAHistory N.settings ended.totals ended.chapters rounds) }
     {
         while self.running.len() > 0 {
             let last = self.running.len() - 1;
@@ -244,16 +245,11 @@ impl<N: RunId, L: Source + Sink> Crew<N, L> {
             ends,
             not_started: _,
         } = self;
-        let Lines {
-            told,
-            chapters,
-            until: _,
-        } = lines;
         let rt = site.lent.rt;
-        let totals = site
-            .shared
-            .hold(rt)
-            .settle(rt, &mut grabs, &mut reports, rounds);
+        let mut held = site.shared.hold(rt);
+        let totals = held.settle(rt, &mut grabs, &mut reports, rounds);
+        let chapters = held.pool().chapters();
+        let Lines { told, until: _ } = lines;
         Some(RunEnd {
             totals,
             grabbed,

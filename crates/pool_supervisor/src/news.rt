@@ -6,7 +6,7 @@ ghost use Rattle.pool_supervisor.specs.Steps.{IsMadeOf};
 use crate::attempt::Attempt;
 use crate::queue::Queue;
 use crate::run::RunEnd;
-use job_runner::EndCause;
+use job_runner::SessionEnd;
 use plan_model::{Certified, FuncId, SlotId};
 use pool_core::JoinError;
 use pool_settings::Settings;
@@ -45,8 +45,8 @@ pub struct EndedWorker<'a> {
     pub settings: &'a Settings,
     /// The worker.
     pub worker: WorkerName,
-    /// Why its session ended.
-    pub cause: EndCause,
+    /// How its session ended. If it reported fewer jobs than it grabbed, it left one without an answer.
+    pub end: SessionEnd,
     /// The worker is one of the settings.
     pub ghost known: { worker.slot < slots settings.now },
 }

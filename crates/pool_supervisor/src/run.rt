@@ -111,7 +111,7 @@ impl<'e, L: Source + Sink + Send + Drop, Y: Dial<L> + Drop, P: Planner> Tools<'e
         requires rule { J.allows lent.jobs.now ≡ N.allows }
         requires source { Covers N.had_jobs (HadJobs J.Jobs.tells J.Jobs.fails (J.gives lent.jobs.now) (J.denies lent.jobs.now)) }
         ensures runs { IfOk result (λ ended. IsRun made.pool.settings N.allows N.had_jobs made.lines.until [] ended.0.lines.items
-            ended.0.totals [] (Y.calls self.entry.dial) (Y.calls ended.1)) }
+            ended.0.totals ended.0.chapters [] (Y.calls self.entry.dial) (Y.calls ended.1)) }
     {
         let Tools {
             settings,
@@ -157,7 +157,7 @@ impl<'e, L: Source + Sink + Send + Drop, Y: Dial<L> + Drop, P: Planner> Tools<'e
     ) -> Result<(RunEnd, Y), AllocError>
         ensures runs { IfOk result (λ e. IsRun self.entry.settings.now (J.allows lent.entry.jobs.now)
             (HadJobs J.Jobs.tells J.Jobs.fails (J.gives lent.entry.jobs.now) (J.denies lent.entry.jobs.now))
-            until [] e.0.lines.items e.0.totals [] (Y.calls self.entry.dial) (Y.calls e.1)) }
+            until [] e.0.lines.items e.0.totals e.0.chapters [] (Y.calls self.entry.dial) (Y.calls e.1)) }
     {
         report_lacking(lent.watch, lent.jobs, self.settings);
         let made = make(lent.alloc, self.settings, until)?;
@@ -177,11 +177,7 @@ fn no_lines(alloc: Global, until: Until) -> Result<Lines, AllocError>
         Until::Rounds(rounds) => Vec::with_capacity(alloc, rounds as usize)?,
         Until::Ended => Vec::new(alloc),
     };
-    Ok(Lines {
-        told,
-        chapters: 0,
-        until,
-    })
+    Ok(Lines { told, until })
 }
 
 /// What a run of these settings makes: its pool, its board, and room for its lines. The error is that memory was refused.
@@ -224,7 +220,7 @@ pub fn run_sessions<
 ) -> Result<(RunEnd, Y), AllocError>
     ensures lines { IfOk result (λ e. vec_len e.0.lines ≡ rounds) }
     ensures told { IfOk result (λ e. TellRun settings [] e.0.lines.items []) }
-    ensures one_history { IfOk result (λ e. AreOfOneHistory settings e.0.totals e.0.lines.items) }
+    ensures one_history { IfOk result (λ e. AreOfOneHistory settings e.0.totals e.0.chapters e.0.lines.items) }
     ensures dials { IfOk result (λ e. Dials settings (S.allows lent.entry.jobs.now)
         (HadJobs S.Jobs.tells S.Jobs.fails (S.gives lent.entry.jobs.now) (S.denies lent.entry.jobs.now))
         [] e.0.lines.items e.0.totals (Y.calls dial) (Y.calls e.1)) }
@@ -256,7 +252,7 @@ pub fn run_until_ended<
         × Dials settings (S.allows lent.entry.jobs.now)
         (HadJobs S.Jobs.tells S.Jobs.fails (S.gives lent.entry.jobs.now) (S.denies lent.entry.jobs.now)) [] lines
         e.0.totals (Y.calls dial) (Y.calls e.1)
-        × AreOfOneHistory settings e.0.totals lines) }
+        × AreOfOneHistory settings e.0.totals e.0.chapters lines) }
 {
     let tools: Tools<'_, L, Y, P> = Tools {
         settings: &settings,
@@ -288,7 +284,7 @@ pub fn run_pool<
 ) -> Result<(RunEnd, Y), AllocError>
     ensures lines { IfOk result (λ e. vec_len e.0.lines ≡ rounds) }
     ensures told { IfOk result (λ e. TellRun settings [] e.0.lines.items []) }
-    ensures one_history { IfOk result (λ e. AreOfOneHistory settings e.0.totals e.0.lines.items) }
+    ensures one_history { IfOk result (λ e. AreOfOneHistory settings e.0.totals e.0.chapters e.0.lines.items) }
     ensures dials { IfOk result (λ e. Dials settings all_slots (HadNamedJobs (J.told jobs.now)) [] e.0.lines.items e.0.totals
         (Y.calls dial) (Y.calls e.1)) }
 {

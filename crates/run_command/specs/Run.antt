@@ -50,7 +50,7 @@ IsKeptFrom settings_text f = Reads settings_text (Err f)
 abbrev pub IsRunBy : List ℕ → RunEnd → Type 0
 IsRunBy settings_text ended =
     (settings : Settings) × (reading settings_text ≡ Ok settings) × TellRun settings [] ended.lines.items []
-    × AreOfOneHistory settings ended.totals ended.lines.items
+    × AreOfOneHistory settings ended.totals ended.chapters ended.lines.items
     × (sessions : List PastSession) × AreSums settings sessions ended.totals.grabbed ended.totals.reported
 
 -- The settings mean something, a run by them ended after so many attempts, and what it came to is written. Or it is kept from that by a

@@ -26,7 +26,7 @@ fn run_with<H: Host, J: JobSource + Sync>(
 ) -> Result<RunEnd, AllocError>
     ensures lines { IfOk result (λ ended. length ended.lines.items ≡ rounds) }
     ensures told { IfOk result (λ ended. TellRun settings [] ended.lines.items []) }
-    ensures one_history { IfOk result (λ ended. AreOfOneHistory settings ended.totals ended.lines.items) }
+    ensures one_history { IfOk result (λ ended. AreOfOneHistory settings ended.totals ended.chapters ended.lines.items) }
     ensures sums { IfOk result (λ ended. (sessions : List PastSession)
         × AreSums settings sessions ended.totals.grabbed ended.totals.reported) }
 {

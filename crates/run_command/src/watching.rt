@@ -46,8 +46,8 @@ pub fn worker_note(alloc: Global, ended: &EndedWorker<'_>) -> Result<String, All
     let worker = ended
         .settings
         .worker_text(alloc, ended.worker.slot, ended.worker.generation)?;
-    let cause = ended.cause.label().name();
-    let why = reason(ended.cause);
+    let cause = ended.end.cause.label().name();
+    let why = reason(ended.end.cause);
     format!(in alloc; "ended {worker} {cause} ({why})")
 }
 

@@ -18,7 +18,7 @@ use Rattle.service_settings.specs.Services.{Services}
 -- what sessions by these settings counted. Some lines, which are not kept, report just the rounds of that history.
 abbrev pub IsFarmRun : Settings → RunEnd → Type 0
 IsFarmRun settings ended =
-    (lines : List Attempt) × TellRun settings [] lines [] × AreOfOneHistory settings ended.totals lines
+    (lines : List Attempt) × TellRun settings [] lines [] × AreOfOneHistory settings ended.totals ended.chapters lines
     × (sessions : List PastSession) × AreSums settings sessions ended.totals.grabbed ended.totals.reported
 
 -- The texts mean a farm, and a run of it came to this.

@@ -178,7 +178,7 @@ impl<'e, H: FarmHost> Progress for Reporting<'e, H> {
         self.hosts.has_ended(self, machine);
         self.host.tell(ended_line(self.alloc, ended));
         if let Some(notes) = &self.notes {
-            notes.ended(self, ended.cause);
+            notes.ended(self, ended.end.cause);
         }
     }
 
@@ -210,7 +210,7 @@ fn ended_line(alloc: Global, ended: &EndedWorker<'_>) -> Result<String, AllocErr
     let worker = ended
         .settings
         .worker_text(alloc, ended.worker.slot, ended.worker.generation)?;
-    let cause = ended.cause.label().name();
+    let cause = ended.end.cause.label().name();
     format!(in alloc; "ended {worker} {cause}")
 }
 
