@@ -6,4 +6,5 @@ pub mod Kept
 pub mod Calls
 pub mod View
 pub mod Laws
+pub mod Promise
 pub mod Totals

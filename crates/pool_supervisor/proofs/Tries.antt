@@ -14,7 +14,7 @@ use Rattle.job_runner.specs.Run.{Link}
 use Rattle.worker_state.specs.declared.slot.WorkerName.{WorkerName}
 use Rattle.pool_supervisor.specs.Dials.{DialCall, closed, then_called}
 use Rattle.pool_supervisor.specs.Joined.{Joins}
-use Rattle.pool_supervisor.specs.Sessions.{Counts, no_counts, counts_of, counted, PastSession, past_session, HasEnded, IsPast, Covers}
+use Rattle.pool_supervisor.specs.Sessions.{Counts, no_counts, counts_of, counted, PastSession, past_session, AllHad, HasEnded, IsPast, Covers}
 use Rattle.pool_supervisor.specs.Tries.{Rule, Look, dials_of, IsOneDial, DialsOnce, FillsSlot, FillFrom, IsSeenAs, FillsOne, Fills, Try, calls_of, joined_of, joined_by, line_of, IsTry, Attempts, Dials}
 use Rattle.pool_supervisor.proofs.Sessions.{all_covered, are_sums, counted_both, counted_none, same_counts}
 use Rattle.pool_supervisor.proofs.Called.{called_none, called_both, flat_map_both}
@@ -162,6 +162,12 @@ joined_ended settings allows had_jobs [] all = tt
 joined_ended settings allows had_jobs (try ∷ tries) all =
     let one = all.0 in all_of_both (HasEnded settings) try.joined (flat_map joined_of tries) one.ended (joined_ended settings allows had_jobs tries all.1)
 
+joined_had : (settings : Settings) (allows : Rule) (had_jobs : PastSession → Type 0) (tries : List Try) → AllByRecursion (IsTry settings allows had_jobs) tries
+    → AllHad had_jobs (flat_map joined_of tries)
+joined_had settings allows had_jobs [] all = tt
+joined_had settings allows had_jobs (try ∷ tries) all =
+    let one = all.0 in all_of_both (λ (s : PastSession). ∥ had_jobs s ∥₁) try.joined (flat_map joined_of tries) one.jobs (joined_had settings allows had_jobs tries all.1)
+
 -- a whole run
 pub dials_of_run : (settings : Settings) (allows : Rule) (had_jobs : PastSession → Type 0) (old new : List Attempt) (first middle : Counts) (totals : Totals) (before between now : Option (List DialCall))
     → first ≡ no_counts → Attempts settings allows had_jobs old new first middle before between → Joins settings had_jobs middle (counts_of totals) between now
@@ -176,6 +182,8 @@ dials_of_run settings allows had_jobs old new first middle totals before between
       attempts = from_none;
       last = last;
       sums = are_sums settings (joined_by from_none.tries last.sessions) totals ended counts;
+      jobs = all_of_both (λ (s : PastSession). ∥ had_jobs s ∥₁) (flat_map joined_of from_none.tries) last.sessions
+          (joined_had settings allows had_jobs from_none.tries from_none.each) last.jobs;
     }
 
 -- ---- what is said of jobs
@@ -200,4 +208,5 @@ dials_covered settings allows wide narrow old new totals before now covers dials
       attempts = record { tries = made.tries; lines = made.lines; counts = made.counts; calls = made.calls; each = tries_covered settings allows wide narrow made.tries covers made.each };
       last = record { sessions = last.sessions; ended = last.ended; jobs = all_covered wide narrow last.sessions covers last.jobs; links = last.links; one_each = last.one_each; counts = last.counts; calls = last.calls };
       sums = dials.sums;
+      jobs = all_covered wide narrow (joined_by made.tries last.sessions) covers dials.jobs;
     }

@@ -8,7 +8,7 @@ use Rattle.pool_core.specs.declared.event.Event.TheVariants.{Round}
 use Rattle.pool_core.specs.Machine.{State, first, after, IsReplay}
 use Rattle.pool_core.specs.Laws.{is_grab, is_report, AreOfChapters}
 use Rattle.pool_core.specs.Book.{Book, ran_of, totals_of}
-use Rattle.pool_supervisor.specs.Promise.{KeepsItsPromise}
+use Rattle.pool_core.specs.Promise.{KeepsItsPromise}
 
 -- what an event came to in this state, if it is a round
 abbrev pub round_at : Event → State → List Ran

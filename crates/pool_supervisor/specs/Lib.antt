@@ -6,7 +6,6 @@ pub mod JobCounts
 pub mod Joined
 pub mod Lines
 pub mod PortCalls
-pub mod Promise
 pub mod Published
 pub mod Reached
 pub mod Rounds

@@ -104,7 +104,7 @@ abbrev pub joined_by : List Try → List PastSession → List PastSession
 joined_by tries last = flat_map joined_of tries ++ last
 
 -- What a run does with links: attempts, one after the other, and then the sessions that are left are joined. The totals are the sums of
--- what just these sessions counted, each of which was joined once.
+-- what just these sessions counted, each of which was joined once and had such jobs.
 pub record Dials (settings : Settings) (allows : Rule) (had_jobs : PastSession → Type 0) (old new : List Attempt) (totals : Totals)
     (before now : Option (List DialCall)) : Type 0 where
   pub middle : Counts
@@ -112,6 +112,7 @@ pub record Dials (settings : Settings) (allows : Rule) (had_jobs : PastSession �
   pub attempts : Attempts settings allows had_jobs old new no_counts middle before between
   pub last : Joins settings had_jobs middle (counts_of totals) between now
   pub sums : AreSums settings (joined_by attempts.tries last.sessions) totals.grabbed totals.reported
+  pub jobs : AllHad had_jobs (joined_by attempts.tries last.sessions)
 
 -- of each slot it is said that it may have a worker
 abbrev pub all_slots : Rule

@@ -1,4 +1,5 @@
 //! Where the sessions of a run have their jobs from.
+ghost use Rattle.pool_supervisor.specs.Sessions.{Covers, HadJobs, HadNamedJobs};
 
 use job_runner::{Jobs, NamedJobs};
 use plan_model::SlotId;
@@ -34,6 +35,12 @@ pub trait JobSource {
     /// Whether it has a job of this function. Nothing that a run does depends on it.
     fn serves(&self, function: &[u8]) -> bool;
 }
+
+/// Does nothing. A session whose source is these jobs by name had jobs, each of which reported what its name means.
+pub fn sessions_have_named_jobs<'j, T: NamedJobs + Sync>(jobs: &'j T)
+    ensures { Covers (HadNamedJobs (T.told jobs.now)) (HadJobs ⟦<&'j T as Jobs>⟧.tells ⟦<&'j T as Jobs>⟧.fails
+        (⟦<&'j T as JobSource>⟧.gives jobs) (⟦<&'j T as JobSource>⟧.denies jobs)) }
+{}
 
 /// Jobs by name are the same for each session, and each slot may have one.
 impl<'j, T: NamedJobs + Sync> JobSource for &'j T {

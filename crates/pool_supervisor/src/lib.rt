@@ -34,7 +34,7 @@ pub use calls::{Call, Calls};
 pub use dial::Dial;
 pub use ends::EndCounts;
 pub use job_counts::JobCounts;
-pub use jobs::JobSource;
+pub use jobs::{JobSource, sessions_have_named_jobs};
 pub use news::{Attempted, EndedWorker, JoinedWorker, Progress};
 pub use place::{Grabs, Place, Reports, RoundsOf, RunBoard, RunId, RunLedger, RunRounds};
 pub use planner::{ArenaPlanner, Planner};

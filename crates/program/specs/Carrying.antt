@@ -16,7 +16,7 @@ use Rattle.plan_commands.specs.declared.fault.Fault.{Fault}
 use Rattle.plan_commands.specs.declared.fault.NamedFile.{NamedFile}
 use Rattle.plan_commands.specs.declared.fault.NamedFile.TheVariants.{Services, Settings, Status}
 use Rattle.replay_command.specs.Replay.{Replays}
-use Rattle.run_command.specs.Run.{Supervises}
+use Rattle.run_command.specs.Run.{SupervisesStock}
 use Rattle.serve_command.specs.Serving.{Serves}
 use Rattle.settings_command.specs.FarmTold.{TellsFarm}
 use Rattle.settings_command.specs.Told.{TellsSettings}
@@ -100,7 +100,7 @@ ActsOnFiles file (replay s) met old new exit =
     (settings_text : List ℕ) × IsReadFile (file s) settings_text × Replays settings_text met old new exit
 ActsOnFiles file (show_settings s services) met old new exit = IsUntouched met × TellsFiles file s services old new exit
 ActsOnFiles file (run s rounds) met old new exit =
-    (settings_text : List ℕ) × IsReadFile (file s) settings_text × IsUntouched met × Supervises settings_text rounds old new exit
+    (settings_text : List ℕ) × IsReadFile (file s) settings_text × IsUntouched met × SupervisesStock settings_text rounds old new exit
 ActsOnFiles file (serve s v until_input) met old new exit = IsUntouched met × (new ≡ old) × RunsFarm file s v exit
 ActsOnFiles file (drain v) met old new exit = IsUntouched met × DrainsFarm file v old new exit
 

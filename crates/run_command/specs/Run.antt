@@ -14,10 +14,11 @@ use Rattle.pool_settings.specs.Settings.{Settings}
 use Rattle.pool_supervisor.specs.Lines.{attempt_line}
 use Rattle.pool_supervisor.specs.Rounds.{TellRun}
 use Rattle.pool_supervisor.specs.Runs.{AreOfOneHistory}
-use Rattle.pool_supervisor.specs.Sessions.{PastSession, AreSums}
+use Rattle.pool_supervisor.specs.Sessions.{PastSession, AllHad, AreSums, HadNamedJobs}
 use Rattle.pool_supervisor.specs.declared.attempt.Attempt.{Attempt}
 use Rattle.pool_supervisor.specs.declared.attempt.Attempt.TheVariants.{NoPlan}
 use Rattle.pool_supervisor.specs.declared.run.RunEnd.{RunEnd}
+use Rattle.stock_jobs.specs.Stock.{told_by_name}
 
 -- the lines of attempts, of which the first has this number
 abbrev pub attempt_lines : ℕ → List Attempt → List ℕ
@@ -46,17 +47,21 @@ IsKeptFrom settings_text f = Reads settings_text (Err f)
 
 -- The text means settings, and a run by them came to this: the lines that report rounds report those of one history of these settings, in
 -- order and no other, and its totals count the same history, which keeps to the promise. The totals are the sums of what sessions by
--- these settings counted.
-abbrev pub IsRunBy : List ℕ → RunEnd → Type 0
-IsRunBy settings_text ended =
+-- these settings counted, each of which had such jobs.
+abbrev pub IsRunBy : List ℕ → (PastSession → Type 0) → RunEnd → Type 0
+IsRunBy settings_text had_jobs ended =
     (settings : Settings) × (reading settings_text ≡ Ok settings) × TellRun settings [] ended.lines.items []
     × AreOfOneHistory settings ended.totals ended.chapters ended.lines.items
-    × (sessions : List PastSession) × AreSums settings sessions ended.totals.grabbed ended.totals.reported
+    × (sessions : List PastSession) × AreSums settings sessions ended.totals.grabbed ended.totals.reported × AllHad had_jobs sessions
 
--- The settings mean something, a run by them ended after so many attempts, and what it came to is written. Or it is kept from that by a
--- fault, and nothing is written.
-abbrev pub Supervises : List ℕ → ℕ → Output → Output → Exit → Type 0
-Supervises settings_text rounds old new exit =
-    ((ended : RunEnd) × IsRunBy settings_text ended × (length ended.lines.items ≡ rounds)
+-- The settings mean something, a run by them with such jobs ended after so many attempts, and what it came to is written. Or it is kept
+-- from that by a fault, and nothing is written.
+abbrev pub Supervises : List ℕ → (PastSession → Type 0) → ℕ → Output → Output → Exit → Type 0
+Supervises settings_text had_jobs rounds old new exit =
+    ((ended : RunEnd) × IsRunBy settings_text had_jobs ended × (length ended.lines.items ≡ rounds)
     × Delivers (run_text ended) (answered (status_after ended.lines.items)) old new exit)
     ⊎ ((f : Fault) × IsKeptFrom settings_text f × Stops f old new exit)
+
+-- The same with the stock jobs: each job that a session did reported what the stock job of its name makes of its input.
+abbrev pub SupervisesStock : List ℕ → ℕ → Output → Output → Exit → Type 0
+SupervisesStock settings_text rounds old new exit = Supervises settings_text (HadNamedJobs told_by_name) rounds old new exit

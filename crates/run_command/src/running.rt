@@ -3,7 +3,7 @@
 ghost use Rattle.std.specs.Prelude.{◌≡◌, ◌-◌, ◌^◌, ◌<◌, IfErr, IfOk, List, [], length, string_bytes};
 ghost use Rattle.pool_supervisor.specs.Rounds.{TellRun};
 ghost use Rattle.pool_supervisor.specs.Runs.{AreOfOneHistory};
-ghost use Rattle.pool_supervisor.specs.Sessions.{AreSums, PastSession};
+ghost use Rattle.pool_supervisor.specs.Sessions.{AllHad, AreSums, HadJobs, HadNamedJobs, PastSession};
 ghost use Rattle.run_command.specs.Run as spec;
 
 use crate::host::{Host, Route};
@@ -12,7 +12,9 @@ use byte_io::Sink;
 use job_runner::NamedJobs;
 use plan_commands::{Exit, Fault, deliver, read_settings};
 use pool_settings::Settings;
-use pool_supervisor::{ArenaPlanner, JobSource, Lent, RunEnd, run_sessions};
+use pool_supervisor::{
+    ArenaPlanner, JobSource, Lent, RunEnd, run_sessions, sessions_have_named_jobs,
+};
 use std::alloc::{AllocError, Global};
 use stock_jobs::stock_jobs;
 
@@ -28,7 +30,8 @@ fn run_with<H: Host, J: JobSource + Sync>(
     ensures told { IfOk result (λ ended. TellRun settings [] ended.lines.items []) }
     ensures one_history { IfOk result (λ ended. AreOfOneHistory settings ended.totals ended.chapters ended.lines.items) }
     ensures sums { IfOk result (λ ended. (sessions : List PastSession)
-        × AreSums settings sessions ended.totals.grabbed ended.totals.reported) }
+        × AreSums settings sessions ended.totals.grabbed ended.totals.reported
+        × AllHad (HadJobs J.Jobs.tells J.Jobs.fails (J.gives jobs.now) (J.denies jobs.now)) sessions) }
 {
     let route = Route {
         host,
@@ -61,7 +64,8 @@ fn run_told<H: Host, J: JobSource + Sync>(
     settings_text: &[u8],
     rounds: u32,
 ) -> Result<Told, Fault>
-    ensures run { IfOk result (λ told. spec.IsRunBy settings_text.now told.ended) }
+    ensures run { IfOk result (λ told. spec.IsRunBy settings_text.now
+        (HadJobs J.Jobs.tells J.Jobs.fails (J.gives jobs.now) (J.denies jobs.now)) told.ended) }
     ensures lines { IfOk result (λ told. length told.ended.lines.items ≡ rounds) }
     ensures text { IfOk result (λ told. string_bytes told.text ≡ spec.run_text told.ended) }
     ensures kept { IfErr result (spec.IsKeptFrom settings_text.now) }
@@ -92,7 +96,9 @@ pub fn run_source<H: Host, J: JobSource + Sync, S: Sink>(
     sink: &mut S,
 ) -> Exit
     requires sink { (S.output sink.old).failures < 2 ^ 64 - 1 }
-    ensures supervises { spec.Supervises settings_text.now rounds (S.output sink.old) (S.output sink.new) result }
+    ensures supervises { spec.Supervises settings_text.now
+        (HadJobs J.Jobs.tells J.Jobs.fails (J.gives jobs.now) (J.denies jobs.now))
+        rounds (S.output sink.old) (S.output sink.new) result }
 {
     match run_told(host, alloc, jobs, settings_text, rounds) {
         Ok(told) => {
@@ -103,7 +109,7 @@ pub fn run_source<H: Host, J: JobSource + Sync, S: Sink>(
     }
 }
 
-/// [`run_source`] with jobs by name, the same for each session.
+/// [`run_source`] with jobs by name, the same for each session. They report what their names mean.
 pub fn run_jobs<H: Host, J: NamedJobs + Sync, S: Sink>(
     host: &H,
     alloc: Global,
@@ -113,12 +119,15 @@ pub fn run_jobs<H: Host, J: NamedJobs + Sync, S: Sink>(
     sink: &mut S,
 ) -> Exit
     requires sink { (S.output sink.old).failures < 2 ^ 64 - 1 }
-    ensures supervises { spec.Supervises settings_text.now rounds (S.output sink.old) (S.output sink.new) result }
+    ensures supervises { spec.Supervises settings_text.now (HadNamedJobs (J.told jobs.now))
+        rounds (S.output sink.old) (S.output sink.new) result }
 {
+    sessions_have_named_jobs(jobs);
     run_source(host, alloc, &jobs, settings_text, rounds, sink)
 }
 
-/// [`run_jobs`] with the stock jobs (`StockJob`).
+/// [`run_jobs`] with the stock jobs (`StockJob`). So each job that a session did was answered with what the stock job of its name makes of its
+/// input.
 pub fn run_rounds<H: Host, S: Sink>(
     host: &H,
     alloc: Global,
@@ -127,7 +136,7 @@ pub fn run_rounds<H: Host, S: Sink>(
     sink: &mut S,
 ) -> Exit
     requires sink { (S.output sink.old).failures < 2 ^ 64 - 1 }
-    ensures supervises { spec.Supervises settings_text.now rounds (S.output sink.old) (S.output sink.new) result }
+    ensures supervises { spec.SupervisesStock settings_text.now rounds (S.output sink.old) (S.output sink.new) result }
 {
     match stock_jobs(alloc) {
         Ok(jobs) => run_jobs(host, alloc, &jobs, settings_text, rounds, sink),
