@@ -5,3 +5,4 @@ pub mod Called
 pub mod Cuts
 pub mod Ends
 mod Histories
+pub mod Promised

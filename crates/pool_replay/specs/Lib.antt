@@ -3,3 +3,4 @@ pub mod Lines
 pub mod Step
 pub mod Transcript
 pub mod Law
+pub mod Run

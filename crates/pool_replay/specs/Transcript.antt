@@ -55,12 +55,6 @@ RunsTo settings number desk (line ∷ lines) output how last =
 abbrev pub IsTranscript : Settings → ℕ → Desk → List (List ℕ) → List ℕ → End → Type 0
 IsTranscript settings number desk lines output how = (last : Desk) × RunsTo settings number desk lines output how last
 
--- A run of an input: the transcript of its lines on a pool in which nothing has happened, or nothing if there was no memory
--- for that pool.
-abbrev pub IsRun : Settings → List ℕ → List ℕ → End → Type 0
-IsRun settings input output how =
-    ((output ≡ []) × (how ≡ end.Memory)) ⊎ IsTranscript settings 1 (first_desk settings) (lines_of input) output how
-
 -- the line is a command, and what it prints was appended
 abbrev pub AnswersLine : Settings → List ℕ → Desk → List ℕ → Desk → List ℕ → Type 0
 AnswersLine settings line old before new after =

@@ -3,10 +3,13 @@
 ghost use Rattle.std.specs.Prelude.{◌≡◌, ◌∷◌, ◌<◌, [], None, IfErr, OnErr, OnOk, MatchOption, length, string_bytes};
 ghost use Rattle.pool_commands.specs.Grammar as grammar;
 ghost use Rattle.pool_replay.specs.declared.running.Stop.TheVariants.{NoCommand};
-ghost use Rattle.pool_replay.specs.Transcript.{IsRun, IsTranscript, AnswersLine, first_desk, lines_of};
+ghost use Rattle.pool_replay.specs.Run.{IsRun};
+ghost use Rattle.pool_replay.specs.Transcript.{IsTranscript, AnswersLine, first_desk, lines_of};
 
 use crate::desk::Desk;
+use crate::law::transcripts_are_histories;
 use pool_commands::command_in;
+use pool_core::{jobs_are_accounted_for, rounds_are_shown};
 use pool_settings::Settings;
 use std::alloc::{AllocError, Global};
 use text_pieces::cut_first;
@@ -128,6 +131,9 @@ fn run_lines(
 /// `adopt` spends it, also if it is refused; if there is none it prints `refused NoView`. `chapter` ends the chapter of the
 /// pool's history and gives its events up: the state goes on, and with it passes, jobs and the view, and the events of `totals` are
 /// those since then.
+///
+/// Whatever the lines are, the pool keeps its promise: each round is best for its state, or shown to have no plan; and each grabbed job is
+/// running, reported once, or lost with its named worker.
 pub fn run(alloc: Global, settings: &Settings, input: &[u8]) -> Outcome
     ensures run { IsRun settings.now input.now (string_bytes result.output) result.end }
 {
@@ -138,6 +144,10 @@ pub fn run(alloc: Global, settings: &Settings, input: &[u8]) -> Outcome
             end: End::Memory,
         };
     };
+    desk.pool.facts();
+    transcripts_are_histories();
+    rounds_are_shown();
+    jobs_are_accounted_for();
     let end = run_lines(alloc, settings, &mut desk, input, &mut output);
     Outcome { output, end }
 }

@@ -3,7 +3,7 @@ use Rattle.std.specs.Prelude.{◌≡◌, ◌⊎◌, List, ℕ, string_bytes, Res
 use Rattle.devices.specs.Whole.{IsNotWhole, IsUntouched, IsWhole}
 use Rattle.devices.specs.declared.error.InputError.TheVariants as input
 use Rattle.byte_io.specs.Sides.{Met, Output, Undisturbed}
-use Rattle.pool_replay.specs.Transcript.{IsRun}
+use Rattle.pool_replay.specs.Run.{IsRun}
 use Rattle.pool_replay.specs.declared.running.End.{End}
 use Rattle.pool_replay.specs.declared.running.End.TheVariants as end
 use Rattle.pool_replay.specs.declared.running.Outcome.{Outcome}

@@ -1,5 +1,5 @@
 use Rattle.std.proofs.Common.{◌∙◌, ℕ, List, string_bytes, subst}
-use Rattle.pool_replay.specs.Transcript.{IsRun}
+use Rattle.pool_replay.specs.Run.{IsRun}
 use Rattle.std.proofs.lemmas.Result.{err_from_is_err_and}
 use Rattle.plan_commands.proofs.Posing.{meets_nothing, nothing_from}
 use Rattle.replay_command.proofs.Replaying.{refused_by, untaken}
