@@ -126,7 +126,7 @@ pub fn run_jobs<H: Host, J: NamedJobs + Sync, S: Sink>(
     run_source(host, alloc, &jobs, settings_text, rounds, sink)
 }
 
-/// [`run_jobs`] with the stock jobs (`StockJob`). So each job that a session did was answered with what the stock job of its name makes of its
+/// [`run_jobs`] with the stock jobs (`StockJob`). So each job that a session did reported what the stock job of its name makes of its
 /// input.
 pub fn run_rounds<H: Host, S: Sink>(
     host: &H,
