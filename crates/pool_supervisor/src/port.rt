@@ -15,7 +15,7 @@ use pool_core::{GrabError, Pass, StayOrRetire};
 use std::snapshot::Snapshot;
 use std::sync::Wait;
 use std::sync::ledger::Share;
-use worker_state::{Cause, EndKind, Order, Ticket};
+use worker_state::{Cause, EndKind, Order, Ticket, What, WorkerName};
 
 /// What tells the time, and lets it pass.
 pub trait Watch {
@@ -29,11 +29,17 @@ pub trait Watch {
     fn has_to_end(&self) -> bool {
         false
     }
+
+    /// Whether the worker may ask for one more job. Its session looks at this whenever it reads its order: before each request for a job
+    /// and at each timeout. If not, the order is to stop.
+    fn may_go_on(&self, _worker: WorkerName) -> bool {
+        true
+    }
 }
 
 /// A session's way to the shared pool, with a share of each of its books.
 ///
-/// Orders are read from the board, with no lock. Each other call is one call of the pool in one hold of the lock, with the arguments
+/// Orders are read from the board, with no lock; a worker that may not go on is ordered to stop. Each other call is one call of the pool in one hold of the lock, with the arguments
 /// that it was given, at the time of the watch; a job that is grabbed when no time is known is never late. A refusal that says that
 /// the worker is not what its session takes it for is reported as [`Gone`].
 ///
@@ -128,8 +134,16 @@ impl<'a, N: RunId, C: Watch, R: Wait> PoolPort for SharedPort<'a, N, C, R> {
 
     ghost book = { λ p. book_of p.calls.value };
 
-    fn order(&mut self, _pass: &Pass) -> Order {
-        let order = self.board.read_by(&mut self.place.seat);
+    fn order(&mut self, pass: &Pass) -> Order {
+        let read = self.board.read_by(&mut self.place.seat);
+        let order = if self.watch.may_go_on(pass.name()) {
+            read
+        } else {
+            Order {
+                what: What::Stop,
+                ..read
+            }
+        };
         note(&mut self.calls, Call::Order(order));
         order
     }
