@@ -39,9 +39,9 @@ pub trait Watch {
 
 /// A session's way to the shared pool, with a share of each of its books.
 ///
-/// Orders are read from the board, with no lock; a worker that may not go on is ordered to stop. Each other call is one call of the pool in one hold of the lock, with the arguments
-/// that it was given, at the time of the watch; a job that is grabbed when no time is known is never late. A refusal that says that
-/// the worker is not what its session takes it for is reported as [`Gone`].
+/// Orders are read from the board, with no lock; a worker that may not go on is ordered to stop. Each other call is one call of the pool in
+/// one hold of the lock, with the arguments that it was given, at the time of the watch; a job that is grabbed when no time is known is
+/// never late. A refusal that says that the worker is not what its session takes it for is reported as [`Gone`].
 ///
 /// Its calls are known to contracts alone ([`Calls`]). Each share is the number of those that succeeded, and it counts how the jobs ended.
 #[derive(Drop)]
