@@ -6,7 +6,7 @@ ghost use Rattle.serve_command.specs.Farm as spec;
 
 use http_jobs::{CallTimes, Service};
 use plan_commands::{Fault, read_services, read_settings};
-use plan_model::SlotId;
+use plan_model::{MachineId, SlotId};
 use pool_settings::Settings;
 use service_settings::{ServiceUrl, Services};
 use std::alloc::{AllocError, Global};
@@ -64,6 +64,16 @@ impl Farm {
             Some(function) => self.services.timeout_ms(function),
             None => self.settings.job_timeout_ms(),
         }
+    }
+
+    /// The machine of a slot. None if the slot is none of the farm.
+    pub fn machine_of(&self, slot: SlotId) -> Option<MachineId>
+        ensures { IfSome result (λ machine. machine ≡ machine_of self.now.settings slot) }
+    {
+        if slot.number() >= self.settings.slots() {
+            return None;
+        }
+        Some(self.settings.machine_of(slot))
     }
 
     /// Where the jobs of a worker go.

@@ -1,6 +1,7 @@
 //! Which hosts of a farm are reached, and when one that is not is tried again.
 
-ghost use Rattle.std.specs.Prelude.{◌≡◌, IfErr, Some, true};
+ghost use Rattle.std.specs.Prelude.{◌≡◌, IfErr, None, Some, false, true};
+ghost use Rattle.serve_command.specs.declared.hosts.Reason.TheVariants.{Unreachable};
 ghost use Rattle.serve_command.specs.Hosts as spec;
 
 use devices::DialError;
@@ -123,6 +124,22 @@ impl HostState {
         }
     }
 
+    /// Whether a worker may ask for one more job: not if the host could not be reached in an attempt before this one and served none
+    /// since.
+    fn may_go_on(self, attempt: u64) -> bool
+        ensures held_back { result ≡ false → spec.reason_of self ≡ Some Unreachable }
+        ensures present { spec.reason_of self ≡ None → result ≡ true }
+    {
+        match self {
+            HostState::Away {
+                why: Reason::Unreachable,
+                wait,
+                due,
+            } => wait == 1 && attempt < due,
+            _ => true,
+        }
+    }
+
     /// After a worker joined. If it came to try a host that is left alone, the next wait is longer: 1, 2, 4 .. attempts, and 64 at most.
     fn after_join(self, attempt: u64) -> HostState {
         match self {
@@ -222,6 +239,16 @@ impl Hosts {
         let held = self.table.lock(rt);
         match held.hosts.get(machine.number() as usize) {
             Some(host) => host.state.may_start(held.attempt, host.workers),
+            None => false,
+        }
+    }
+
+    /// Whether a worker of the machine may ask for one more job: not if its host could not be reached in an attempt before this one, and
+    /// served none since. A dial that fails while others of the host serve jobs thus ends no worker.
+    pub fn may_go_on<R: Wait>(&self, rt: &R, machine: MachineId) -> bool {
+        let held = self.table.lock(rt);
+        match held.hosts.get(machine.number() as usize) {
+            Some(host) => host.state.may_go_on(held.attempt),
             None => false,
         }
     }

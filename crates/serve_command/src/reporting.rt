@@ -3,6 +3,7 @@
 ghost use Rattle.std.specs.Prelude.{◌≡◌};
 ghost use Rattle.serve_command.specs.Serving.{status_of};
 
+use crate::farm::Farm;
 use crate::host::FarmHost;
 use crate::hosts::Hosts;
 use farm_notes::{Known, PageNotes, Tally};
@@ -18,6 +19,7 @@ use run_command::end_notes;
 use std::alloc::{AllocError, Global};
 use std::sync::{Mutex, Wait};
 use std::thread::Threads;
+use worker_state::WorkerName;
 
 /// What the attempts of a run came to so far.
 #[derive(Clone, Copy, Debug, PartialEq, Eq)]
@@ -59,6 +61,8 @@ impl Outlook {
 /// What is kept of a farm while it runs.
 #[derive(Clone, Copy)]
 pub struct Books<'e> {
+    /// The farm.
+    pub farm: &'e Farm,
     /// Which hosts are reached.
     pub hosts: &'e Hosts,
     /// What became of the jobs.
@@ -72,6 +76,7 @@ pub struct Books<'e> {
 pub struct Reporting<'e, H> {
     host: &'e H,
     alloc: Global,
+    farm: &'e Farm,
     hosts: &'e Hosts,
     tally: &'e Tally,
     notes: Option<PageNotes>,
@@ -82,6 +87,7 @@ impl<'e, H: Wait> Reporting<'e, H> {
     /// A run's, before its first attempt.
     pub fn new(host: &'e H, alloc: Global, books: Books<'e>) -> Reporting<'e, H> {
         let Books {
+            farm,
             hosts,
             tally,
             has_page,
@@ -89,6 +95,7 @@ impl<'e, H: Wait> Reporting<'e, H> {
         Reporting {
             host,
             alloc,
+            farm,
             hosts,
             tally,
             notes: has_page.then(|| PageNotes::new(alloc)),
@@ -137,6 +144,14 @@ impl<'e, H: FarmHost> Watch for Reporting<'e, H> {
 
     fn has_to_end(&self) -> bool {
         self.host.is_to_end() || self.outlook() == Outlook::SlotUsed
+    }
+
+    /// A worker whose host cannot be reached would have to give its next job back.
+    fn may_go_on(&self, worker: WorkerName) -> bool {
+        match self.farm.machine_of(worker.slot) {
+            Some(machine) => self.hosts.may_go_on(self.host, machine),
+            None => false,
+        }
     }
 }
 

@@ -65,6 +65,7 @@ fn run_until_end<'x, H: FarmHost>(
         host.open_page(page, page_times(&settings));
     }
     let books = Books {
+        farm,
         hosts: &hosts,
         tally: &tally,
         has_page: farm.services.page().is_some(),
