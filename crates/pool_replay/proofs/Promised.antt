@@ -1,9 +1,7 @@
 -- The promise of a run, by the laws of the pool.
-use Rattle.std.proofs.Common.{◌≡◌, ℕ, List, ◌∷◌, ◌++◌, subst}
-use Rattle.plan_model.specs.declared.answer.Answer.{Answer}
+use Rattle.std.proofs.Common.{ℕ, List, subst}
 use Rattle.pool_settings.specs.Settings.{Settings, AreSettings}
 use Rattle.pool_core.specs.declared.event.Event.{Event}
-use Rattle.pool_core.specs.declared.event.Event.TheVariants.{Round}
 use Rattle.pool_core.specs.Machine.{first, IsHistory}
 use Rattle.pool_core.specs.Laws.{RoundsAreShown, JobsAreAccountedFor}
 use Rattle.pool_replay.specs.declared.desk.Desk.{Desk}
