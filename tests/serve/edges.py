@@ -174,10 +174,11 @@ class Pipe:
 
 def account_for_lines(lines, failed):
     """Holds that each line of a farm with so many failed jobs was written or is counted. It was blocked after all had joined."""
-    counted = [int(found[1]) for line in lines if (found := LEFT_OUT.fullmatch(line))]
     # Before the number of those that could not be written there may be a part of the last one.
-    parts = [line for line, after in zip(lines, lines[1:]) if not LINE.fullmatch(line) and LEFT_OUT.fullmatch(after)]
-    told = untimed(line for line in lines if line not in parts and not LEFT_OUT.fullmatch(line))
+    parts = [line for line, after in zip(lines, lines[1:]) if not LINE.fullmatch(line) and " left out " in after]
+    told = untimed(line for line in lines if line not in parts)
+    counted = [int(found[1]) for line in told if (found := LEFT_OUT.fullmatch(line))]
+    told = [line for line in told if not LEFT_OUT.fullmatch(line)]
     held(counted, "no line was left out")
     attempts = [int(line.split()[1]) for line in told if line.startswith("attempt ")]
     held(attempts == sorted(set(attempts)), "the lines of attempts are not in order")

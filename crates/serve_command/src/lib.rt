@@ -6,6 +6,7 @@ mod farm_jobs;
 mod host;
 mod hosts;
 mod job_lines;
+mod left_out;
 mod line_queue;
 mod reporting;
 mod serving;

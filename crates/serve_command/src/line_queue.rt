@@ -1,5 +1,6 @@
 //! Lines on their way to whoever reads them.
 
+use crate::left_out::left_out_line;
 use std::alloc::{AllocError, Global};
 use std::collections::VecDeque;
 use std::io;
@@ -118,45 +119,72 @@ impl Waiting {
     }
 }
 
-impl Taken {
-    /// How many lines it stands for.
-    fn lines(&self) -> u64 {
-        match self {
-            Taken::Line(_) => 1,
-            Taken::LeftOut(count) => *count,
+/// Lines that were not written, and are not told yet.
+#[derive(Clone, Copy)]
+struct Untold {
+    /// How many.
+    count: u64,
+    /// The last that was written may be there in part.
+    may_be_cut: bool,
+}
+
+impl Untold {
+    /// None yet.
+    fn none() -> Untold {
+        Untold {
+            count: 0,
+            may_be_cut: false,
+        }
+    }
+
+    /// So many more.
+    fn add(&mut self, count: u64) {
+        self.count = self.count.saturating_add(count);
+    }
+
+    /// Writes this text in one write. If it cannot be written it may be there in part.
+    fn write<W: Write>(&mut self, output: &mut W, text: &[u8]) -> io::Result<()> {
+        let written = output.write_all(text);
+        self.may_be_cut = written.is_err();
+        written
+    }
+
+    /// Writes how many there are, if there are any. If that cannot be written they stay counted.
+    fn tell<R: Clock, W: Write>(&mut self, rt: &R, output: &mut W) -> io::Result<()> {
+        if self.count == 0 {
+            return Ok(());
+        }
+        let line = left_out_line(rt, self.count, self.may_be_cut);
+        self.write(output, line.as_bytes())?;
+        self.count = 0;
+        Ok(())
+    }
+
+    /// Writes a line after the number of those that were left out before it. If that cannot be written the line is one of them.
+    fn write_line<R: Clock, W: Write>(&mut self, rt: &R, output: &mut W, line: &str) {
+        let told = self.tell(rt, output);
+        if told.is_err() || self.write(output, line.as_bytes()).is_err() {
+            self.add(1);
         }
     }
 }
 
-/// Writes how many lines could not be written, if there are any, on a line of its own: the last of them may be there in part.
-fn write_unwritten<W: Write>(output: &mut W, unwritten: &mut u64) -> io::Result<()> {
-    if *unwritten > 0 {
-        writeln!(output, "\nleft out {} lines", *unwritten)?;
-        *unwritten = 0;
-    }
-    Ok(())
-}
-
-/// Writes what was taken, after the number of lines before it that could not be written.
-fn write_taken<W: Write>(output: &mut W, unwritten: &mut u64, taken: &Taken) -> io::Result<()> {
-    write_unwritten(output, unwritten)?;
-    match taken {
-        Taken::Line(line) => output.write_all(line.as_bytes()),
-        Taken::LeftOut(count) => writeln!(output, "left out {count} lines"),
-    }
-}
-
 /// Writes each line of the queue, each in one write, and how many were left out, until the queue is closed and all lines were taken. What
-/// cannot be written is lost and counted, and the lines after it are tried all the same.
-pub fn write_lines<R: Wait, W: Write>(rt: &R, queue: &LineQueue, output: &mut W) {
-    let mut unwritten = 0;
+/// cannot be written is lost and counted, and the lines after it are tried all the same. The number of those that were left out takes no
+/// memory.
+pub fn write_lines<R: Wait + Clock, W: Write>(rt: &R, queue: &LineQueue, output: &mut W) {
+    let mut untold = Untold::none();
     for _ in rt.forever() {
-        let Some(taken) = queue.take(rt) else {
-            let _ = write_unwritten(output, &mut unwritten);
-            return;
-        };
-        if write_taken(output, &mut unwritten, &taken).is_err() {
-            unwritten = unwritten.saturating_add(taken.lines());
+        match queue.take(rt) {
+            Some(Taken::Line(line)) => untold.write_line(rt, output, line.as_str()),
+            Some(Taken::LeftOut(count)) => {
+                untold.add(count);
+                let _ = untold.tell(rt, output);
+            }
+            None => {
+                let _ = untold.tell(rt, output);
+                return;
+            }
         }
     }
 }
