@@ -3,13 +3,14 @@
 use crate::farm::Farm;
 use crate::host::FarmHost;
 use crate::hosts::{HostNews, Hosts};
-use crate::job_lines::{failure_of, line_of};
+use crate::job_lines::{failure_of, line_of, told_part};
+use crate::last_jobs::{AnsweredJob, LastJobs};
 use devices::DialError;
 use farm_notes::{JobEnd, Tally};
 use gear_packets::Assignment;
 use http_jobs::{Reply, ServiceJobs, Unserved, dial_words};
 use job_runner::{End, Jobs, NotDone, Outcome};
-use plan_model::{MachineId, SlotId};
+use plan_model::{FuncId, MachineId, SlotId};
 use pool_supervisor::JobSource;
 use std::alloc::{AllocError, Global};
 use std::sync::Wait;
@@ -28,6 +29,8 @@ pub struct FarmSource<'e, H> {
     pub hosts: &'e Hosts,
     /// What became of the jobs.
     pub tally: &'e Tally,
+    /// The job that each worker did last.
+    pub last_jobs: &'e LastJobs,
 }
 
 impl<'e, H: FarmHost> JobSource for FarmSource<'e, H> {
@@ -62,6 +65,7 @@ impl<'e, H: FarmHost> JobSource for FarmSource<'e, H> {
         if slot.number() >= farm.settings.slots() {
             return None;
         }
+        self.last_jobs.begin(self.host, worker).ok()?;
         let machine = farm.settings.machine_of(slot);
         let host = farm.host_of(self.alloc, slot)?;
         let service = farm.service_of(self.alloc, worker)?;
@@ -82,6 +86,7 @@ impl<'e, H: FarmHost> JobSource for FarmSource<'e, H> {
             farm,
             hosts: self.hosts,
             tally: self.tally,
+            last_jobs: self.last_jobs,
             machine,
             slot,
             generation,
@@ -102,6 +107,7 @@ pub struct FarmJobs<'e, H: FarmHost> {
     farm: &'e Farm,
     hosts: &'e Hosts,
     tally: &'e Tally,
+    last_jobs: &'e LastJobs,
     machine: MachineId,
     slot: SlotId,
     generation: u32,
@@ -137,6 +143,32 @@ fn end_of(done: &Result<Option<Reply>, http_jobs::NotDone>) -> JobEnd {
         Ok(None) => JobEnd::Failed,
         Err(_) => JobEnd::Lost,
     }
+}
+
+/// The job, to be kept as one that is answered, if its service said how it ended. Its names are moved, and its data is dropped.
+fn answered_of(
+    alloc: Global,
+    job: Assignment,
+    function: Option<FuncId>,
+    done: &Result<Option<Reply>, http_jobs::NotDone>,
+) -> Option<AnsweredJob> {
+    let end = end_of(done);
+    if end == JobEnd::Lost {
+        return None;
+    }
+    let Assignment {
+        handle,
+        function: name,
+        unique,
+        payload: _,
+    } = job;
+    Some(AnsweredJob {
+        handle,
+        unique: told_part(alloc, unique),
+        function: told_part(alloc, name),
+        counted: function,
+        end,
+    })
 }
 
 /// The line of what is new of a machine's host. The only error is out of memory.
@@ -222,6 +254,8 @@ impl<'e, H: FarmHost> Jobs for FarmJobs<'e, H> {
             .flatten()
             .map(|failure| self.host.dated(failure.view));
         self.tally.note(self.host, dated);
+        let answered = answered_of(alloc, job, function, &done);
+        drop(self.last_jobs.keep(self.host, worker, answered));
         Ok(Reply::outcome_in(done?))
     }
 }

@@ -1,11 +1,13 @@
 //! Jobs that were not completed, and their lines.
 
 use crate::farm::Farm;
+use crate::last_jobs::AnsweredJob;
 use farm_page::{FailureEnd, FailureView};
-use gear_packets::Assignment;
+use gear_packets::{Assignment, Handle};
 use http_jobs::{NotDone, Reply};
-use job_runner::{Note, Outcome};
+use job_runner::{EndCause, Note, Outcome};
 use percent_encoding::{AsciiSet, CONTROLS, ascii_set, percent_encode};
+use refusal::Labelled;
 use std::alloc::{AllocError, Global};
 use worker_state::WorkerName;
 
@@ -39,6 +41,14 @@ fn word(alloc: Global, bytes: &[u8]) -> Result<String, AllocError> {
     let mut word = String::new(alloc);
     percent_encode(&bytes[..told], WORD).append_to(&mut word)?;
     Ok(word)
+}
+
+/// As much of a name as is told, in no more memory than that takes: nothing of a longer name if there is none for its beginning.
+pub fn told_part(alloc: Global, name: Vec<u8>) -> Vec<u8> {
+    if name.len() <= LONGEST_NAME {
+        return name;
+    }
+    Vec::from_slice(alloc, &name[..LONGEST_NAME]).unwrap_or_else(|_| Vec::new(alloc))
 }
 
 /// How a job failed: with the beginning of the first warning, if its service gave one.
@@ -80,19 +90,27 @@ pub fn why_not_completed(
     Ok(Some(why))
 }
 
+/// The names of a job.
+#[derive(Clone, Copy)]
+struct JobNames<'j> {
+    handle: &'j Handle,
+    unique: &'j [u8],
+    function: &'j [u8],
+}
+
 /// What the page shows of a job that ended so at the worker of this name. Of its own names each is one word: at most 256 bytes,
 /// percent-encoded if they are not visible characters. Its time is not known yet. The only error is out of memory.
 fn failure_view(
     alloc: Global,
-    job: &Assignment,
+    job: JobNames<'_>,
     worker: String,
     end: FailureEnd,
 ) -> Result<FailureView, AllocError> {
     Ok(FailureView {
         time: String::from_str(alloc, "-")?,
         handle: word(alloc, job.handle.bytes())?,
-        unique: word(alloc, &job.unique)?,
-        function: word(alloc, &job.function)?,
+        unique: word(alloc, job.unique)?,
+        function: word(alloc, job.function)?,
         worker,
         end,
     })
@@ -121,8 +139,32 @@ pub fn uncompleted_job(
         return Ok(None);
     };
     let end = failure_end(alloc, done)?;
-    let view = failure_view(alloc, job, worker, end)?;
+    let names = JobNames {
+        handle: &job.handle,
+        unique: &job.unique,
+        function: &job.function,
+    };
+    let view = failure_view(alloc, names, worker, end)?;
     Ok(Some(Uncompleted { view, why }))
+}
+
+/// A job that its service answered, and whose worker, of this name, ended for this cause before the job server had the answer. The only
+/// error is out of memory.
+pub fn lost_job(
+    alloc: Global,
+    worker: String,
+    job: &AnsweredJob,
+    cause: EndCause,
+) -> Result<Uncompleted, AllocError> {
+    let why = String::from_str(alloc, cause.label().name())?;
+    let end = FailureEnd::Lost(String::from_str(alloc, why.as_str())?);
+    let names = JobNames {
+        handle: &job.handle,
+        unique: &job.unique,
+        function: &job.function,
+    };
+    let view = failure_view(alloc, names, worker, end)?;
+    Ok(Uncompleted { view, why })
 }
 
 /// The line of a job, if it was not completed.

@@ -6,6 +6,8 @@ ghost use Rattle.serve_command.specs.Serving.{status_of};
 use crate::farm::Farm;
 use crate::host::FarmHost;
 use crate::hosts::Hosts;
+use crate::job_lines::{Uncompleted, line_of, lost_job};
+use crate::last_jobs::{AnsweredJob, LastJobs};
 use farm_notes::{Known, PageNotes, Tally};
 use farm_page::FarmView;
 use plan_model::{Certified, SlotId};
@@ -67,6 +69,8 @@ pub struct Books<'e> {
     pub hosts: &'e Hosts,
     /// What became of the jobs.
     pub tally: &'e Tally,
+    /// The job that each worker did last.
+    pub last_jobs: &'e LastJobs,
     /// Whether the farm has a page.
     pub has_page: bool,
 }
@@ -79,6 +83,7 @@ pub struct Reporting<'e, H> {
     farm: &'e Farm,
     hosts: &'e Hosts,
     tally: &'e Tally,
+    last_jobs: &'e LastJobs,
     notes: Option<PageNotes>,
     outlook: Mutex<Outlook>,
 }
@@ -90,6 +95,7 @@ impl<'e, H: Wait> Reporting<'e, H> {
             farm,
             hosts,
             tally,
+            last_jobs,
             has_page,
         } = books;
         Reporting {
@@ -98,6 +104,7 @@ impl<'e, H: Wait> Reporting<'e, H> {
             farm,
             hosts,
             tally,
+            last_jobs,
             notes: has_page.then(|| PageNotes::new(alloc)),
             outlook: Mutex::new(Outlook::Nothing),
         }
@@ -120,6 +127,17 @@ impl<'e, H: Wait> Reporting<'e, H> {
             failures: &failures,
         };
         notes.view(self, self.alloc, made, &known).ok()
+    }
+
+    /// The job that a worker left without an answer, if its service had answered it. It is counted as lost from now on.
+    fn take_lost(&self, ended: &EndedWorker<'_>) -> Option<AnsweredJob> {
+        let last = self.last_jobs.end(self, ended.worker);
+        if ended.end.grabbed == ended.end.reported {
+            return None;
+        }
+        let job = last?;
+        self.tally.lose(self, job.counted, job.end);
+        Some(job)
     }
 
     /// Notes what one more attempt came to.
@@ -191,6 +209,11 @@ impl<'e, H: FarmHost> Progress for Reporting<'e, H> {
     fn ended(&self, ended: &EndedWorker<'_>) {
         let machine = ended.settings.machine_of(ended.worker.slot);
         self.hosts.has_ended(self, machine);
+        let lost = self.take_lost(ended);
+        let lost = lost_of(self.alloc, ended, &lost);
+        self.host.tell_if(line_of(self.alloc, &lost));
+        let dated = lost.ok().flatten().map(|lost| self.host.dated(lost.view));
+        self.tally.note(self, dated);
         self.host.tell(ended_line(self.alloc, ended));
         if let Some(notes) = &self.notes {
             notes.ended(self, ended.end.cause);
@@ -218,6 +241,22 @@ fn joined_line(alloc: Global, joined: &JoinedWorker<'_>) -> Result<String, Alloc
         .settings
         .worker_text(alloc, joined.worker.slot, joined.worker.generation)?;
     format!(in alloc; "joined {worker}")
+}
+
+/// The job that a worker left without an answer, if there is one here. The only error is out of memory.
+fn lost_of(
+    alloc: Global,
+    ended: &EndedWorker<'_>,
+    job: &Option<AnsweredJob>,
+) -> Result<Option<Uncompleted>, AllocError> {
+    let Some(job) = job else {
+        return Ok(None);
+    };
+    let worker = ended
+        .settings
+        .worker_text(alloc, ended.worker.slot, ended.worker.generation)?;
+    let lost = lost_job(alloc, worker, job, ended.end.cause)?;
+    Ok(Some(lost))
 }
 
 /// Which worker ended, and why, as `ended north/0#3 Closed`. The only error is out of memory.

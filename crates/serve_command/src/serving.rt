@@ -8,6 +8,7 @@ use crate::farm::{Farm, FarmTexts};
 use crate::farm_jobs::FarmSource;
 use crate::host::FarmHost;
 use crate::hosts::Hosts;
+use crate::last_jobs::LastJobs;
 use crate::reporting::{Books, Outlook, Reporting};
 use farm_notes::Tally;
 use page_server::PageTimes;
@@ -54,12 +55,14 @@ fn run_until_end<'x, H: FarmHost>(
     let planner = ArenaPlanner::new(alloc);
     let hosts = Hosts::new(alloc, settings.machines())?;
     let tally = Tally::new(alloc, settings.functions())?;
+    let last_jobs = LastJobs::new(alloc, settings.slots())?;
     let source = FarmSource {
         host,
         alloc,
         farm,
         hosts: &hosts,
         tally: &tally,
+        last_jobs: &last_jobs,
     };
     if let Some(page) = farm.services.page() {
         host.open_page(page, page_times(&settings));
@@ -68,6 +71,7 @@ fn run_until_end<'x, H: FarmHost>(
         farm,
         hosts: &hosts,
         tally: &tally,
+        last_jobs: &last_jobs,
         has_page: farm.services.page().is_some(),
     };
     let watch = Reporting::new(host, alloc, books);
