@@ -33,7 +33,7 @@ same_totals e old new (Err x) counts no_grab no_report step same =
 -- ---- histories
 
 -- nothing, so many times
-no_events : ℕ → List (List Event)
+abbrev no_events : ℕ → List (List Event)
 no_events zero = []
 no_events (suc count) = [] ∷ no_events count
 

@@ -39,7 +39,7 @@ pub trait JobSource {
 /// Does nothing. A session whose source is these jobs by name had jobs, each of which reported what its name means.
 pub fn sessions_have_named_jobs<'j, T: NamedJobs + Sync>(jobs: &'j T)
     ensures { Covers (HadNamedJobs (T.told jobs.now)) (HadJobs ⟦<&'j T as Jobs>⟧.tells ⟦<&'j T as Jobs>⟧.fails
-        (⟦<&'j T as JobSource>⟧.gives jobs) (⟦<&'j T as JobSource>⟧.denies jobs)) }
+        (⟦<&'j T as JobSource>⟧.gives jobs.entry) (⟦<&'j T as JobSource>⟧.denies jobs.entry)) }
 {}
 
 /// Jobs by name are the same for each session, and each slot may have one.
