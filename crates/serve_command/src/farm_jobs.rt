@@ -65,7 +65,9 @@ impl<'e, H: FarmHost> JobSource for FarmSource<'e, H> {
         if slot.number() >= farm.settings.slots() {
             return None;
         }
-        self.last_jobs.begin(self.host, worker).ok()?;
+        self.last_jobs
+            .begin(self.host, WorkerName { slot, generation })
+            .ok()?;
         let machine = farm.settings.machine_of(slot);
         let host = farm.host_of(self.alloc, slot)?;
         let service = farm.service_of(self.alloc, worker)?;
