@@ -1,7 +1,8 @@
 """Farms at the edges of what the system gives them: edges.py PROGRAM FOLDER
 
 tests/serve/run calls this. A farm has two hosts that do jobs. It goes on, and serves them, though nobody takes its lines, though the names
-of 200 further hosts do not resolve, and though no descriptor is left. What its processes write is in the folder.
+of 200 further hosts do not resolve, and though no descriptor is left, or there are too few from the start. What its processes write is in
+the folder.
 """
 
 import fcntl
@@ -37,6 +38,9 @@ MOST_WAITING = 4096
 
 # For so many seconds a look-up waits for a resolver that does not answer.
 LOOKUP_S = 3
+
+# So many descriptors are too few for all workers, each of which takes two.
+FEW = 22
 
 # What Linux calls a network interface that is up, and the request for it.
 IFF_UP, SIOCSIFFLAGS = 1, 0x8914
@@ -294,12 +298,34 @@ def no_descriptor_is_left(program, processes):
     edge.holds_no_good_host_unreached()
 
 
+def too_few_descriptors_at_first(program, processes):
+    """The farm begins with fewer descriptors than its workers take. It has a plan and serves with those that it can have, and says so. Once
+    the limit is raised it has all."""
+    edge = Edge(program, processes)
+    edge.start("sh", "-c", f'ulimit -Sn {FEW} && exec "$0" "$@"')
+    wait_until(lambda: "lacksfiles" in edge.lines(), PATIENCE, "the farm says that files are lacking")
+    edge.keeps_pace_while(lambda: edge.ask(good_jobs("few", 300)))
+    alive = edge.metric("poolman_alive_workers")
+    held(0 < alive < WORKERS * len(HOSTS), f"{alive} workers are alive with {FEW} descriptors")
+    held(nolinks(edge.lines()) == 0, "an attempt has no descriptor for the status")
+    held("hasfiles" not in edge.lines(), "the farm says that files are there")
+    limits = resource.prlimit(edge.poolman.pid, resource.RLIMIT_NOFILE)
+    resource.prlimit(edge.poolman.pid, resource.RLIMIT_NOFILE, (limits[1], limits[1]))
+    wait_until(lambda: "hasfiles" in edge.lines(), PATIENCE, "the farm says that files are there")
+    wait_until(lambda: edge.metric("poolman_alive_workers") == WORKERS * len(HOSTS), PATIENCE, "all workers are there")
+    edge.keeps_pace_while(lambda: edge.ask(good_jobs("many", 300)))
+    edge.end(600)
+    said = [line for line in edge.lines() if line in ("lacksfiles", "hasfiles")]
+    held(said == ["lacksfiles", "hasfiles"], f"of files it is said: {said}")
+    edge.holds_no_good_host_unreached()
+
+
 def nolinks(lines):
     """In how many attempts of these lines the server was not reached."""
     return sum(line.startswith("attempt ") and line.endswith(" nolink") for line in lines)
 
 
-PARTS = (nobody_takes_lines, names_do_not_resolve, no_descriptor_is_left)
+PARTS = (nobody_takes_lines, names_do_not_resolve, no_descriptor_is_left, too_few_descriptors_at_first)
 
 
 def main(program, folder, *names):

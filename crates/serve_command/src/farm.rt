@@ -110,6 +110,16 @@ impl Farm {
         }
     }
 
+    /// The host and port that a worker's jobs go to, and the service there, asked in the worker's name. None if memory is refused.
+    pub fn place_of(&self, alloc: Global, worker: WorkerName) -> Option<(String, Service)>
+        requires { worker.slot < slots self.now.settings }
+        ensures { IfSome result (λ place. spec.IsServiceOf self.now worker place.1) }
+    {
+        let host = self.host_of(alloc, worker.slot)?;
+        let service = self.service_of(alloc, worker)?;
+        Some((host, service))
+    }
+
     /// The service of a worker's machine, asked in the worker's name. None if memory is refused.
     pub fn service_of(&self, alloc: Global, worker: WorkerName) -> Option<Service>
         requires { worker.slot < slots self.now.settings }

@@ -1,6 +1,7 @@
 //! The jobs of a farm's workers, done by the services of their machines.
 
 use crate::farm::Farm;
+use crate::file_room::FileRoom;
 use crate::host::FarmHost;
 use crate::hosts::{HostNews, Hosts};
 use crate::job_lines::{failure_of, line_of, told_part};
@@ -31,6 +32,8 @@ pub struct FarmSource<'e, H> {
     pub tally: &'e Tally,
     /// The job that each worker did last.
     pub last_jobs: &'e LastJobs,
+    /// Whether there are files for more workers.
+    pub files: &'e FileRoom,
 }
 
 impl<'e, H: FarmHost> JobSource for FarmSource<'e, H> {
@@ -55,7 +58,14 @@ impl<'e, H: FarmHost> JobSource for FarmSource<'e, H> {
             return false;
         }
         let machine = farm.settings.machine_of(slot);
-        self.hosts.may_start(self.host, machine)
+        if !self.hosts.may_start(self.host, machine) {
+            return false;
+        }
+        if let Some(most) = self.files.to_look_for(self.host) {
+            let free = self.host.free_files(most);
+            self.files.were_found(self.host, most, free);
+        }
+        self.files.lets(self.host)
     }
 
     fn jobs_of(&self, worker: WorkerName) -> Option<FarmJobs<'e, H>> {
@@ -65,15 +75,15 @@ impl<'e, H: FarmHost> JobSource for FarmSource<'e, H> {
         if slot.number() >= farm.settings.slots() {
             return None;
         }
-        self.last_jobs
-            .begin(self.host, WorkerName { slot, generation })
-            .ok()?;
         let machine = farm.settings.machine_of(slot);
-        let host = farm.host_of(self.alloc, slot)?;
-        let service = farm.service_of(self.alloc, worker)?;
+        let Some((host, service)) = farm.place_of(self.alloc, worker) else {
+            self.files.has_opened(self.host);
+            return None;
+        };
         let dials = self.host.dials(host, farm.call_times());
         let mut jobs = ServiceJobs::new(service, dials, self.host.times(), 0);
         let opened = jobs.open();
+        self.files.has_opened(self.host);
         if let Some(news) = self.hosts.was_dialled(self.host, machine, opened) {
             self.host.tell(news_line(self.alloc, farm, machine, news));
         }
@@ -83,6 +93,9 @@ impl<'e, H: FarmHost> JobSource for FarmSource<'e, H> {
                 .tell(no_connection_line(self.alloc, farm, worker, why));
             return None;
         }
+        self.last_jobs
+            .begin(self.host, WorkerName { slot, generation })
+            .ok()?;
         Some(FarmJobs {
             host: self.host,
             farm,

@@ -26,6 +26,11 @@ pub trait FarmHost: Host {
     /// A clock.
     fn times(&self) -> Self::Times;
 
+    /// How many more files can be open now, if that is less than so many, and else so many.
+    fn free_files(&self, most: u32) -> u32 {
+        most
+    }
+
     /// Whether the farm has to end. Once it has, it always has.
     fn is_to_end(&self) -> bool;
 

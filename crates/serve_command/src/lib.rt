@@ -3,6 +3,7 @@
 
 mod farm;
 mod farm_jobs;
+mod file_room;
 mod host;
 mod hosts;
 mod job_lines;
@@ -15,6 +16,7 @@ mod system;
 
 pub use farm::{Farm, FarmTexts};
 pub use farm_jobs::{FarmJobs, FarmSource};
+pub use file_room::{FileNews, FileRoom};
 pub use host::FarmHost;
 pub use hosts::{HostNews, Hosts, Reason};
 pub use job_lines::{Uncompleted, failure_line, lost_job, uncompleted_job, why_not_completed};

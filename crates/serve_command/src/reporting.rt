@@ -4,6 +4,7 @@ ghost use Rattle.std.specs.Prelude.{◌≡◌};
 ghost use Rattle.serve_command.specs.Serving.{status_of};
 
 use crate::farm::Farm;
+use crate::file_room::FileRoom;
 use crate::host::FarmHost;
 use crate::hosts::Hosts;
 use crate::job_lines::{Uncompleted, line_of, lost_job};
@@ -71,6 +72,8 @@ pub struct Books<'e> {
     pub tally: &'e Tally,
     /// The job that each worker did last.
     pub last_jobs: &'e LastJobs,
+    /// Whether there are files for more workers.
+    pub files: &'e FileRoom,
     /// Whether the farm has a page.
     pub has_page: bool,
 }
@@ -84,6 +87,7 @@ pub struct Reporting<'e, H> {
     hosts: &'e Hosts,
     tally: &'e Tally,
     last_jobs: &'e LastJobs,
+    files: &'e FileRoom,
     notes: Option<PageNotes>,
     outlook: Mutex<Outlook>,
 }
@@ -96,6 +100,7 @@ impl<'e, H: Wait> Reporting<'e, H> {
             hosts,
             tally,
             last_jobs,
+            files,
             has_page,
         } = books;
         Reporting {
@@ -105,6 +110,7 @@ impl<'e, H: Wait> Reporting<'e, H> {
             hosts,
             tally,
             last_jobs,
+            files,
             notes: has_page.then(|| PageNotes::new(alloc)),
             outlook: Mutex::new(Outlook::Nothing),
         }
@@ -177,6 +183,9 @@ impl<'e, H: FarmHost> Progress for Reporting<'e, H> {
     fn attempted(&self, made: &Attempted<'_>) {
         self.note(made.attempt);
         self.hosts.begin_attempt(self);
+        if let Some(news) = self.files.begin_attempt(self) {
+            self.host.tell(String::from_str(self.alloc, news.line()));
+        }
         self.host
             .tell(attempt_line(self.alloc, made.number, made.attempt));
         if let Some(view) = self.view(made) {
@@ -193,6 +202,7 @@ impl<'e, H: FarmHost> Progress for Reporting<'e, H> {
     fn joined(&self, joined: &JoinedWorker<'_>) {
         let machine = joined.settings.machine_of(joined.worker.slot);
         self.hosts.has_joined(self, machine);
+        self.files.has_started(self);
         self.host.tell(joined_line(self.alloc, joined));
     }
 

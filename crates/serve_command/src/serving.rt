@@ -6,6 +6,7 @@ ghost use Rattle.serve_command.specs.Serving as spec;
 
 use crate::farm::{Farm, FarmTexts};
 use crate::farm_jobs::FarmSource;
+use crate::file_room::FileRoom;
 use crate::host::FarmHost;
 use crate::hosts::Hosts;
 use crate::last_jobs::LastJobs;
@@ -56,6 +57,7 @@ fn run_until_end<'x, H: FarmHost>(
     let hosts = Hosts::new(alloc, settings.machines())?;
     let tally = Tally::new(alloc, settings.functions())?;
     let last_jobs = LastJobs::new(alloc, settings.slots())?;
+    let files = FileRoom::new(settings.slots());
     let source = FarmSource {
         host,
         alloc,
@@ -63,6 +65,7 @@ fn run_until_end<'x, H: FarmHost>(
         hosts: &hosts,
         tally: &tally,
         last_jobs: &last_jobs,
+        files: &files,
     };
     if let Some(page) = farm.services.page() {
         host.open_page(page, page_times(&settings));
@@ -72,6 +75,7 @@ fn run_until_end<'x, H: FarmHost>(
         hosts: &hosts,
         tally: &tally,
         last_jobs: &last_jobs,
+        files: &files,
         has_page: farm.services.page().is_some(),
     };
     let watch = Reporting::new(host, alloc, books);

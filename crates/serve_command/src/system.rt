@@ -2,7 +2,7 @@
 
 use crate::host::FarmHost;
 use crate::line_queue::LineQueue;
-use devices::TcpLink;
+use devices::{DialError, TcpLink};
 use farm_page::{FailureView, FarmView};
 use http_jobs::{CallTimes, SystemClock, TcpDial};
 use page_server::{Door, EndFlag, PageTimes, SharedPage};
@@ -12,7 +12,7 @@ use run_command::{Attempted, EndedWorker, Host, Progress, RunEnd, System, Watch,
 use service_settings::Page;
 use std::alloc::{AllocError, Global};
 use std::io;
-use std::net::{Net, TcpListener, TcpStream};
+use std::net::{Ipv4Addr, Net, TcpListener, TcpStream, UdpSocket};
 use std::rt::{Clock, Env};
 use std::sync::{Arc, Wait};
 use std::thread::Threads;
@@ -100,6 +100,25 @@ impl<'m, R: Clock + Alloc<A = Global>> FarmSystem<'m, R> {
     }
 }
 
+/// How many more files can be open now, if that is less than so many: as many sockets are opened, and closed again. So many if the system
+/// says that something else is lacking.
+fn free_files<R: Net>(rt: &R, alloc: Global, most: u32) -> u32 {
+    let address = (Ipv4Addr::LOCALHOST, 0u16);
+    let mut opened = Vec::new(alloc);
+    for count in 0..most {
+        match UdpSocket::bind(rt, address) {
+            Ok(socket) => {
+                if opened.push(socket).is_err() {
+                    return most;
+                }
+            }
+            Err(error) if DialError::of_connect(&error) == DialError::TooManyFiles => return count,
+            Err(_) => return most,
+        }
+    }
+    most
+}
+
 /// The line of a page that cannot be opened. The only error is out of memory.
 fn no_page_line(alloc: Global, page: &Page, error: &io::Error) -> Result<String, AllocError> {
     let listen = page.listen();
@@ -174,6 +193,10 @@ impl<
 
     fn times(&self) -> SystemClock<R> {
         SystemClock::new(self.rt)
+    }
+
+    fn free_files(&self, most: u32) -> u32 {
+        free_files(&self.rt, self.rt.alloc(), most)
     }
 
     fn is_to_end(&self) -> bool {

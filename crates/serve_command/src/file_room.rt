@@ -1,0 +1,182 @@
+//! Whether more workers may start: each takes two files, and an attempt needs one for the status.
+
+ghost use Rattle.std.specs.Prelude.{◌+◌, ◌*◌, ◌<◌, ◌≤◌};
+
+use std::sync::{Mutex, Wait};
+
+/// How many files a worker takes: one for its link to the job server, and one for the connection to its service.
+const OF_WORKER: u32 = 2;
+
+/// How many files workers leave free: one for the status of an attempt, and some for look-ups and the peers of the page.
+const LEFT_FREE: u32 = 8;
+
+/// For how many workers files are looked for first in an attempt, and then for twice as many each time. In the first attempt, in which all
+/// start, it begins with all.
+const FIRST_LOOK: u32 = 8;
+
+/// What is new of the files.
+#[derive(Clone, Copy, Debug, PartialEq, Eq)]
+pub enum FileNews {
+    /// A worker could not start for want of files, and before that none was held back.
+    Lacking,
+    /// Workers could start again, and none was held back.
+    Present,
+}
+
+impl FileNews {
+    /// Its line.
+    pub fn line(self) -> &'static str {
+        match self {
+            FileNews::Lacking => "lacksfiles",
+            FileNews::Present => "hasfiles",
+        }
+    }
+}
+
+/// How many workers may start if so many files are free, and so many of those that started have a connection to open yet.
+fn workers_for(free: u32, opening: u32) -> u32
+    ensures leaves { 0 < result → 2 * result + opening + 8 ≤ free }
+{
+    free.saturating_sub(LEFT_FREE).saturating_sub(opening) / OF_WORKER
+}
+
+/// How many files so many workers need to start beside those that have a connection to open yet.
+fn files_for(workers: u32, opening: u32) -> u32 {
+    workers
+        .saturating_mul(OF_WORKER)
+        .saturating_add(opening)
+        .saturating_add(LEFT_FREE)
+}
+
+/// What is known of the files in this attempt.
+#[derive(Drop)]
+struct Known {
+    /// How many workers have started.
+    started: u64,
+    /// How many of them have opened a connection to their service, or could not.
+    opened: u64,
+    /// How many may start before files are looked for again.
+    may_start: u32,
+    /// For how many workers files are looked for then. None if there are no more in this attempt.
+    next_look: Option<u32>,
+    /// Whether a worker could start.
+    has_let: bool,
+    /// Whether a worker was held back.
+    has_held_back: bool,
+    /// Whether files were lacking in the last attempt that says so.
+    are_lacking: bool,
+}
+
+impl Known {
+    /// How many workers have a connection to open yet.
+    fn opening(&self) -> u32 {
+        let opening = self.started.saturating_sub(self.opened);
+        u32::try_from(opening).unwrap_or(u32::MAX)
+    }
+
+    /// How many files to look for before one more worker starts. None if that is known.
+    fn to_look_for(&self) -> Option<u32> {
+        if self.may_start > 0 {
+            return None;
+        }
+        let workers = self.next_look?;
+        Some(files_for(workers, self.opening()))
+    }
+
+    /// So many files were looked for, and so many are free.
+    fn were_found(&mut self, most: u32, free: u32) {
+        self.may_start = workers_for(free, self.opening());
+        self.next_look = match self.next_look {
+            Some(workers) if free >= most => Some(workers.saturating_mul(2)),
+            _ => None,
+        };
+    }
+
+    /// Whether one more worker may start.
+    fn lets(&mut self) -> bool {
+        let lets = self.may_start > 0;
+        self.has_let = self.has_let || lets;
+        self.has_held_back = self.has_held_back || !lets;
+        lets
+    }
+
+    /// What is new after the attempt.
+    fn news(&self) -> Option<FileNews> {
+        match self.are_lacking {
+            false if self.has_held_back => Some(FileNews::Lacking),
+            true if self.has_let && !self.has_held_back => Some(FileNews::Present),
+            _ => None,
+        }
+    }
+
+    /// The next attempt begins.
+    fn begin_attempt(&mut self) {
+        self.may_start = 0;
+        self.next_look = Some(FIRST_LOOK);
+        self.has_let = false;
+        self.has_held_back = false;
+    }
+}
+
+/// Whether there are files for more workers. What is free is looked up by opening as many and closing them again, for several workers at
+/// once, so that this takes each of them little.
+#[derive(Drop)]
+pub struct FileRoom {
+    known: Mutex<Known>,
+}
+
+impl FileRoom {
+    /// That of a farm before its first attempt, in which so many workers start at most.
+    pub fn new(workers: u32) -> FileRoom {
+        FileRoom {
+            known: Mutex::new(Known {
+                started: 0,
+                opened: 0,
+                may_start: 0,
+                next_look: Some(workers.max(1)),
+                has_let: false,
+                has_held_back: false,
+                are_lacking: false,
+            }),
+        }
+    }
+
+    /// How many files to look for before one more worker starts. None if what is known is enough to say whether it may.
+    pub fn to_look_for<R: Wait>(&self, rt: &R) -> Option<u32> {
+        self.known.lock(rt).to_look_for()
+    }
+
+    /// So many files were looked for, and so many are free.
+    pub fn were_found<R: Wait>(&self, rt: &R, most: u32, free: u32) {
+        self.known.lock(rt).were_found(most, free);
+    }
+
+    /// Whether one more worker may start.
+    pub fn lets<R: Wait>(&self, rt: &R) -> bool {
+        self.known.lock(rt).lets()
+    }
+
+    /// A worker has started, and has its link to the job server.
+    pub fn has_started<R: Wait>(&self, rt: &R) {
+        let mut held = self.known.lock(rt);
+        held.started = held.started.saturating_add(1);
+        held.may_start = held.may_start.saturating_sub(1);
+    }
+
+    /// A worker has opened a connection to its service, or could not. It may come before it is told that the worker has started.
+    pub fn has_opened<R: Wait>(&self, rt: &R) {
+        let mut held = self.known.lock(rt);
+        held.opened = held.opened.saturating_add(1);
+    }
+
+    /// The attempt is over, and the next begins. What is new of the files after it.
+    pub fn begin_attempt<R: Wait>(&self, rt: &R) -> Option<FileNews> {
+        let mut held = self.known.lock(rt);
+        let news = held.news();
+        if let Some(news) = news {
+            held.are_lacking = news == FileNews::Lacking;
+        }
+        held.begin_attempt();
+        news
+    }
+}
