@@ -1,6 +1,7 @@
-/* A service that gives back each body: service. Prints its port. Serves one connection after another, until it is ended. */
+/* A service that gives back each body: service. Prints its port. Serves each connection in a process of its own, until it is ended. */
 #include <arpa/inet.h>
 #include <netinet/tcp.h>
+#include <signal.h>
 #include <stdio.h>
 #include <stdlib.h>
 #include <string.h>
@@ -57,15 +58,19 @@ int main(void)
     struct sockaddr_in at = {.sin_family = AF_INET, .sin_addr.s_addr = htonl(INADDR_LOOPBACK)};
     socklen_t length = sizeof at;
     int yes = 1, listener = socket(AF_INET, SOCK_STREAM, 0);
-    if (bind(listener, (struct sockaddr *)&at, length) || listen(listener, 16) || getsockname(listener, (struct sockaddr *)&at, &length))
+    if (bind(listener, (struct sockaddr *)&at, length) || listen(listener, 64) || getsockname(listener, (struct sockaddr *)&at, &length))
         return 1;
     printf("%d\n", ntohs(at.sin_port));
     fflush(stdout);
+    signal(SIGCHLD, SIG_IGN);
     for (;;) {
         int peer = accept(listener, NULL, NULL);
-        setsockopt(peer, IPPROTO_TCP, TCP_NODELAY, &yes, sizeof yes);
-        while (answer(peer))
-            ;
+        if (fork() == 0) {
+            setsockopt(peer, IPPROTO_TCP, TCP_NODELAY, &yes, sizeof yes);
+            while (answer(peer))
+                ;
+            _exit(0);
+        }
         close(peer);
     }
 }

@@ -62,9 +62,9 @@ BAD_WORKERS = 2
 LEAST = {"count_words": 1, "digest": 3, "hold": 1, "reverse": 3, "sort_lines": 1, "upper": 3}
 
 
-def settings(server):
+def settings(server, round_ms):
     """The settings of the farm, with its job server at this port."""
-    lines = ["version = 1", f'server = "{HOST}:{server}"', "round_ms = 100", "lull_ms = 20", "job_timeout_ms = 30000", f"history = {HISTORY}"]
+    lines = ["version = 1", f'server = "{HOST}:{server}"', f"round_ms = {round_ms}", "lull_ms = 20", "job_timeout_ms = 30000", f"history = {HISTORY}"]
     lines += [f"[functions.{name}]\nleast = {least}" for name, least in LEAST.items()]
     machines = [(name, workers, LEAST) for name, workers in HEALTHY.items()]
     machines += [(name, BAD_WORKERS, [function]) for name, (_, function) in BAD.items()]
@@ -84,8 +84,8 @@ def services(places, page):
 class Farm:
     """The job server, the hosts, and poolman."""
 
-    def __init__(self, program, processes):
-        self.program, self.processes = program, processes
+    def __init__(self, program, processes, round_ms=100):
+        self.program, self.processes, self.round_ms = program, processes, round_ms
         self.server, page, *places = ports(2 + len(HEALTHY) + len(BAD))
         self.page = Page(page, PATIENCE)
         self.places = dict(zip([*HEALTHY, *BAD], places))
@@ -105,7 +105,7 @@ class Farm:
 
     def write_files(self, services):
         files = [f"{self.processes.folder}/{name}.toml" for name in ("settings", "services")]
-        for file, text in zip(files, (settings(self.server), services)):
+        for file, text in zip(files, (settings(self.server, self.round_ms), services)):
             with open(file, "w") as it:
                 it.write(text)
         return files

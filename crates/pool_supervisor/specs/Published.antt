@@ -1,10 +1,10 @@
 -- The orders that are published.
-use Rattle.std.specs.Prelude.{◌≡◌, ℕ, nat_lt, List, [], ◌∷◌, ◌++◌, length, if◌then◌else◌, is_some}
+use Rattle.std.specs.Prelude.{◌≡◌, ◌⊎◌, ℕ, nat_lt, List, [], ◌∷◌, ◌++◌, length, if◌then◌else◌, is_some}
 use Rattle.worker_state.specs.OrderParts.{OrderParts}
 use Rattle.worker_state.specs.Slots.{is_live}
 use Rattle.worker_state.specs.declared.order.What.TheVariants.{Stop}
 use Rattle.order_board.specs.declared.view.Post.{Post}
-use Rattle.order_board.specs.Posts.{posts_of}
+use Rattle.order_board.specs.Posts.{posts_of, latest}
 use Rattle.pool_core.specs.declared.answer.Ran.{Ran}
 use Rattle.pool_core.specs.Machine.{State, slot_in}
 use Rattle.pool_core.specs.Laws.{order_at}
@@ -24,3 +24,7 @@ stop_order state slot = if nat_lt slot (length state.slots) then record (order_a
 -- To each slot just these orders were posted.
 abbrev pub ArePosted : (ℕ → List OrderParts) → List Post → List Post → Type 0
 ArePosted orders before now = (slot : ℕ) → posts_of slot now ≡ posts_of slot before ++ orders slot
+
+-- What a reader that has seen these posts of its slot is told: the last of them, or that one as Stop.
+abbrev pub IsRead : List OrderParts → OrderParts → Type 0
+IsRead seen order = (order ≡ latest seen) ⊎ (order ≡ record (latest seen) { what = Stop })

@@ -1,8 +1,10 @@
 //! A session's way to the shared pool.
 ghost use Rattle.std.specs.Prelude.{◌≡◌, ◌+◌};
-ghost use Rattle.job_runner.specs.Book.{no_calls};
+ghost use Rattle.job_runner.specs.Book.{no_calls, after_order};
+ghost use Rattle.order_board.specs.Posts.{BeginsWith};
 ghost use Rattle.pool_supervisor.specs.JobCounts.{answered};
 ghost use Rattle.pool_supervisor.specs.PortCalls.{book_of};
+ghost use Rattle.pool_supervisor.specs.Published.{IsRead};
 
 use crate::calls::{Call, Calls, note};
 use crate::job_counts::JobCounts;
@@ -134,7 +136,12 @@ impl<'a, N: RunId, C: Watch, R: Wait> PoolPort for SharedPort<'a, N, C, R> {
 
     ghost book = { λ p. book_of p.calls.value };
 
-    fn order(&mut self, pass: &Pass) -> Order {
+    fn order(&mut self, pass: &Pass) -> Order
+        ensures book { book_of self.new.calls.value ≡ after_order (book_of self.old.calls.value) result }
+        ensures read { IsRead self.new.place.seat.seen result }
+        ensures later { BeginsWith self.new.place.seat.seen self.old.place.seat.seen }
+        ensures slot { self.new.place.seat.slot ≡ self.old.place.seat.slot }
+    {
         let read = self.board.read_by(&mut self.place.seat);
         let order = if self.watch.may_go_on(pass.name()) {
             read

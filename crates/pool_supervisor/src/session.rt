@@ -81,6 +81,8 @@ pub struct Enrolled<N: RunId> {
     pub pass: Pass,
     /// Its place at the board.
     pub place: Place<N>,
+    /// There it reads the orders of its own slot.
+    pub ghost own: { place.seat.slot ≡ pass.slot },
 }
 
 /// What a session is given: its worker, and a share of each book, which is 0.

@@ -1,0 +1,135 @@
+#!/usr/bin/env python3
+"""The farm of trial.py for hours: soak.py PROGRAM FOLDER [MINUTES]
+
+Four clients ask for 200 jobs a second together, whose answers have to be right. Each two minutes a healthy host is killed and started again
+after ten seconds, and has to get jobs. The page is read each five seconds, and a line of FOLDER/samples says meanwhile: the seconds since
+the start, the attempts, the jobs that were answered, and of poolman its threads, descriptors, KiB of memory, and KiB that no file has.
+
+Prints these of the third and the last quarter: the median and the greatest. In the last there are to be no more descriptors than in
+the third, and a median of memory that is not more by over one per cent. After 600 attempts the page keeps no more of them.
+"""
+
+import os
+import re
+import statistics
+import sys
+import threading
+import time
+
+sys.dont_write_bytecode = True
+
+from trial import HEALTHY, PATIENCE, TOTALS, Farm, Processes, ask_rightly, at_once, drain, held, mixed_jobs, wait_until
+
+CLIENTS, JOBS_A_SECOND, ROUND_MS = 4, 50, 1000
+KILL_S, AWAY_S, SAMPLE_S = 120, 10, 5
+
+
+class Soak:
+    """A farm that works until its time is over."""
+
+    def __init__(self, program, processes, seconds):
+        self.farm = Farm(program, processes, ROUND_MS)
+        self.folder = processes.folder
+        self.seconds = seconds
+        self.answered, self.lock = 0, threading.Lock()
+        self.samples = []
+
+    def passed(self):
+        return time.monotonic() - self.begin
+
+    def each(self, pause, call):
+        """Makes a call each so many seconds, and at once after one that took longer. The first that fails ends all."""
+        due = 0
+        while (due := max(due + pause, self.passed())) < self.seconds:
+            time.sleep(max(0, due - self.passed()))
+            try:
+                call()
+            except BaseException:
+                self.seconds = 0
+                raise
+
+    def ask(self, name):
+        """A client, which asks for a second's jobs over one connection each."""
+
+        def ask_once():
+            ask_rightly(self.farm.server, mixed_jobs(f"{name}-{self.passed():.3f}", JOBS_A_SECOND), 5 * PATIENCE)
+            with self.lock:
+                self.answered += JOBS_A_SECOND
+
+        self.each(1, ask_once)
+
+    def disturb(self):
+        hosts = list(HEALTHY)
+
+        def kill_next():
+            hosts.append(hosts.pop(0))
+            self.kill(hosts[-1])
+
+        self.each(KILL_S, kill_next)
+
+    def kill(self, name):
+        """Kills a service, and starts it again. It writes a line for each job."""
+        self.farm.services[name].kill()
+        self.farm.services[name].wait()
+        time.sleep(AWAY_S)
+        log = f"{self.folder}/{name}.out"
+        before = os.path.getsize(log)
+        self.farm.services[name] = self.farm.start_service(name)
+        wait_until(lambda: os.path.getsize(log) > before, 5 * PATIENCE, f"{name} does jobs again")
+
+    def sample(self):
+        """Reads the page, and writes a line."""
+        attempts = int(re.search(r"^poolman_attempts_total (\d+)$", self.farm.page.text("/metrics"), re.MULTILINE)[1])
+        self.farm.page.text("/")
+        process = f"/proc/{self.farm.poolman.pid}"
+        with open(f"{process}/status") as it:
+            status = dict(line.split(":", 1) for line in it.read().splitlines())
+        threads, all_kib, own_kib = (int(status[name].split()[0]) for name in ("Threads", "VmRSS", "RssAnon"))
+        descriptors = len(os.listdir(f"{process}/fd"))
+        sample = (int(self.passed()), attempts, self.answered, threads, descriptors, all_kib, own_kib)
+        self.samples.append(sample)
+        with open(f"{self.folder}/samples", "a") as it:
+            print(*sample, file=it)
+
+    def run(self):
+        self.farm.start()
+        self.begin = time.monotonic()
+        clients = [lambda n=n: self.ask(f"job-{n}") for n in range(CLIENTS)]
+        at_once([*clients, self.disturb, lambda: self.each(SAMPLE_S, self.sample)])
+
+    def end(self):
+        """Drains the farm, whose totals have each job."""
+        status, told, said = drain(self.farm.program, self.folder)
+        held((status, said) == (0, ""), f"the drain: {status} {said}")
+        reported = int(TOTALS.search(told)[3])
+        held(reported == self.answered, f"{reported} jobs were reported, and {self.answered} answered")
+        self.farm.poolman.wait(PATIENCE)
+
+    def judge(self):
+        """Compares the last two quarters."""
+        third, last = self.quarter(2), self.quarter(3)
+        for name, some in ("third", third), ("last", last):
+            print(f"{name} quarter: " + ", ".join(f"{what} {middle:.0f} at most {most}" for what, (middle, most) in some.items()))
+        held(last["descriptors"][1] <= third["descriptors"][1], "there are more descriptors")
+        held(last["KiB"][0] <= 1.01 * third["KiB"][0], "there is more memory")
+
+    def quarter(self, number):
+        """The median and the greatest of what poolman held in a quarter of the time."""
+        some = [it for it in self.samples if it[0] * 4 // self.seconds == number]
+        return {name: (statistics.median(column), max(column)) for name, column in zip(("threads", "descriptors", "KiB"), list(zip(*some))[3:])}
+
+
+def main(program, folder, minutes="60"):
+    os.makedirs(folder, exist_ok=True)
+    with Processes(folder) as processes:
+        soak = Soak(program, processes, 60 * float(minutes))
+        soak.run()
+        soak.end()
+        print(f"{soak.answered} jobs, {soak.samples[-1][1]} attempts, load at the end {os.getloadavg()[0]:.1f}")
+        soak.judge()
+
+
+if __name__ == "__main__":
+    if len(sys.argv) < 3:
+        sys.exit(__doc__)
+    main(*sys.argv[1:])
