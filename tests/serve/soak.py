@@ -1,12 +1,13 @@
 #!/usr/bin/env python3
-"""The farm of trial.py for hours: soak.py PROGRAM FOLDER [MINUTES]
+"""The farm of trial.py for an hour: soak.py PROGRAM FOLDER [MINUTES]
 
 Four clients ask for 200 jobs a second together, whose answers have to be right. Each two minutes a healthy host is killed and started again
-after ten seconds, and has to get jobs. The page is read each five seconds, and a line of FOLDER/samples says meanwhile: the seconds since
-the start, the attempts, the jobs that were answered, and of poolman its threads, descriptors, KiB of memory, and KiB that no file has.
+after ten seconds, and has to get jobs. The page is read each five seconds. Each time a line of FOLDER/samples has the seconds since the
+start, the attempts, the jobs that were answered, and what poolman holds: threads, descriptors, KiB of memory, and those that are its own,
+and not pages of a file, of which the system takes some back when it is short of memory.
 
-Prints these of the third and the last quarter: the median and the greatest. In the last there are to be no more descriptors than in
-the third, and a median of memory that is not more by over one per cent. After 600 attempts the page keeps no more of them.
+Prints the median and the greatest of what was held in the third and the last quarter. In the last there are to be no more descriptors than
+in the third, and the median of its own memory may be more by one per cent. After 600 attempts the page keeps no more of them.
 """
 
 import os
@@ -22,6 +23,7 @@ from trial import HEALTHY, PATIENCE, TOTALS, Farm, Processes, ask_rightly, at_on
 
 CLIENTS, JOBS_A_SECOND, ROUND_MS = 4, 50, 1000
 KILL_S, AWAY_S, SAMPLE_S = 120, 10, 5
+HELD = ("threads", "descriptors", "KiB", "own KiB")
 
 
 class Soak:
@@ -111,16 +113,18 @@ class Soak:
         for name, some in ("third", third), ("last", last):
             print(f"{name} quarter: " + ", ".join(f"{what} {middle:.0f} at most {most}" for what, (middle, most) in some.items()))
         held(last["descriptors"][1] <= third["descriptors"][1], "there are more descriptors")
-        held(last["KiB"][0] <= 1.01 * third["KiB"][0], "there is more memory")
+        held(last["own KiB"][0] <= 1.01 * third["own KiB"][0], "there is more memory")
 
     def quarter(self, number):
         """The median and the greatest of what poolman held in a quarter of the time."""
         some = [it for it in self.samples if it[0] * 4 // self.seconds == number]
-        return {name: (statistics.median(column), max(column)) for name, column in zip(("threads", "descriptors", "KiB"), list(zip(*some))[3:])}
+        return {name: (statistics.median(column), max(column)) for name, column in zip(HELD, list(zip(*some))[3:])}
 
 
 def main(program, folder, minutes="60"):
     os.makedirs(folder, exist_ok=True)
+    # As examples/systemd has it. With a heap for each thread memory settles only after hours.
+    os.environ.setdefault("MALLOC_ARENA_MAX", "1")
     with Processes(folder) as processes:
         soak = Soak(program, processes, 60 * float(minutes))
         soak.run()
