@@ -1,6 +1,6 @@
 //! A farm: the settings of its pool, and the services of its machines.
 
-ghost use Rattle.std.specs.Prelude.{◌≡◌, ◌<◌, IfErr, IfOk, IfSome, Some, slice_get};
+ghost use Rattle.std.specs.Prelude.{◌≡◌, ◌<◌, IfErr, IfOk, IfSome, IsSome, Some, slice_get};
 ghost use Rattle.pool_settings.specs.Slots.{machine_of, slots};
 ghost use Rattle.serve_command.specs.Farm as spec;
 
@@ -68,7 +68,8 @@ impl Farm {
 
     /// The machine of a slot. None if the slot is none of the farm.
     pub fn machine_of(&self, slot: SlotId) -> Option<MachineId>
-        ensures { IfSome result (λ machine. machine ≡ machine_of self.now.settings slot) }
+        ensures exact { IfSome result (λ machine. machine ≡ machine_of self.now.settings slot) }
+        ensures there { slot < slots self.now.settings → IsSome result }
     {
         if slot.number() >= self.settings.slots() {
             return None;

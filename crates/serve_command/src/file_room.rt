@@ -85,10 +85,16 @@ impl Known {
 
     /// So many files were looked for, and so many are free.
     fn were_found(&mut self, most: u32, free: u32) {
-        self.may_start = workers_for(free, self.opening());
-        self.next_look = match self.next_look {
-            Some(workers) if free >= most => Some(workers.saturating_mul(2)),
-            _ => None,
+        let Some(workers) = self.next_look else {
+            return;
+        };
+        // As many as before the look: a connection that is opened during it may be after the file was counted as free.
+        let opening = most.saturating_sub(files_for(workers, 0));
+        self.may_start = workers_for(free, opening);
+        self.next_look = if free >= most {
+            Some(workers.saturating_mul(2))
+        } else {
+            None
         };
     }
 

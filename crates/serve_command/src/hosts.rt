@@ -1,6 +1,6 @@
 //! Which hosts of a farm are reached, and when one that is not is tried again.
 
-ghost use Rattle.std.specs.Prelude.{◌≡◌, IfErr, None, Some, false, true};
+ghost use Rattle.std.specs.Prelude.{◌≡◌, IfErr, Some, false, true};
 ghost use Rattle.serve_command.specs.declared.hosts.Reason.TheVariants.{Unreachable};
 ghost use Rattle.serve_command.specs.Hosts as spec;
 
@@ -124,18 +124,17 @@ impl HostState {
         }
     }
 
-    /// Whether a worker may ask for one more job: not if the host could not be reached in an attempt before this one and served none
-    /// since.
+    /// Whether a worker may ask for one more job: not if a dial to the host failed, and so did, in an attempt before this one, that of the
+    /// worker that came to try it.
     fn may_go_on(self, attempt: u64) -> bool
         ensures held_back { result ≡ false → spec.reason_of self ≡ Some Unreachable }
-        ensures present { spec.reason_of self ≡ None → result ≡ true }
     {
         match self {
             HostState::Away {
                 why: Reason::Unreachable,
                 wait,
                 due,
-            } => wait == 1 && attempt < due,
+            } => wait == 1 || attempt.saturating_add(wait) <= due,
             _ => true,
         }
     }
@@ -243,8 +242,8 @@ impl Hosts {
         }
     }
 
-    /// Whether a worker of the machine may ask for one more job: not if its host could not be reached in an attempt before this one, and
-    /// served none since. A dial that fails while others of the host serve jobs thus ends no worker.
+    /// Whether a worker of the machine may ask for one more job: not if a dial to its host failed, and then, in an attempt before this one,
+    /// that of the worker that came to try it. One dial that fails among many thus ends no worker.
     pub fn may_go_on<R: Wait>(&self, rt: &R, machine: MachineId) -> bool {
         let held = self.table.lock(rt);
         match held.hosts.get(machine.number() as usize) {
