@@ -4,6 +4,9 @@ use pool_settings::{Place, Section, SettingsError};
 use std::alloc::{AllocError, Global};
 use toml::{Table, Value};
 
+/// How many bytes a text of a settings file has at most.
+const LONGEST_TEXT: usize = 255;
+
 /// What a settings file has where its mistake is, in words, as far as it helps to mend it: a number as it is, another value by its kind,
 /// and of a text that is not TOML why it is not. The only error is out of memory.
 ///
@@ -73,6 +76,8 @@ fn words(alloc: Global, value: &Value) -> Result<String, AllocError> {
 fn kind(value: &Value) -> &'static str {
     match value {
         Value::Integer(_) => "a number",
+        Value::String(text) if text.is_empty() => "an empty text",
+        Value::String(text) if text.len() > LONGEST_TEXT => "a text of more than 255 bytes",
         Value::String(_) => "a text",
         Value::Float(_) => "a number with a point",
         Value::Boolean(_) => "true or false",
