@@ -2,6 +2,7 @@
 #![tactic(auto)]
 
 mod host;
+mod report_link;
 mod running;
 mod system;
 mod text;
@@ -9,6 +10,7 @@ mod watching;
 
 pub use host::{Host, Route};
 pub use pool_supervisor::{Attempt, Attempted, EndedWorker, JoinedWorker, Progress, RunEnd, Watch};
+pub use report_link::ReportLink;
 pub use running::{run_jobs, run_rounds, run_source};
 pub use stock_jobs::{StockJob, stock_jobs};
 pub use system::{System, time_in_seconds};

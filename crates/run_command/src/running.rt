@@ -33,11 +33,7 @@ fn run_with<H: Host, J: JobSource + Sync>(
         × AreSums settings sessions ended.totals.grabbed ended.totals.reported
         × AllHad (HadJobs J.Jobs.tells J.Jobs.fails (J.gives jobs.now) (J.denies jobs.now)) sessions) }
 {
-    let route = Route {
-        host,
-        server: String::from_str(alloc, settings.server())?,
-        lull_ms: settings.lull_ms(),
-    };
+    let route = Route::new(host, alloc, &settings)?;
     let planner = ArenaPlanner::new(alloc);
     let lent = Lent {
         rt: host,

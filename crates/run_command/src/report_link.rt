@@ -1,0 +1,109 @@
+//! A link to a job server on which a report has a deadline.
+
+ghost use Rattle.std.specs.Prelude.{◌≡◌, ◌+◌, ◌-◌, ◌<◌, ◌≤◌, ◌^◌, IfOk, None, false, length, true};
+ghost use Rattle.byte_io.specs.Device.{failure_of, gone};
+ghost use Rattle.byte_io.specs.Sides.{and_then};
+ghost use Rattle.run_command.specs.Report as spec;
+
+use byte_io::{Device, DeviceFault, Sink, Source, Took};
+use pool_supervisor::Watch;
+
+/// A link to a job server on which a report has a deadline: what is written with no read between has to be taken in so many milliseconds
+/// after its first write. A write after that fails, and writes nothing. A link alone bounds the time of each write: a server that takes
+/// a report by a few bytes at a time would hold a worker and its job for as long as it likes.
+///
+/// While the clock does not show the time, no write is late.
+#[derive(Drop)]
+pub struct ReportLink<'e, L, H> {
+    link: L,
+    watch: &'e H,
+    limit_ms: u64,
+    /// Until when what is being written has to be taken. None before its first write.
+    deadline: Option<u64>,
+    /// How many writes came too late.
+    late: u64,
+}
+
+/// Until when a report has to be taken whose deadline this is, if it has one, and of which some is written now.
+fn deadline_of(deadline: Option<u64>, limit_ms: u64, now: Option<u64>) -> Option<u64>
+    ensures { result ≡ spec.deadline_of deadline limit_ms now }
+{
+    match deadline {
+        Some(deadline) => Some(deadline),
+        None => Some(now?.saturating_add(limit_ms)),
+    }
+}
+
+/// Whether the deadline has come. It has not, if the time is not known.
+fn is_late(deadline: Option<u64>, now: Option<u64>) -> bool
+    ensures { result ≡ spec.is_late deadline now }
+{
+    match (deadline, now) {
+        (Some(deadline), Some(now)) => deadline <= now,
+        _ => false,
+    }
+}
+
+impl<'e, L: Source + Sink, H: Watch> ReportLink<'e, L, H> {
+    /// A link of which nothing was written or read here.
+    pub fn new(link: L, watch: &'e H, limit_ms: u32) -> ReportLink<'e, L, H>
+        ensures input { ⟦<ReportLink<'e, L, H> as Device>⟧.input result ≡ L.input link }
+        ensures output { ⟦<ReportLink<'e, L, H> as Device>⟧.output result ≡ L.output link }
+        ensures unwritten { result.deadline ≡ None }
+        ensures limit { result.limit_ms ≡ limit_ms }
+    {
+        ReportLink {
+            link,
+            watch,
+            limit_ms: limit_ms as u64,
+            deadline: None,
+            late: 0,
+        }
+    }
+}
+
+impl<'e, L: Sink, H> ReportLink<'e, L, H> {
+    /// Writes the bytes or a prefix of them at this time, if the report is not late.
+    fn give_at(&mut self, bytes: &[u8], now: Option<u64>) -> Result<usize, DeviceFault>
+        requires some { 0 < length bytes.now }
+        requires count { (L.output self.old.link).failures + self.old.late < 2 ^ 64 - 1 }
+        ensures late { spec.is_late self.old.deadline now ≡ true
+            → (failure_of result ≡ 1) × (self.new.link ≡ self.old.link) × (self.new.deadline ≡ self.old.deadline) }
+        ensures in_time { spec.is_late self.old.deadline now ≡ false → (self.new.late ≡ self.old.late)
+            × (self.new.deadline ≡ spec.deadline_of self.old.deadline self.old.limit_ms now) }
+        ensures limit { self.new.limit_ms ≡ self.old.limit_ms }
+        ensures within { IfOk result (λ n. (1 ≤ n) × (n ≤ length bytes.now)) }
+        ensures bytes { (L.output self.new.link).got ≡ and_then (L.output self.old.link).got (gone bytes.now result) }
+        ensures fails { (L.output self.new.link).failures + self.new.late
+            ≡ ((L.output self.old.link).failures + self.old.late) + failure_of result }
+        ensures input { L.input self.new.link ≡ L.input self.old.link }
+    {
+        if is_late(self.deadline, now) {
+            self.late += 1;
+            return Err(DeviceFault);
+        }
+        self.deadline = deadline_of(self.deadline, self.limit_ms, now);
+        self.link.give(bytes)
+    }
+}
+
+impl<'e, L: Device, H> Device for ReportLink<'e, L, H> {
+    ghost use Rattle.std.specs.Prelude.{◌+◌};
+
+    ghost input = { λ s. L.input s.link };
+
+    ghost output = { λ s. record { got = (L.output s.link).got; failures = (L.output s.link).failures + s.late } };
+}
+
+impl<'e, L: Source, H> Source for ReportLink<'e, L, H> {
+    fn take(&mut self, buffer: &mut [u8]) -> Result<Took, DeviceFault> {
+        self.deadline = None;
+        self.link.take(buffer)
+    }
+}
+
+impl<'e, L: Sink, H: Watch> Sink for ReportLink<'e, L, H> {
+    fn give(&mut self, bytes: &[u8]) -> Result<usize, DeviceFault> {
+        self.give_at(bytes, self.watch.now_ms())
+    }
+}
