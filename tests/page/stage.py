@@ -16,7 +16,7 @@ sys.path[1:1] = [f"{TOP}/tests/gearmand", f"{TOP}/tests/serve"]
 from asking import ask_rightly, mixed_jobs
 from farm import HOST, Gearmand, held, wait_until
 from page import Page
-from trial import Processes, drain, listens, ports
+from starting import Processes, drain, listens, ports
 
 # After so many seconds a wait is given up.
 PATIENCE = 60

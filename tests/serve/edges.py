@@ -1,8 +1,8 @@
 """Farms at the edges of what the system gives them: edges.py PROGRAM FOLDER
 
 tests/serve/run calls this. A farm has two hosts that do jobs. It goes on, and serves them, though nobody takes its lines, though the names
-of 200 further hosts do not resolve, and though no descriptor is left, or there are too few from the start. What its processes write is in
-the folder.
+of 200 further hosts do not resolve, though no descriptor is left, or there are too few from the start, though the job server takes a report
+a little at a time, and though a host is gone. What its processes write is in the folder.
 """
 
 import fcntl
@@ -20,10 +20,11 @@ sys.dont_write_bytecode = True
 TOP = os.path.join(os.path.dirname(os.path.abspath(__file__)), "../..")
 sys.path.insert(0, f"{TOP}/tests/gearmand")
 
-from farm import HOST, TOTALS, held, wait_until
+from farm import HOST, TOTALS, at_once, held, wait_until
 
 from asking import ask_rightly
 from page import Page
+from slow_way import SlowWay
 from starting import LINE, PATIENCE, Processes, drain, ports, untimed
 
 HOSTS = ("north", "south")
@@ -39,6 +40,9 @@ MOST_WAITING = 4096
 # For so many seconds a look-up waits for a resolver that does not answer.
 LOOKUP_S = 3
 
+# A report has to be taken in so many milliseconds. The great one is more than the system takes for whoever reads late.
+REPORT_MS, GREAT = 8000, 8_000_000
+
 # So many descriptors are too few for all workers, each of which takes two.
 FEW = 22
 
@@ -48,10 +52,10 @@ IFF_UP, SIOCSIFFLAGS = 1, 0x8914
 LEFT_OUT = re.compile(r"left out (\d+) lines")
 
 
-def settings(server, others):
+def settings(server, others, job_timeout_ms=60_000):
     """The settings of a farm with these further machines, with its job server at this port."""
     lines = ["version = 1", f'server = "{HOST}:{server}"', f"round_ms = {ROUND_MS}", "lull_ms = 20"]
-    lines.append("[functions.upper]")
+    lines += [f"job_timeout_ms = {job_timeout_ms}", "[functions.upper]"]
     for name, workers in [*((name, WORKERS) for name in HOSTS), *((name, 1) for name in others)]:
         lines.append(f'[machines.{name}]\nworkers = {workers}\nfunctions = ["upper"]')
     return "\n".join([*lines, ""])
@@ -106,11 +110,22 @@ class Edge:
         """A number of the page."""
         return int(re.search(rf"^{re.escape(name)} (\d+)$", self.page.text("/metrics"), re.MULTILINE)[1])
 
-    def restart(self, name):
-        """Kills a service, so that its connections are closed, and starts it again."""
+    def kill(self, name):
+        """Kills a service, so that its connections are closed."""
         self.services[name].kill()
         self.services[name].wait()
+
+    def restart(self, name):
+        """Kills a service, and starts it again."""
+        self.kill(name)
         self.services[name] = self.processes.start_service(name, self.places[name])
+
+    def causes(self, workers=r"\S+"):
+        """The causes for which these workers ended, in order."""
+        return [found[1] for line in self.lines() if (found := re.fullmatch(rf"ended {workers} (\S+)", line))]
+
+    def has_all_workers(self):
+        return self.metric("poolman_alive_workers") == WORKERS * len(HOSTS)
 
     def holds_no_good_host_unreached(self):
         said = [line for line in self.lines() if line.startswith("unreached ") and line.split()[1] in HOSTS]
@@ -292,7 +307,7 @@ def no_descriptor_is_left(program, processes):
     wait_until(lambda: nolinks(edge.lines()[before:]) >= 10, PATIENCE, "attempts are made without a descriptor")
     holds_pace(nolinks(edge.lines()[before:]), begin)
     resource.prlimit(edge.poolman.pid, resource.RLIMIT_NOFILE, limits)
-    wait_until(lambda: edge.is_well() and edge.metric("poolman_alive_workers") == WORKERS * len(HOSTS), PATIENCE, "all workers are back")
+    wait_until(lambda: edge.is_well() and edge.has_all_workers(), PATIENCE, "all workers are back")
     edge.keeps_pace_while(lambda: edge.ask(good_jobs("again", 300)))
     edge.end(600)
     edge.holds_no_good_host_unreached()
@@ -312,7 +327,7 @@ def too_few_descriptors_at_first(program, processes):
     limits = resource.prlimit(edge.poolman.pid, resource.RLIMIT_NOFILE)
     resource.prlimit(edge.poolman.pid, resource.RLIMIT_NOFILE, (limits[1], limits[1]))
     wait_until(lambda: "hasfiles" in edge.lines(), PATIENCE, "the farm says that files are there")
-    wait_until(lambda: edge.metric("poolman_alive_workers") == WORKERS * len(HOSTS), PATIENCE, "all workers are there")
+    wait_until(edge.has_all_workers, PATIENCE, "all workers are there")
     edge.keeps_pace_while(lambda: edge.ask(good_jobs("many", 300)))
     edge.end(600)
     said = [line for line in edge.lines() if line in ("lacksfiles", "hasfiles")]
@@ -325,7 +340,52 @@ def nolinks(lines):
     return sum(line.startswith("attempt ") and line.endswith(" nolink") for line in lines)
 
 
-PARTS = (nobody_takes_lines, names_do_not_resolve, no_descriptor_is_left, too_few_descriptors_at_first)
+def a_report_is_taken_slowly(program, processes):
+    """The job server takes one report a little at a time: its worker ends in bounded time, and the job goes to another."""
+    edge = Edge(program, processes)
+    port = ports(1)[0]
+    way = SlowWay(port, edge.server)
+    edge.write("settings", settings(port, (), REPORT_MS))
+    edge.start()
+
+    def hurry_at_the_end():
+        wait_until(edge.causes, PATIENCE, "the worker of a slow report ends")
+        way.hurry()
+
+    at_once([lambda: edge.ask([("upper", "great", GREAT * b"a")]), hurry_at_the_end])
+    held(edge.causes()[0] == "WriteFault", f"workers ended so: {edge.causes()}")
+    held(edge.metric("poolman_alive_workers") > 0, "no worker is alive")
+    edge.end(1)
+
+
+def idle_workers_end_with_their_host(program, processes):
+    """A host is gone while its workers wait for jobs: one of them takes a job in vain, and others end without one."""
+    edge = Edge(program, processes)
+    edge.start()
+    wait_until(edge.has_all_workers, PATIENCE, "all workers are there")
+    edge.kill("north")
+    asked, end = 0, time.monotonic() + PATIENCE
+    while "unreached north Unreachable" not in edge.lines():
+        held(time.monotonic() < end, "no worker of the host has taken a job")
+        edge.ask(good_jobs(f"gone-{asked}", 1))
+        asked += 1
+    first = r"north/\d#1"
+    wait_until(lambda: len(edge.causes(first)) == WORKERS, PATIENCE, "the workers of the host end")
+    held(set(edge.causes(first)) == {"Stopped", "Unserved"}, f"they ended so: {edge.causes(first)}")
+    edge.restart("north")
+    wait_until(edge.has_all_workers, PATIENCE, "all workers are back")
+    edge.ask(good_jobs("back", 300))
+    edge.end(asked + 300)
+
+
+PARTS = (
+    nobody_takes_lines,
+    names_do_not_resolve,
+    no_descriptor_is_left,
+    too_few_descriptors_at_first,
+    a_report_is_taken_slowly,
+    idle_workers_end_with_their_host,
+)
 
 
 def main(program, folder, *names):

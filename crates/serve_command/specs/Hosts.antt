@@ -13,12 +13,22 @@ is_local TooManyFiles = true
 is_local Memory = true
 is_local other = false
 
+-- A worker that dialled its host again may go on: the host was reached, or nothing was learnt of it.
+abbrev pub lets_go_on : Result (Unit {0}) DialError → Bool
+lets_go_on (Ok _) = true
+lets_go_on (Err why) = is_local why
+
 -- why a host is left alone, if it is
 abbrev pub reason_of : HostState → Option Reason
 reason_of (state.Present unserved) = None
 reason_of (state.Away why wait due) = Some why
 
--- the same once a connection was opened
+-- it is left alone since a dial to it failed
+abbrev pub is_unreachable : Option Reason → Bool
+is_unreachable (Some Unreachable) = true
+is_unreachable other = false
+
+-- why it is left alone once a connection was opened, by what it was before
 abbrev pub after_opening : Option Reason → Option Reason
 after_opening (Some Unreachable) = None
 after_opening before = before

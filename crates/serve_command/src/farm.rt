@@ -68,7 +68,7 @@ impl Farm {
 
     /// The machine of a slot. None if the slot is none of the farm.
     pub fn machine_of(&self, slot: SlotId) -> Option<MachineId>
-        ensures exact { IfSome result (λ machine. machine ≡ machine_of self.now.settings slot) }
+        ensures exact { IfSome result (λ machine. (slot < slots self.now.settings) × (machine ≡ machine_of self.now.settings slot)) }
         ensures there { slot < slots self.now.settings → IsSome result }
     {
         if slot.number() >= self.settings.slots() {

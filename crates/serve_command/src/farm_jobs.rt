@@ -216,7 +216,7 @@ fn no_connection_line(
 }
 
 /// The line of what is new of a machine's host, if anything is.
-fn host_line(
+pub fn host_line(
     alloc: Global,
     farm: &Farm,
     machine: MachineId,

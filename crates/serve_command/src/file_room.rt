@@ -48,6 +48,17 @@ fn files_for(workers: u32, opening: u32) -> u32 {
         .saturating_add(LEFT_FREE)
 }
 
+/// What became of the workers that wanted to start in an attempt.
+#[derive(Clone, Copy, Debug, PartialEq, Eq)]
+enum Starts {
+    /// None wanted to.
+    Untried,
+    /// Each could.
+    AllCould,
+    /// At least one could not.
+    SomeCouldNot,
+}
+
 /// What is known of the files in this attempt.
 #[derive(Drop)]
 struct Known {
@@ -59,10 +70,8 @@ struct Known {
     may_start: u32,
     /// For how many workers files are looked for then. None if there are no more in this attempt.
     next_look: Option<u32>,
-    /// Whether a worker could start.
-    has_let: bool,
-    /// Whether a worker was held back.
-    has_held_back: bool,
+    /// What became of those that wanted to start.
+    starts: Starts,
     /// Whether files were lacking in the last attempt that says so.
     are_lacking: bool,
 }
@@ -101,16 +110,19 @@ impl Known {
     /// Whether one more worker may start.
     fn lets(&mut self) -> bool {
         let lets = self.may_start > 0;
-        self.has_let = self.has_let || lets;
-        self.has_held_back = self.has_held_back || !lets;
+        if !lets {
+            self.starts = Starts::SomeCouldNot;
+        } else if self.starts == Starts::Untried {
+            self.starts = Starts::AllCould;
+        }
         lets
     }
 
     /// What is new after the attempt.
     fn news(&self) -> Option<FileNews> {
-        match self.are_lacking {
-            false if self.has_held_back => Some(FileNews::Lacking),
-            true if self.has_let && !self.has_held_back => Some(FileNews::Present),
+        match (self.are_lacking, self.starts) {
+            (false, Starts::SomeCouldNot) => Some(FileNews::Lacking),
+            (true, Starts::AllCould) => Some(FileNews::Present),
             _ => None,
         }
     }
@@ -119,8 +131,7 @@ impl Known {
     fn begin_attempt(&mut self) {
         self.may_start = 0;
         self.next_look = Some(FIRST_LOOK);
-        self.has_let = false;
-        self.has_held_back = false;
+        self.starts = Starts::Untried;
     }
 }
 
@@ -140,8 +151,7 @@ impl FileRoom {
                 opened: 0,
                 may_start: 0,
                 next_look: Some(workers.max(1)),
-                has_let: false,
-                has_held_back: false,
+                starts: Starts::Untried,
                 are_lacking: false,
             }),
         }

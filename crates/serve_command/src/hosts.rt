@@ -1,7 +1,6 @@
 //! Which hosts of a farm are reached, and when one that is not is tried again.
 
-ghost use Rattle.std.specs.Prelude.{◌≡◌, IfErr, Some, false, true};
-ghost use Rattle.serve_command.specs.declared.hosts.Reason.TheVariants.{Unreachable};
+ghost use Rattle.std.specs.Prelude.{◌≡◌, IfErr, Some, true};
 ghost use Rattle.serve_command.specs.Hosts as spec;
 
 use devices::DialError;
@@ -57,6 +56,16 @@ fn is_local(why: DialError) -> bool
     ensures { result ≡ spec.is_local why }
 {
     matches!(why, DialError::TooManyFiles | DialError::Memory)
+}
+
+/// Whether a worker may ask for one more job after it dialled its host again: if that was reached, or if nothing was learnt of it.
+pub fn lets_go_on(dialled: Result<(), DialError>) -> bool
+    ensures { result ≡ spec.lets_go_on dialled }
+{
+    match dialled {
+        Ok(()) => true,
+        Err(why) => is_local(why),
+    }
 }
 
 impl HostState {
@@ -124,19 +133,11 @@ impl HostState {
         }
     }
 
-    /// Whether a worker may ask for one more job: not if a dial to the host failed, and so did, in an attempt before this one, that of the
-    /// worker that came to try it.
-    fn may_go_on(self, attempt: u64) -> bool
-        ensures held_back { result ≡ false → spec.reason_of self ≡ Some Unreachable }
+    /// Whether a dial to it failed, not for want of files or memory here, and since then none has succeeded and no job was served.
+    fn is_unreachable(self) -> bool
+        ensures { result ≡ spec.is_unreachable (spec.reason_of self) }
     {
-        match self {
-            HostState::Away {
-                why: Reason::Unreachable,
-                wait,
-                due,
-            } => wait == 1 || attempt.saturating_add(wait) <= due,
-            _ => true,
-        }
+        self.reason() == Some(Reason::Unreachable)
     }
 
     /// After a worker joined. If it came to try a host that is left alone, the next wait is longer: 1, 2, 4 .. attempts, and 64 at most.
@@ -242,12 +243,12 @@ impl Hosts {
         }
     }
 
-    /// Whether a worker of the machine may ask for one more job: not if a dial to its host failed, and then, in an attempt before this one,
-    /// that of the worker that came to try it. One dial that fails among many thus ends no worker.
-    pub fn may_go_on<R: Wait>(&self, rt: &R, machine: MachineId) -> bool {
+    /// Whether a dial to the machine's host failed, not for want of files or memory here, and since then none has succeeded and no job was
+    /// served.
+    pub fn is_unreachable<R: Wait>(&self, rt: &R, machine: MachineId) -> bool {
         let held = self.table.lock(rt);
         match held.hosts.get(machine.number() as usize) {
-            Some(host) => host.state.may_go_on(held.attempt),
+            Some(host) => host.state.is_unreachable(),
             None => false,
         }
     }

@@ -4,13 +4,17 @@ ghost use Rattle.std.specs.Prelude.{◌≡◌};
 ghost use Rattle.serve_command.specs.Serving.{status_of};
 
 use crate::farm::Farm;
+use crate::farm_jobs::host_line;
 use crate::file_room::FileRoom;
 use crate::host::FarmHost;
-use crate::hosts::Hosts;
+use crate::hosts::{Hosts, lets_go_on};
 use crate::job_lines::{Uncompleted, line_of, lost_job};
 use crate::last_jobs::{AnsweredJob, LastJobs};
+use byte_io::{Sink, Source};
+use devices::DialError;
 use farm_notes::{Known, PageNotes, Tally};
 use farm_page::FarmView;
+use http_jobs::Dial;
 use plan_model::{Certified, SlotId};
 use pool_core::{JoinError, totals_line};
 use pool_settings::Settings;
@@ -20,6 +24,7 @@ use pool_supervisor::{
 use refusal::Labelled;
 use run_command::end_notes;
 use std::alloc::{AllocError, Global};
+use std::snapshot::Snapshot;
 use std::sync::{Mutex, Wait};
 use std::thread::Threads;
 use worker_state::WorkerName;
@@ -170,12 +175,23 @@ impl<'e, H: FarmHost> Watch for Reporting<'e, H> {
         self.host.is_to_end() || self.outlook() == Outlook::SlotUsed
     }
 
-    /// A worker whose host cannot be reached would have to give its next job back.
+    /// A worker whose host was not reached dials it again, beside the connection that it keeps: that may look open though its host is gone,
+    /// and then the next job would be done in vain. At the end of the farm the worker is ordered to stop in any case.
     fn may_go_on(&self, worker: WorkerName) -> bool {
-        match self.farm.machine_of(worker.slot) {
-            Some(machine) => self.hosts.may_go_on(self.host, machine),
-            None => false,
+        let Some(machine) = self.farm.machine_of(worker.slot) else {
+            return false;
+        };
+        if !self.hosts.is_unreachable(self.host, machine) || self.host.is_to_end() {
+            return true;
         }
+        let Some(name) = self.farm.host_of(self.alloc, worker.slot) else {
+            return true;
+        };
+        let dialled = dial_again(self.host.dials(name, self.farm.call_times()));
+        let news = self.hosts.was_dialled(self.host, machine, dialled);
+        self.host
+            .tell_if(host_line(self.alloc, self.farm, machine, news));
+        lets_go_on(dialled)
     }
 }
 
@@ -243,6 +259,15 @@ impl<'e, H: FarmHost> Progress for Reporting<'e, H> {
             Err(error) => self.host.tell(Err(error)),
         }
     }
+}
+
+/// Opens a connection, and closes it. The error says why none was opened.
+fn dial_again<L: Source + Sink + Drop, D: Dial<L> + Drop>(mut dials: D) -> Result<(), DialError> {
+    let link = dials.dial(None)?;
+    let left = Snapshot::of(&link);
+    drop(link);
+    dials.hung_up(left);
+    Ok(())
 }
 
 /// Which worker joined, as `joined north/0#3`. The only error is out of memory.

@@ -19,7 +19,7 @@ use pool_supervisor::{ArenaPlanner, Lent, RunEnd, run_until_ended};
 use run_command::Route;
 use std::alloc::{AllocError, Global};
 
-/// For how many milliseconds more than a job may take a drain waits for the end of the farm.
+/// For how many milliseconds more than a job and its report may take a drain waits for the end of the farm.
 const DRAIN_MS: u32 = 60_000;
 
 /// A farm that ended.
@@ -35,7 +35,10 @@ pub struct FarmEnd {
 fn page_times(settings: &Settings) -> PageTimes {
     PageTimes {
         round_ms: settings.round_ms(),
-        drain_ms: settings.job_timeout_ms().saturating_add(DRAIN_MS),
+        drain_ms: settings
+            .job_timeout_ms()
+            .saturating_mul(2)
+            .saturating_add(DRAIN_MS),
     }
 }
 
@@ -48,11 +51,7 @@ fn run_until_end<'x, H: FarmHost>(
     ensures { IfOk result (λ ended. spec.IsFarmRun farm.now.settings ended.run) }
 {
     let settings = farm.settings.copy(alloc)?;
-    let route = Route {
-        host,
-        server: String::from_str(alloc, settings.server())?,
-        lull_ms: settings.lull_ms(),
-    };
+    let route = Route::new(host, alloc, &settings)?;
     let planner = ArenaPlanner::new(alloc);
     let hosts = Hosts::new(alloc, settings.machines())?;
     let tally = Tally::new(alloc, settings.functions())?;
