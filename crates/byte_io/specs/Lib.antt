@@ -1,3 +1,4 @@
+pub mod Deadline
 pub mod Device
 pub mod Sides
 pub mod Memory

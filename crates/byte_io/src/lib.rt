@@ -4,11 +4,13 @@
 //! has a device for tests.
 #![tactic(auto)]
 
+mod deadline;
 mod device;
 pub mod doubles;
 mod memory;
 mod patience;
 
+pub use deadline::{deadline_from, is_past};
 pub use device::{Device, DeviceFault, Given, Sink, Source, Took, give_all};
 pub use memory::{SliceSource, VecSink};
-pub use patience::{MAX_TIMEOUTS, Patience};
+pub use patience::{LAST_TIMEOUT, MAX_TIMEOUTS, Patience};

@@ -10,6 +10,9 @@ use std::marker::Model;
 /// How many timeouts one call waits out. At the next it gives up.
 pub const MAX_TIMEOUTS: u32 = 64;
 
+/// The timeout at which a call gives up. A dial, or one write, may take as long as so many.
+pub const LAST_TIMEOUT: u32 = MAX_TIMEOUTS + 1;
+
 /// How often one call has waited for its source. All reads of the call go through it, so their timeouts are counted together.
 #[derive(Drop)]
 pub struct Patience {

@@ -6,14 +6,11 @@ ghost use Rattle.byte_io.specs.Sides.{no_input, no_output};
 use crate::dial_error::DialError;
 use crate::reads::Reads;
 use crate::results::TimeLimit;
-use byte_io::{Device, DeviceFault, MAX_TIMEOUTS, Sink, Source, Took};
+use byte_io::{Device, DeviceFault, LAST_TIMEOUT, Sink, Source, Took};
 use std::io;
 use std::io::{ErrorKind, Read, Write};
 use std::net::{Net, TcpStream, ToSocketAddrs};
 use std::time::Duration;
-
-/// How many timeouts a dial or a write may take: one more than a call that reads waits out.
-const PATIENCE: u64 = MAX_TIMEOUTS as u64 + 1;
 
 /// A TCP stream to the job server, as a source and a sink with one descriptor.
 ///
@@ -47,7 +44,9 @@ impl TcpLink {
     {
         stream.set_nodelay(true)?;
         stream.set_read_timeout(Some(Duration::from_millis(lull_ms as u64)))?;
-        stream.set_write_timeout(Some(Duration::from_millis(lull_ms as u64 * PATIENCE)))?;
+        stream.set_write_timeout(Some(Duration::from_millis(
+            lull_ms as u64 * LAST_TIMEOUT as u64,
+        )))?;
         Ok(TcpLink {
             stream,
             reads: Reads::new(),
@@ -65,7 +64,7 @@ impl TcpLink {
         ensures input { IfOk result (λ link. ⟦<TcpLink as Device>⟧.input link ≡ no_input) }
         ensures output { IfOk result (λ link. ⟦<TcpLink as Device>⟧.output link ≡ no_output) }
     {
-        let patience = Duration::from_millis(lull_ms as u64 * PATIENCE);
+        let patience = Duration::from_millis(lull_ms as u64 * LAST_TIMEOUT as u64);
         let addresses = match server.to_socket_addrs(net) {
             Ok(addresses) => addresses,
             Err(error) => return Err(DialError::why_not_found(net, &error)),

@@ -10,7 +10,8 @@ use Rattle.http_jobs.specs.declared.answers.Received.{Received}
 use Rattle.http_jobs.specs.declared.fault.NotDone.{NotDone}
 use Rattle.http_jobs.specs.declared.fault.NotDone.TheVariants.{Unserved as Not, Memory}
 use Rattle.http_jobs.specs.declared.fault.Unserved.TheVariants as why
-use Rattle.http_jobs.specs.Clock.{shown_then, is_past, InTime, IsLate}
+use Rattle.byte_io.specs.Deadline.{is_past}
+use Rattle.http_jobs.specs.Clock.{shown_then, InTime, IsLate}
 use Rattle.http_jobs.specs.Reasons.{Seen, NotReceived, NotSent}
 use Rattle.http_jobs.specs.Reading.{StepFails, FillFails}
 use Rattle.http_jobs.specs.Exchange.{Sees, IsReceived, Explains}

@@ -1,16 +1,11 @@
 -- The times that a clock shows, and a deadline.
 use Rattle.std.specs.List.{AllByRecursion}
-use Rattle.std.specs.Prelude.{◌≡◌, ℕ, nat_le, Bool, true, false, List, [], ◌∷◌, ◌++◌, Option, Some, None, option_map}
+use Rattle.std.specs.Prelude.{◌≡◌, ℕ, true, false, List, [], ◌∷◌, ◌++◌, Option, option_map}
+use Rattle.byte_io.specs.Deadline.{is_past}
 
 -- the times shown so far, if they are known, and these more
 abbrev pub shown_then : Option (List (Option ℕ)) → List (Option ℕ) → Option (List (Option ℕ))
 shown_then before more = option_map (λ times. times ++ more) before
-
--- The deadline has come at this time. Without a deadline it never comes, nor at a time that is not known.
-abbrev pub is_past : Option ℕ → Option ℕ → Bool
-is_past (Some deadline) (Some time) = nat_le deadline time
-is_past (Some deadline) None = false
-is_past None time = false
 
 -- the deadline had come at none of these times
 abbrev pub InTime : Option ℕ → List (Option ℕ) → Type 0

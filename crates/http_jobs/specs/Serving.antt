@@ -1,8 +1,9 @@
 -- The jobs of a service, and the connections over which they are done.
-use Rattle.std.specs.Prelude.{◌≡◌, ◌≢◌, ℕ, ◌+◌, ◌-◌, ◌^◌, ◌⊎◌, min, Bool, true, false, List, [], ◌∷◌, ◌++◌, take, Option, Some, None}
+use Rattle.std.specs.Prelude.{◌≡◌, ◌≢◌, ℕ, ◌+◌, ◌⊎◌, Bool, true, false, List, [], ◌∷◌, ◌++◌, take, Option, Some, None}
 use Rattle.std.specs.Prelude.{option_map, IsTrue, Result, Ok, Err}
 use Rattle.std.specs.Option.{option_and_then}
 use Rattle.gear_packets.specs.Response.{AssignedJob}
+use Rattle.byte_io.specs.Deadline.{deadline_from}
 use Rattle.byte_io.specs.Sides.{Input, Output, and_then}
 use Rattle.devices.specs.declared.dial_error.DialError.{DialError}
 use Rattle.job_runner.specs.Run.{Link, seen_link}
@@ -53,6 +54,11 @@ IsNew link =
 abbrev pub HasNew : Option Link → Type 0
 HasNew None = ⊥
 HasNew (Some link) = IsNew link
+
+-- a connection was opened, and closed as it was, or a dial failed for this reason
+abbrev pub Tries : Result (Unit {0}) DialError → Option (List DialCall) → Option (List DialCall) → Type 0
+Tries (Ok _) old new = (link : Link) × IsNew link × (new ≡ then_called (then_called old (opened ∷ [])) (closed link ∷ []))
+Tries (Err why) old new = new ≡ then_called old (failed why ∷ [])
 
 -- how often the kept connection has failed
 abbrev pub kept_failures : {L : Type 0} → (L → Input) → (L → Output) → Option L → ℕ
@@ -107,10 +113,6 @@ Opens old calls before = (Keeps old before × (calls ≡ [])) ⊎ (IsNew before 
 abbrev pub Leaves : Option Link → List DialCall → Bool → Link → Type 0
 Leaves kept calls true after = (kept ≡ Some after) × (calls ≡ [])
 Leaves kept calls false after = (kept ≡ None) × (calls ≡ closed after ∷ [])
-
--- so long after this time, if the time is known
-abbrev pub deadline_from : ℕ → Option ℕ → Option ℕ
-deadline_from timeout start = option_map (λ time. min (time + timeout) (2 ^ 64 - 1)) start
 
 -- One job over one connection: how that came, what went out and came back over it, how it was left, and what the clock showed meanwhile.
 pub record Uses (old new : Visible) (sent : List ℕ) (is_kept : Bool) (seen : Seen) (start : Option ℕ) (before after : Link) : Type 0 where

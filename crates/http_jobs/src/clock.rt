@@ -1,7 +1,8 @@
 //! What shows the time.
 
 ghost use Rattle.std.specs.Prelude.{◌≡◌, ◌∷◌, [], ℕ, List, Option};
-ghost use Rattle.http_jobs.specs.Clock.{shown_then, is_past};
+ghost use Rattle.byte_io.specs.Deadline.{is_past};
+ghost use Rattle.http_jobs.specs.Clock.{shown_then};
 
 /// What shows the time.
 ///
@@ -21,8 +22,5 @@ pub trait Clock {
 pub fn is_late<C: Clock>(clock: &mut C, deadline: Option<u64>) -> bool
     ensures { (time : Option ℕ) × (C.shown clock.new ≡ shown_then (C.shown clock.old) (time ∷ [])) × (result ≡ is_past deadline time) }
 {
-    match (deadline, clock.now_ms()) {
-        (Some(deadline), Some(now)) => deadline <= now,
-        _ => false,
-    }
+    byte_io::is_past(deadline, clock.now_ms())
 }

@@ -23,5 +23,5 @@ pub use fault::{NotDone, Unserved, dial_words};
 pub use outcome::{Failure, Reply};
 pub use posts::Post;
 pub use service::{Service, ServiceError};
-pub use service_jobs::{Dial, Look, ServiceJobs};
+pub use service_jobs::{Dial, Look, ServiceJobs, try_dial};
 pub use tcp::{CallTimes, SystemClock, TcpDial};

@@ -5,8 +5,9 @@ ghost use Rattle.gear_packets.specs.Reading.{job_of};
 ghost use Rattle.http_jobs.specs.Response.{reply_of};
 ghost use Rattle.std.specs.Option.{option_map};
 ghost use Rattle.job_runner.specs.Run.{seen_link};
-ghost use Rattle.http_jobs.specs.Serving.{DialCall, IsNew, IsOpened, Leaves, NotServed, Opens, Reuses, Tells, closed, closings};
-ghost use Rattle.http_jobs.specs.Serving.{deadline_from, dialled, failed, kept_failures, visible, then_called};
+ghost use Rattle.byte_io.specs.Deadline as spec;
+ghost use Rattle.http_jobs.specs.Serving.{DialCall, IsNew, IsOpened, Leaves, NotServed, Opens, Reuses, Tells, Tries, closed, closings};
+ghost use Rattle.http_jobs.specs.Serving.{dialled, failed, kept_failures, visible, then_called};
 ghost use Rattle.http_jobs.specs.Clock.{shown_then};
 
 use crate::clock::Clock;
@@ -15,7 +16,7 @@ use crate::fault::NotDone;
 use crate::outcome::Reply;
 use crate::request::has_no_path;
 use crate::service::Service;
-use byte_io::{Device, Sink, Source};
+use byte_io::{Device, Sink, Source, deadline_from};
 use devices::DialError;
 use gear_packets::Assignment;
 use job_runner::{Jobs, Outcome};
@@ -55,6 +56,24 @@ pub trait Dial<L: Source + Sink> {
     fn hung_up(&mut self, link: Snapshot<L>)
         ensures calls { Self.calls self.new
             ≡ then_called (Self.calls self.old) (closed (seen_link L.input L.output link.value) ∷ []) };
+}
+
+/// Closes a connection.
+fn hang_up<L: Source + Sink + Drop, D: Dial<L>>(dial: &mut D, link: L)
+    ensures calls { D.calls dial.new ≡ then_called (D.calls dial.old) (closed (seen_link L.input L.output link) ∷ []) }
+{
+    let left = Snapshot::of(&link);
+    drop(link);
+    dial.hung_up(left);
+}
+
+/// Opens a connection, and closes it. The error says why none was opened.
+pub fn try_dial<L: Source + Sink + Drop, D: Dial<L>>(dial: &mut D) -> Result<(), DialError>
+    ensures tries { Tries result (D.calls dial.old) (D.calls dial.new) }
+{
+    let link = dial.dial(None)?;
+    hang_up(dial, link);
+    Ok(())
 }
 
 /// The jobs of a service, which does each by one request and one response. The connection is kept from one to the next if it can be.
@@ -111,19 +130,6 @@ impl<L: Source + Sink + Look + Drop, D: Dial<L>, C: Clock> ServiceJobs<L, D, C> 
         Ok(())
     }
 
-    /// Closes a connection.
-    fn hang_up(&mut self, link: L)
-        ensures calls { D.calls self.new.dial ≡ then_called (D.calls self.old.dial) (closed (seen_link L.input L.output link) ∷ []) }
-        ensures kept { self.new.kept ≡ self.old.kept }
-        ensures clock { self.new.clock ≡ self.old.clock }
-        ensures service { self.new.service ≡ self.old.service }
-        ensures timeout { self.new.timeout_ms ≡ self.old.timeout_ms }
-    {
-        let left = Snapshot::of(&link);
-        drop(link);
-        self.dial.hung_up(left);
-    }
-
     /// The kept connection, if it is quiet. Else it is closed.
     fn reuse(&mut self) -> Option<L>
         ensures kept { self.new.kept ≡ None }
@@ -139,7 +145,7 @@ impl<L: Source + Sink + Look + Drop, D: Dial<L>, C: Clock> ServiceJobs<L, D, C> 
         if link.is_quiet() {
             return Some(link);
         }
-        self.hang_up(link);
+        hang_up(&mut self.dial, link);
         None
     }
 
@@ -175,23 +181,20 @@ impl<L: Source + Sink + Look + Drop, D: Dial<L>, C: Clock> ServiceJobs<L, D, C> 
         if is_kept {
             self.kept = Some(link);
         } else {
-            self.hang_up(link);
+            hang_up(&mut self.dial, link);
         }
     }
 
     /// The deadline of a job that starts now.
     fn deadline(&mut self) -> Option<u64>
         ensures shown { (start : Option ℕ) × (C.shown self.new.clock ≡ shown_then (C.shown self.old.clock) (start ∷ []))
-            × (result ≡ deadline_from self.old.timeout_ms start) }
+            × (result ≡ spec.deadline_from self.old.timeout_ms start) }
         ensures kept { self.new.kept ≡ self.old.kept }
         ensures dial { self.new.dial ≡ self.old.dial }
         ensures service { self.new.service ≡ self.old.service }
         ensures timeout { self.new.timeout_ms ≡ self.old.timeout_ms }
     {
-        match self.clock.now_ms() {
-            Some(now) => Some(now.saturating_add(self.timeout_ms)),
-            None => None,
-        }
+        deadline_from(self.timeout_ms, self.clock.now_ms())
     }
 
     /// Does a job. None if its function has no path of its own: then nothing is sent.

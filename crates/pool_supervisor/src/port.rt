@@ -142,8 +142,10 @@ impl<'a, N: RunId, C: Watch, R: Wait> PoolPort for SharedPort<'a, N, C, R> {
         ensures later { BeginsWith self.new.place.seat.seen self.old.place.seat.seen }
         ensures slot { self.new.place.seat.slot ≡ self.old.place.seat.slot }
     {
+        // (the watch may take its time, and what is posted meanwhile is to be read)
+        let may_go_on = self.watch.may_go_on(pass.name());
         let read = self.board.read_by(&mut self.place.seat);
-        let order = if self.watch.may_go_on(pass.name()) {
+        let order = if may_go_on {
             read
         } else {
             Order {

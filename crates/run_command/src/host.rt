@@ -4,7 +4,7 @@ ghost use Rattle.job_runner.specs.Run.{seen_link};
 ghost use Rattle.pool_supervisor.specs.Dials.{IsNew};
 
 use crate::report_link::ReportLink;
-use byte_io::{MAX_TIMEOUTS, Sink, Source};
+use byte_io::{LAST_TIMEOUT, Sink, Source};
 use pool_settings::Settings;
 use pool_supervisor::{Dial, Progress, Watch};
 use std::alloc::{AllocError, Global};
@@ -46,7 +46,7 @@ impl<'e, H: Host> Route<'e, H> {
         settings: &Settings,
     ) -> Result<Route<'e, H>, AllocError> {
         let lull_ms = settings.lull_ms();
-        let write_ms = lull_ms.saturating_mul(MAX_TIMEOUTS + 1);
+        let write_ms = lull_ms.saturating_mul(LAST_TIMEOUT);
         Ok(Route {
             host,
             server: String::from_str(alloc, settings.server())?,

@@ -1,11 +1,12 @@
 //! A link to a job server on which a report has a deadline.
 
 ghost use Rattle.std.specs.Prelude.{◌≡◌, ◌+◌, ◌-◌, ◌<◌, ◌≤◌, ◌^◌, IfOk, None, false, length, true};
+ghost use Rattle.byte_io.specs.Deadline.{is_past};
 ghost use Rattle.byte_io.specs.Device.{failure_of, gone};
 ghost use Rattle.byte_io.specs.Sides.{and_then};
 ghost use Rattle.run_command.specs.Report as spec;
 
-use byte_io::{Device, DeviceFault, Sink, Source, Took};
+use byte_io::{Device, DeviceFault, Sink, Source, Took, deadline_from};
 use pool_supervisor::Watch;
 
 /// A link to a job server on which a report has a deadline: what is written with no read between has to be taken in so many milliseconds
@@ -30,17 +31,7 @@ fn deadline_of(deadline: Option<u64>, limit_ms: u64, now: Option<u64>) -> Option
 {
     match deadline {
         Some(deadline) => Some(deadline),
-        None => Some(now?.saturating_add(limit_ms)),
-    }
-}
-
-/// Whether the deadline has come. It has not, if the time is not known.
-fn is_late(deadline: Option<u64>, now: Option<u64>) -> bool
-    ensures { result ≡ spec.is_late deadline now }
-{
-    match (deadline, now) {
-        (Some(deadline), Some(now)) => deadline <= now,
-        _ => false,
+        None => deadline_from(limit_ms, now),
     }
 }
 
@@ -67,10 +58,10 @@ impl<'e, L: Sink, H> ReportLink<'e, L, H> {
     fn give_at(&mut self, bytes: &[u8], now: Option<u64>) -> Result<usize, DeviceFault>
         requires some { 0 < length bytes.now }
         requires count { (L.output self.old.link).failures + self.old.late < 2 ^ 64 - 1 }
-        ensures late { spec.is_late self.old.deadline now ≡ true
-            → (failure_of result ≡ 1) × (self.new.link ≡ self.old.link) × (self.new.deadline ≡ self.old.deadline) }
-        ensures in_time { spec.is_late self.old.deadline now ≡ false → (self.new.late ≡ self.old.late)
-            × (self.new.deadline ≡ spec.deadline_of self.old.deadline self.old.limit_ms now) }
+        ensures late { is_past self.old.deadline now ≡ true → failure_of result ≡ 1 }
+        ensures unwritten { is_past self.old.deadline now ≡ true → self.new.link ≡ self.old.link }
+        ensures in_time { is_past self.old.deadline now ≡ false → self.new.late ≡ self.old.late }
+        ensures deadline { self.new.deadline ≡ spec.deadline_of self.old.deadline self.old.limit_ms now }
         ensures limit { self.new.limit_ms ≡ self.old.limit_ms }
         ensures within { IfOk result (λ n. (1 ≤ n) × (n ≤ length bytes.now)) }
         ensures bytes { (L.output self.new.link).got ≡ and_then (L.output self.old.link).got (gone bytes.now result) }
@@ -78,7 +69,7 @@ impl<'e, L: Sink, H> ReportLink<'e, L, H> {
             ≡ ((L.output self.old.link).failures + self.old.late) + failure_of result }
         ensures input { L.input self.new.link ≡ L.input self.old.link }
     {
-        if is_late(self.deadline, now) {
+        if byte_io::is_past(self.deadline, now) {
             self.late += 1;
             return Err(DeviceFault);
         }

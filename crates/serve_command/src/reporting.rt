@@ -10,11 +10,9 @@ use crate::host::FarmHost;
 use crate::hosts::{Hosts, lets_go_on};
 use crate::job_lines::{Uncompleted, line_of, lost_job};
 use crate::last_jobs::{AnsweredJob, LastJobs};
-use byte_io::{Sink, Source};
-use devices::DialError;
 use farm_notes::{Known, PageNotes, Tally};
 use farm_page::FarmView;
-use http_jobs::Dial;
+use http_jobs::try_dial;
 use plan_model::{Certified, SlotId};
 use pool_core::{JoinError, totals_line};
 use pool_settings::Settings;
@@ -24,7 +22,6 @@ use pool_supervisor::{
 use refusal::Labelled;
 use run_command::end_notes;
 use std::alloc::{AllocError, Global};
-use std::snapshot::Snapshot;
 use std::sync::{Mutex, Wait};
 use std::thread::Threads;
 use worker_state::WorkerName;
@@ -187,7 +184,8 @@ impl<'e, H: FarmHost> Watch for Reporting<'e, H> {
         let Some(name) = self.farm.host_of(self.alloc, worker.slot) else {
             return true;
         };
-        let dialled = dial_again(self.host.dials(name, self.farm.call_times()));
+        let mut dials = self.host.dials(name, self.farm.call_times());
+        let dialled = try_dial(&mut dials);
         let news = self.hosts.was_dialled(self.host, machine, dialled);
         self.host
             .tell_if(host_line(self.alloc, self.farm, machine, news));
@@ -259,15 +257,6 @@ impl<'e, H: FarmHost> Progress for Reporting<'e, H> {
             Err(error) => self.host.tell(Err(error)),
         }
     }
-}
-
-/// Opens a connection, and closes it. The error says why none was opened.
-fn dial_again<L: Source + Sink + Drop, D: Dial<L> + Drop>(mut dials: D) -> Result<(), DialError> {
-    let link = dials.dial(None)?;
-    let left = Snapshot::of(&link);
-    drop(link);
-    dials.hung_up(left);
-    Ok(())
 }
 
 /// Which worker joined, as `joined north/0#3`. The only error is out of memory.
