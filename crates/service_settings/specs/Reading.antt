@@ -14,7 +14,7 @@ use Rattle.pool_settings.specs.declared.place.Place.TheVariants as at
 use Rattle.pool_settings.specs.declared.place.Section.{Section}
 use Rattle.pool_settings.specs.declared.place.Section.TheVariants as section
 use Rattle.service_settings.specs.Services.{Page, Services, Url}
-use Rattle.service_settings.specs.Url.{is_host, is_https, is_socket, url_of}
+use Rattle.service_settings.specs.Url.{has_port, is_host, is_https, is_socket, url_of}
 use Rattle.service_settings.specs.declared.error.ServicesError.{ServicesError}
 use Rattle.service_settings.specs.declared.error.ServicesError.TheVariants as fault
 use Rattle.service_settings.specs.declared.place.ServicesPlace.{ServicesPlace}
@@ -70,7 +70,7 @@ function_has_key name key tree = option_map_or (has_key key) (entry_table sectio
 
 -- the address of a page, if it is one
 abbrev pub listen_in : Members → Option (List ℕ)
-listen_in page = option_and_then (λ text. if is_socket text then Some text else None) (text_at listen_key page)
+listen_in page = option_and_then (λ text. if is_socket text && has_port text then Some text else None) (text_at listen_key page)
 
 -- ---- where a fault is, with its key or its name
 

@@ -52,6 +52,10 @@ is_host host = is_name host || is_bracketed host
 abbrev pub is_port : List ℕ → Bool
 is_port digits = option_map_or (λ port. nat_le 1 port && nat_le port 65535) (plain_number_below (2 ^ 32) digits) false
 
+-- a port after the last colon
+abbrev pub has_port : List ℕ → Bool
+has_port text = option_map_or (λ cut. is_port cut.1) (cut_last 58 text) false
+
 -- a host, a colon and a port
 abbrev pub is_host_with_port : List ℕ → Bool
 is_host_with_port authority = option_map_or (λ cut. is_host cut.0 && is_port cut.1) (cut_last 58 authority) false

@@ -10,7 +10,7 @@ ghost use Rattle.service_settings.specs.Reading as spec;
 ghost use Rattle.service_settings.specs.Url.{is_socket};
 
 use crate::tree::{table_at, text_at, value_at};
-use crate::url_parts::is_socket;
+use crate::url_parts::{has_port, is_socket};
 use std::alloc::{AllocError, Global};
 use std::marker::Model;
 use toml::{Table, Value};
@@ -72,7 +72,7 @@ pub fn listen_in(page: &Table) -> Option<&str>
     ensures socket { IfSome result (λ t. is_socket t.now ≡ true) }
 {
     let address = text_at(page, "listen")?;
-    if is_socket(address.as_bytes()) {
+    if is_socket(address.as_bytes()) && has_port(address.as_bytes()) {
         Some(address)
     } else {
         None

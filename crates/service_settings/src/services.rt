@@ -68,7 +68,7 @@ impl Services {
     /// | `functions` | top | a table of one table for some functions of the settings | empty |
     /// | `timeout_ms` | a function | 1 to 4,294,967,295 milliseconds: how long a job may take | `job_timeout_ms` of the settings |
     /// | `page` | top | a table | no page |
-    /// | `listen` | the page | an IPv4 address or an IPv6 address in brackets, a colon and a port | required |
+    /// | `listen` | the page | an IPv4 address or an IPv6 address in brackets, a colon and a PORT | required |
     /// | `hosts` | the page | a list of names or addresses, as in a URL: under these too the page is asked for | none |
     ///
     /// A URL is `http://HOST[:PORT][/PATH]`. HOST is a name of letters, digits, `-` and `.`, an IPv4 address or an IPv6 address in

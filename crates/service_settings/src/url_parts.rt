@@ -97,6 +97,16 @@ fn is_port(digits: &[u8]) -> bool
     }
 }
 
+/// Whether a text has a port after its last colon: a number from 1 to 65,535, without zeros before it.
+pub fn has_port(text: &[u8]) -> bool
+    ensures { result ≡ spec.has_port text.now }
+{
+    match cut_last(b':', text) {
+        Some((_, port)) => is_port(port),
+        None => false,
+    }
+}
+
 fn is_host_with_port(authority: &[u8]) -> bool
     ensures { result ≡ spec.is_host_with_port authority.now }
 {
