@@ -1,5 +1,5 @@
 -- What is kept of the answers to attempts.
-use Rattle.std.specs.Prelude.{ℕ, Bool, true, false, Option, Some, None, ⊤}
+use Rattle.std.specs.Prelude.{ℕ, ◌==◌, Bool, true, false, Option, Some, None, ⊤}
 use Rattle.farm_notes.specs.Evidence.{IsOfAShownAnswer, IsSameEvidence}
 use Rattle.farm_notes.specs.declared.found.Found.{Found}
 use Rattle.farm_page.specs.declared.view.Evidence.{Evidence}
@@ -19,6 +19,10 @@ is_round attempt.Memory = false
 -- what was found, as that of an attempt of this number
 abbrev pub numbered : ℕ → Found → Found
 numbered number found = record found { evidence = record found.evidence { attempt = number } }
+
+-- it was found in the attempt of this number
+abbrev pub is_of : ℕ → Found → Bool
+is_of number found = found.evidence.attempt == number
 
 -- What was found in the last round, after one more attempt: what was found in that, if it led to a round.
 abbrev pub last_found : Bool → ℕ → Option Found → Option Found → Option Found

@@ -2,7 +2,7 @@
 
 ghost use Rattle.std.specs.Prelude.{◌≡◌, IfOk};
 ghost use Rattle.farm_notes.specs.Evidence as spec;
-ghost use Rattle.farm_notes.specs.Notes.{numbered};
+ghost use Rattle.farm_notes.specs.Notes.{is_of, numbered};
 ghost use Rattle.pool_supervisor.specs.Steps.{IsMadeOf};
 
 use crate::kept_evidence::KeptEvidence;
@@ -87,7 +87,8 @@ impl Found {
         certified: &Certified,
     ) -> Result<Found, AllocError>
         requires of_these { IsMadeOf settings.now certified.now.input }
-        ensures { IfOk result (λ found. spec.IsEvidenceOf settings.now certified.now found.evidence) }
+        ensures evidence { IfOk result (λ found. spec.IsEvidenceOf settings.now certified.now found.evidence) }
+        ensures waiting { IfOk result (λ found. found.waiting.items ≡ certified.now.input.waiting) }
     {
         let input = certified.input();
         let (shortage, workers) = match certified.answer() {
@@ -123,6 +124,13 @@ impl Found {
             workers,
             alive: alive_by_machine(alloc, input)?,
         })
+    }
+
+    /// Whether it was found in the attempt of this number.
+    pub fn is_of(&self, attempt: u32) -> bool
+        ensures { result ≡ is_of attempt self.now }
+    {
+        self.evidence.attempt() == attempt
     }
 
     /// The same, as that of an attempt of this number.

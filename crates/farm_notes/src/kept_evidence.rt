@@ -58,6 +58,13 @@ impl KeptEvidence {
         }
     }
 
+    /// The number of its attempt.
+    pub fn attempt(&self) -> u32
+        ensures { result ≡ self.now.attempt }
+    {
+        self.evidence.attempt
+    }
+
     /// The same again, to be shown. The only error is out of memory.
     pub fn copy(&self, alloc: Global) -> Result<Evidence, AllocError>
         ensures same { IfOk result (spec.IsSameEvidence self.now) }

@@ -139,28 +139,44 @@ impl Kept {
         self.backlogs.add(backlog_of(made.attempt))
     }
 
+    /// How many jobs wait for a function, and how many workers it has, if this was found in the attempt of this number.
+    fn numbers(&self, attempt: u32, function: FuncId) -> (Option<u32>, Option<u32>) {
+        let place = function.number() as usize;
+        match &self.last {
+            Some(found) if found.is_of(attempt) => (
+                found.waiting.get(place).copied(),
+                found.workers.get(place).copied(),
+            ),
+            _ => (None, None),
+        }
+    }
+
+    /// How many workers of a machine are alive, if this was found in the attempt of this number.
+    fn alive(&self, attempt: u32, machine: MachineId) -> Option<u32> {
+        match &self.last {
+            Some(found) if found.is_of(attempt) => {
+                found.alive.get(machine.number() as usize).copied()
+            }
+            _ => None,
+        }
+    }
+
     /// What a page shows of a function.
     fn function(
         &self,
         alloc: Global,
-        settings: &Settings,
+        made: &Attempted<'_>,
         function: FuncId,
         jobs: Option<FunctionJobs>,
     ) -> Result<FunctionView, AllocError>
-        requires function { function < length settings.now.functions }
+        requires function { function < length made.now.settings.now.functions }
     {
-        let place = function.number() as usize;
-        let (waiting, workers) = match &self.last {
-            Some(found) => (
-                found.waiting.get(place).copied(),
-                found.workers.get(place).copied(),
-            ),
-            None => (None, None),
-        };
+        let settings = made.settings;
+        let (waiting, workers) = self.numbers(made.number, function);
         Ok(FunctionView {
             name: String::from_str(alloc, settings.function_name(function))?,
             queue: queue_view(waiting, jobs),
-            workers: workers.unwrap_or(0),
+            workers,
             least: settings.least(function),
             most: most_of(settings, function),
             jobs: jobs.map(|jobs| jobs.ends),
@@ -171,13 +187,13 @@ impl Kept {
     fn functions(
         &self,
         alloc: Global,
-        settings: &Settings,
+        made: &Attempted<'_>,
         known: &Known<'_>,
     ) -> Result<Vec<FunctionView>, AllocError> {
         let mut functions = Vec::new(alloc);
-        for number in 0..settings.functions() {
+        for number in 0..made.settings.functions() {
             let jobs = known.jobs.get(number as usize).copied();
-            functions.push(self.function(alloc, settings, FuncId::new(number), jobs)?)?;
+            functions.push(self.function(alloc, made, FuncId::new(number), jobs)?)?;
         }
         Ok(functions)
     }
@@ -186,26 +202,21 @@ impl Kept {
     fn host(
         &self,
         alloc: Global,
-        settings: &Settings,
+        made: &Attempted<'_>,
         machine: MachineId,
         unreached: Option<&'static str>,
     ) -> Result<HostView, AllocError>
-        requires machine { machine < length settings.now.machines }
+        requires machine { machine < length made.now.settings.now.machines }
     {
-        let alive = match &self.last {
-            Some(found) => found.alive.get(machine.number() as usize).copied(),
-            None => None,
-        };
+        let settings = made.settings;
         let unreached = match unreached {
             Some(why) => Some(String::from_str(alloc, why)?),
             None => None,
         };
         Ok(HostView {
             name: String::from_str(alloc, settings.machine_name(machine))?,
-            workers: Workers {
-                alive: alive.unwrap_or(0),
-                all: settings.workers(machine),
-            },
+            alive: self.alive(made.number, machine),
+            all: settings.workers(machine),
             unreached,
         })
     }
@@ -214,13 +225,13 @@ impl Kept {
     fn hosts(
         &self,
         alloc: Global,
-        settings: &Settings,
+        made: &Attempted<'_>,
         known: &Known<'_>,
     ) -> Result<Vec<HostView>, AllocError> {
         let mut hosts = Vec::new(alloc);
-        for number in 0..settings.machines() {
+        for number in 0..made.settings.machines() {
             let unreached = known.unreached.get(number as usize).copied().flatten();
-            hosts.push(self.host(alloc, settings, MachineId::new(number), unreached)?)?;
+            hosts.push(self.host(alloc, made, MachineId::new(number), unreached)?)?;
         }
         Ok(hosts)
     }
@@ -250,8 +261,8 @@ impl Kept {
         let settings = made.settings;
         let evidence = evidence_shown(alloc, &self.last)?;
         let shortage = match &self.last {
-            Some(found) => copy_shortage(&found.shortage)?,
-            None => None,
+            Some(found) if found.is_of(made.number) => copy_shortage(&found.shortage)?,
+            _ => None,
         };
         Ok(FarmView {
             server: String::from_str(alloc, settings.server())?,
@@ -263,8 +274,8 @@ impl Kept {
                 alive: made.alive,
                 all: settings.slots(),
             },
-            functions: self.functions(alloc, settings, known)?,
-            hosts: self.hosts(alloc, settings, known)?,
+            functions: self.functions(alloc, made, known)?,
+            hosts: self.hosts(alloc, made, known)?,
             ends: self.ends(alloc)?,
             failures: known.failures.copy()?,
             evidence,

@@ -1,6 +1,6 @@
 -- How a farm is, in one sentence.
-use Rattle.std.specs.Prelude.{ℕ, ◌-◌, List, ◌++◌, Bool, true, false, ◌&&◌, nat_le, nat_lt, Option, Some, None, String}
-use Rattle.std.specs.Prelude.{codes, find, if◌then◌else◌, is_none, is_some, length, string_bytes, take}
+use Rattle.std.specs.Prelude.{ℕ, ◌-◌, ◌==◌, ◌^◌, List, ◌++◌, Bool, true, false, ◌&&◌, nat_le, nat_lt, Option, Some, None, String}
+use Rattle.std.specs.Prelude.{codes, find, if◌then◌else◌, is_none, is_some, length, min, string_bytes, sum_by, take}
 use Rattle.std.specs.Global.{Global}
 use Rattle.std.specs.Fmt.{decimal}
 use Rattle.std.specs.List.{flat_map}
@@ -9,6 +9,7 @@ use Rattle.farm_page.specs.View.{has_plan}
 use Rattle.farm_page.specs.declared.condition.Condition.{Condition}
 use Rattle.farm_page.specs.declared.condition.Condition.TheVariants.{Bad, Watch, Well}
 use Rattle.farm_page.specs.declared.view.FarmView.{FarmView}
+use Rattle.farm_page.specs.declared.view.FunctionView.{FunctionView}
 use Rattle.farm_page.specs.declared.view.HostView.{HostView}
 use Rattle.farm_page.specs.declared.view.Outcome.{Outcome}
 use Rattle.farm_page.specs.declared.view.Outcome.TheVariants.{Backlog, NoPlan, NoRound, Unserved}
@@ -25,10 +26,21 @@ is_unserved (Unserved jobs) = true
 is_unserved NoPlan = false
 is_unserved (NoRound why) = false
 
+-- the jobs that wait for a function without workers: none if it has one, or if that is not known
+abbrev pub without_workers : FunctionView → ℕ
+without_workers f =
+    if option_map_or (λ workers. workers == 0) f.workers false then option_map_or (λ queue. queue.waiting) f.queue 0
+    else 0
+
+-- the jobs that wait for functions without workers, as far as a number of 64 bits counts them
+abbrev pub all_without_workers : List FunctionView → ℕ
+all_without_workers functions = min (sum_by without_workers functions) (2 ^ 64 - 1)
+
 -- each function with jobs has a worker, each host is reached, and each worker is alive
 abbrev pub is_whole : FarmView → Bool
 is_whole view =
     if is_unserved view.outcome then false
+    else if nat_lt 0 (all_without_workers view.functions.items) then false
     else is_none (unreached view.hosts.items) && nat_le view.workers.all view.workers.alive
 
 abbrev pub condition_of : FarmView → Condition
@@ -61,15 +73,22 @@ alive_words workers = decimal workers.alive ++ codes " of " ++ decimal workers.a
 abbrev pub unreached_words : FarmView → HostView → List ℕ
 unreached_words view host = codes "Host " ++ string_bytes host.name ++ codes " is not reached: " ++ alive_words view.workers
 
+abbrev pub left_words : ℕ → List ℕ
+left_words jobs = decimal jobs ++ codes " jobs wait for functions without workers"
+
+-- of a farm whose hosts are all reached
+abbrev pub reached_words : FarmView → ℕ → List ℕ
+reached_words view jobs =
+    if nat_lt 0 (all_without_workers view.functions.items) then left_words (all_without_workers view.functions.items)
+    else if nat_lt view.workers.alive view.workers.all then alive_words view.workers
+    else codes "Well: backlog " ++ decimal jobs ++ codes ", as small as it can be"
+
 abbrev pub planned_words : FarmView → ℕ → List ℕ
-planned_words view jobs =
-    option_map_or (unreached_words view) (unreached view.hosts.items)
-    (if nat_lt view.workers.alive view.workers.all then alive_words view.workers
-    else codes "Well: backlog " ++ decimal jobs ++ codes ", as small as it can be")
+planned_words view jobs = option_map_or (unreached_words view) (unreached view.hosts.items) (reached_words view jobs)
 
 abbrev pub sentence_of : FarmView → Outcome → List ℕ
 sentence_of view (Backlog jobs) = planned_words view jobs
-sentence_of view (Unserved jobs) = decimal jobs ++ codes " jobs wait for a function that no worker alive may do"
+sentence_of view (Unserved jobs) = decimal jobs ++ codes " jobs wait for a function that workers alive may do and none does"
 sentence_of view NoPlan = no_plan_words view.shortage
 sentence_of view (NoRound why) = codes "No round was made: " ++ string_bytes why
 

@@ -1,8 +1,10 @@
 -- Whether a farm is well, for whoever watches it.
 use Rattle.std.specs.Prelude.{ℕ, ◌*◌, List, ◌++◌, Bool, not, ◌&&◌, nat_lt, codes, if◌then◌else◌}
 use Rattle.std.specs.Fmt.{decimal}
-use Rattle.farm_page.specs.Condition.{sentence}
+use Rattle.farm_page.specs.Condition.{condition_of, sentence}
 use Rattle.farm_page.specs.View.{has_plan}
+use Rattle.farm_page.specs.declared.condition.Condition.{Condition}
+use Rattle.farm_page.specs.declared.condition.Condition.TheVariants.{Bad}
 use Rattle.farm_page.specs.declared.health.Moment.{Moment}
 use Rattle.farm_page.specs.declared.view.FarmView.{FarmView}
 use Rattle.text_pieces.specs.Lines.{ended}
@@ -14,8 +16,16 @@ is_late moment = nat_lt (3 * moment.round_ms) moment.age_ms
 abbrev pub is_healthy : FarmView → Moment → Bool
 is_healthy view moment = has_plan view.outcome && not (is_late moment)
 
-abbrev pub late_text : ℕ → List ℕ
-late_text age_ms = ended (codes "No attempt ended in the last " ++ decimal age_ms ++ codes " ms")
+-- how a farm is at a moment: bad if its last attempt is late
+abbrev pub condition_at : FarmView → Moment → Condition
+condition_at view moment = if is_late moment then Bad else condition_of view
+
+abbrev pub late_words : ℕ → List ℕ
+late_words age_ms = codes "No attempt ended in the last " ++ decimal age_ms ++ codes " ms"
+
+-- the sentence of a farm at a moment
+abbrev pub sentence_at : FarmView → Moment → List ℕ
+sentence_at view moment = if is_late moment then late_words moment.age_ms else sentence view
 
 abbrev pub health_text : FarmView → Moment → List ℕ
-health_text view moment = if is_late moment then late_text moment.age_ms else ended (sentence view)
+health_text view moment = ended (sentence_at view moment)

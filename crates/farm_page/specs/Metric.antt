@@ -1,6 +1,8 @@
 -- The metrics of a farm: their names, what they mean, and their values.
 use Rattle.std.specs.Prelude.{ℕ, Bool, List, Option, Some, None, codes, if◌then◌else◌, is_none, option_map}
+use Rattle.farm_page.specs.Health.{is_late}
 use Rattle.farm_page.specs.View.{has_plan}
+use Rattle.farm_page.specs.declared.health.Moment.{Moment}
 use Rattle.farm_page.specs.declared.metric.Metric.{Metric}
 use Rattle.farm_page.specs.declared.metric.Metric.TheVariants as metric
 use Rattle.farm_page.specs.declared.metric.MetricKind.{MetricKind}
@@ -20,6 +22,7 @@ name metric.Attempts = codes "poolman_attempts_total"
 name metric.HasPlan = codes "poolman_has_plan"
 name metric.Backlog = codes "poolman_backlog_jobs"
 name metric.Unserved = codes "poolman_unserved_jobs"
+name metric.IsLate = codes "poolman_is_late"
 name metric.AliveWorkers = codes "poolman_alive_workers"
 name metric.Workers = codes "poolman_workers"
 name metric.FunctionWaiting = codes "poolman_function_waiting_jobs"
@@ -39,7 +42,8 @@ abbrev pub help : Metric → List ℕ
 help metric.Attempts = codes "Attempts to plan."
 help metric.HasPlan = codes "1 if the last attempt led to a plan, else 0."
 help metric.Backlog = codes "Jobs that wait for each worker of a function, at most."
-help metric.Unserved = codes "Jobs that wait for a function that no worker alive may do."
+help metric.Unserved = codes "Jobs that wait for a function that workers alive may do and none does, at most."
+help metric.IsLate = codes "1 if the last attempt is older than three rounds, else 0."
 help metric.AliveWorkers = codes "Workers alive."
 help metric.Workers = codes "Workers of the settings."
 help metric.FunctionWaiting = codes "Jobs that wait for a worker."
@@ -60,6 +64,7 @@ kind metric.Attempts = Counter
 kind metric.HasPlan = Gauge
 kind metric.Backlog = Gauge
 kind metric.Unserved = Gauge
+kind metric.IsLate = Gauge
 kind metric.AliveWorkers = Gauge
 kind metric.Workers = Gauge
 kind metric.FunctionWaiting = Gauge
@@ -87,26 +92,27 @@ backlog_of (Unserved jobs) = None
 backlog_of NoPlan = None
 backlog_of (NoRound why) = None
 
--- how many jobs a plan leaves that nobody may do
+-- how many jobs wait for a function that workers alive may do and none does: for the one that has the most
 abbrev pub unserved_of : Outcome → Option ℕ
 unserved_of (Backlog jobs) = Some 0
 unserved_of (Unserved jobs) = Some jobs
 unserved_of NoPlan = None
 unserved_of (NoRound why) = None
 
-abbrev pub farm_value : FarmView → Metric → Option ℕ
-farm_value view metric.Attempts = Some view.attempt
-farm_value view metric.HasPlan = Some (number (has_plan view.outcome))
-farm_value view metric.Backlog = backlog_of view.outcome
-farm_value view metric.Unserved = unserved_of view.outcome
-farm_value view metric.AliveWorkers = Some view.workers.alive
-farm_value view metric.Workers = Some view.workers.all
-farm_value view _ = None
+abbrev pub farm_value : FarmView → Moment → Metric → Option ℕ
+farm_value view moment metric.Attempts = Some view.attempt
+farm_value view moment metric.HasPlan = Some (number (has_plan view.outcome))
+farm_value view moment metric.Backlog = backlog_of view.outcome
+farm_value view moment metric.Unserved = unserved_of view.outcome
+farm_value view moment metric.IsLate = Some (number (is_late moment))
+farm_value view moment metric.AliveWorkers = Some view.workers.alive
+farm_value view moment metric.Workers = Some view.workers.all
+farm_value view moment _ = None
 
 abbrev pub function_value : FunctionView → Metric → Option ℕ
 function_value f metric.FunctionWaiting = option_map (λ queue. queue.waiting) f.queue
 function_value f metric.FunctionRunning = option_map (λ queue. queue.running) f.queue
-function_value f metric.FunctionWorkers = Some f.workers
+function_value f metric.FunctionWorkers = f.workers
 function_value f metric.FunctionLeast = Some f.least
 function_value f metric.FunctionMost = f.most
 function_value f metric.FunctionCompleted = option_map (λ jobs. jobs.completed) f.jobs
@@ -116,6 +122,6 @@ function_value f _ = None
 
 abbrev pub host_value : HostView → Metric → Option ℕ
 host_value h metric.HostReached = Some (number (is_none h.unreached))
-host_value h metric.HostAlive = Some h.workers.alive
-host_value h metric.HostWorkers = Some h.workers.all
+host_value h metric.HostAlive = h.alive
+host_value h metric.HostWorkers = Some h.all
 host_value h _ = None

@@ -5,6 +5,7 @@ use Rattle.std.specs.List.{flat_map}
 use Rattle.std.specs.Option.{option_map_or}
 use Rattle.farm_page.specs.Escaping.{label_text}
 use Rattle.farm_page.specs.Metric.{farm_value, function_value, help, host_value, kind, kind_name, name}
+use Rattle.farm_page.specs.declared.health.Moment.{Moment}
 use Rattle.farm_page.specs.declared.metric.Metric.{Metric}
 use Rattle.farm_page.specs.declared.metric.Metric.TheVariants as metric
 use Rattle.farm_page.specs.declared.view.EndView.{EndView}
@@ -30,8 +31,8 @@ labelled m label named value =
     ended (name m ++ codes "{" ++ label ++ codes "=\"" ++ label_text named ++ codes "\"} " ++ decimal value)
 
 -- a metric without a value is left out
-abbrev pub farm_family : FarmView → Metric → List ℕ
-farm_family view m = option_map_or (λ value. head m ++ sample m value) (farm_value view m) []
+abbrev pub farm_family : FarmView → Moment → Metric → List ℕ
+farm_family view moment m = option_map_or (λ value. head m ++ sample m value) (farm_value view moment m) []
 
 abbrev pub function_sample : Metric → FunctionView → List ℕ
 function_sample m f = option_map_or (labelled m (codes "function") (string_bytes f.name)) (function_value f m) []
@@ -53,7 +54,7 @@ ends_family ends = head metric.EndedWorkers ++ flat_map end_sample ends
 
 abbrev pub farm_metrics : List Metric
 farm_metrics =
-    metric.Attempts ∷ metric.HasPlan ∷ metric.Backlog ∷ metric.Unserved ∷ metric.AliveWorkers ∷ metric.Workers ∷ []
+    metric.Attempts ∷ metric.HasPlan ∷ metric.Backlog ∷ metric.Unserved ∷ metric.IsLate ∷ metric.AliveWorkers ∷ metric.Workers ∷ []
 
 abbrev pub function_metrics : List Metric
 function_metrics =
@@ -64,7 +65,7 @@ abbrev pub host_metrics : List Metric
 host_metrics = metric.HostReached ∷ metric.HostAlive ∷ metric.HostWorkers ∷ []
 
 -- each metric with all its samples, those of the farm first
-abbrev pub metrics_text : FarmView → List ℕ
-metrics_text view =
-    flat_map (farm_family view) farm_metrics ++ flat_map (function_family view.functions.items) function_metrics
+abbrev pub metrics_text : FarmView → Moment → List ℕ
+metrics_text view moment =
+    flat_map (farm_family view moment) farm_metrics ++ flat_map (function_family view.functions.items) function_metrics
     ++ flat_map (host_family view.hosts.items) host_metrics ++ ends_family view.ends.items

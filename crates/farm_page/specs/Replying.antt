@@ -1,8 +1,7 @@
 -- What a request is answered.
 use Rattle.std.specs.Prelude.{ℕ, ◌≡◌, List, Option, Some, None, Result, Ok, Err, codes, if◌then◌else◌}
-use Rattle.farm_page.specs.Condition.{sentence}
 use Rattle.farm_page.specs.Evidence.{evidence_text, lost_text}
-use Rattle.farm_page.specs.Health.{health_text, is_healthy}
+use Rattle.farm_page.specs.Health.{health_text, is_healthy, sentence_at}
 use Rattle.farm_page.specs.Markup.{IsPageOf}
 use Rattle.farm_page.specs.Metrics.{metrics_text}
 use Rattle.farm_page.specs.Sections.{Holds, end_rows, failures_part, function_rows, headline, host_rows}
@@ -26,7 +25,6 @@ use Rattle.farm_page.specs.declared.request.Refusal.{Refusal}
 use Rattle.farm_page.specs.declared.request.Refusal.TheVariants as refusal
 use Rattle.farm_page.specs.declared.sections.Share.TheVariants.{Busy, Quiet}
 use Rattle.farm_page.specs.declared.view.Evidence.{Evidence}
-use Rattle.farm_page.specs.declared.view.FarmView.{FarmView}
 
 abbrev pub text_of : Status → List ℕ → Told
 text_of status words = record { status = status; content = content.Text; attempt = None; allowed = None; body = words }
@@ -64,39 +62,39 @@ part_answer part (Some evidence) = record {
 
 -- ---- the farm
 
-abbrev pub metrics_answer : FarmView → Told
-metrics_answer farm = record {
+abbrev pub metrics_answer : Seen → Told
+metrics_answer seen = record {
   status = status.Ok;
   content = content.Metrics;
-  attempt = Some farm.attempt;
+  attempt = Some seen.farm.now.attempt;
   allowed = None;
-  body = metrics_text farm;
+  body = metrics_text seen.farm.now seen.moment;
 }
 
 abbrev pub health_answer : Seen → Told
 health_answer seen =
     text_of (if is_healthy seen.farm.now seen.moment then status.Ok else status.Unavailable) (health_text seen.farm.now seen.moment)
 
--- a page without a tag that is not its own, which asks for itself again or does not, with the sentence of the farm and a row for each
--- function, host, cause and job that was not completed
-pub record IsPage (farm : FarmView) (refresh : Refresh) (answer : Told) : Type 0 where
+-- a page without a tag that is not its own, which asks for itself again or does not, with the sentence of the farm at the moment and a row
+-- for each function, host, cause and job that was not completed
+pub record IsPage (seen : Seen) (refresh : Refresh) (answer : Told) : Type 0 where
   pub found : answer.status ≡ status.Ok
   pub shown : answer.content ≡ content.Page
-  pub attempt : answer.attempt ≡ Some farm.attempt
+  pub attempt : answer.attempt ≡ Some seen.farm.now.attempt
   pub allowed : answer.allowed ≡ None
   pub own : IsPageOf refresh answer.body
-  pub sentence : Holds answer.body (headline (sentence farm))
-  pub busy : Holds answer.body (function_rows Busy farm.workers.all farm.functions.items)
-  pub quiet : Holds answer.body (function_rows Quiet farm.workers.all farm.functions.items)
-  pub hosts : Holds answer.body (host_rows farm.hosts.items)
-  pub ends : Holds answer.body (end_rows farm.ends.items)
-  pub failures : Holds answer.body (failures_part farm.failures)
+  pub sentence : Holds answer.body (headline (sentence_at seen.farm.now seen.moment))
+  pub busy : Holds answer.body (function_rows Busy seen.farm.now.workers.all seen.farm.now.functions.items)
+  pub quiet : Holds answer.body (function_rows Quiet seen.farm.now.workers.all seen.farm.now.functions.items)
+  pub hosts : Holds answer.body (host_rows seen.farm.now.hosts.items)
+  pub ends : Holds answer.body (end_rows seen.farm.now.ends.items)
+  pub failures : Holds answer.body (failures_part seen.farm.now.failures)
 
 -- ---- all together
 
 abbrev pub RepliesAt : Seen → Refresh → Place → Reply → Type 0
-RepliesAt seen refresh place.Page reply = (answer : Told) × (reply ≡ told answer) × IsPage seen.farm.now refresh answer
-RepliesAt seen refresh place.Metrics reply = reply ≡ told (metrics_answer seen.farm.now)
+RepliesAt seen refresh place.Page reply = (answer : Told) × (reply ≡ told answer) × IsPage seen refresh answer
+RepliesAt seen refresh place.Metrics reply = reply ≡ told (metrics_answer seen)
 RepliesAt seen refresh place.Evidence reply = reply ≡ told (part_answer part.Whole seen.farm.now.evidence)
 RepliesAt seen refresh place.Report reply = reply ≡ told (part_answer part.Report seen.farm.now.evidence)
 RepliesAt seen refresh place.Status reply = reply ≡ told (part_answer part.Status seen.farm.now.evidence)

@@ -6,13 +6,13 @@ use Rattle.std.specs.Int.{div_ceil}
 use Rattle.std.specs.List.{flat_map}
 use Rattle.std.specs.Option.{option_map_or}
 use Rattle.farm_page.specs.Escaping.{page_text}
-use Rattle.farm_page.specs.Metric.{function_value}
+use Rattle.farm_page.specs.Metric.{function_value, host_value}
 use Rattle.farm_page.specs.declared.cells.Gap.{Gap}
 use Rattle.farm_page.specs.declared.cells.Gap.TheVariants.{Any, Unknown}
 use Rattle.farm_page.specs.declared.cells.Mark.{Mark}
 use Rattle.farm_page.specs.declared.cells.Mark.TheVariants.{Bad, Plain, Warn}
 use Rattle.farm_page.specs.declared.metric.Metric.TheVariants.{FunctionCompleted, FunctionFailed, FunctionLost}
-use Rattle.farm_page.specs.declared.metric.Metric.TheVariants.{FunctionMost, FunctionRunning, FunctionWaiting}
+use Rattle.farm_page.specs.declared.metric.Metric.TheVariants.{FunctionMost, FunctionRunning, FunctionWaiting, HostAlive}
 use Rattle.farm_page.specs.declared.view.EndView.{EndView}
 use Rattle.farm_page.specs.declared.view.FailureEnd.{FailureEnd}
 use Rattle.farm_page.specs.declared.view.FailureEnd.TheVariants.{Failed, Lost, Said}
@@ -62,22 +62,32 @@ bar workers least =
     ++ codes "<rect class=\"fill\" height=\"8\" rx=\"4\" width=\"" ++ decimal (share workers.alive workers.all)
     ++ codes "\"/><rect class=\"least\" width=\"2\" height=\"8\" x=\"" ++ decimal (share least workers.all) ++ codes "\"/></svg></td>"
 
+-- the bar, if it is known how many workers there are
+abbrev pub bar_if : Option ℕ → ℕ → ℕ → List ℕ
+bar_if alive all least = option_map_or (λ known. bar (record { alive = known; all = all }) least) alive (gap_cell Unknown)
+
 -- ---- rows
 
-abbrev pub workers_mark : FunctionView → Mark
-workers_mark f = if nat_lt f.workers f.least then Bad else Plain
+abbrev pub workers_mark : ℕ → ℕ → Mark
+workers_mark workers least = if nat_lt workers least then Bad else Plain
+
+abbrev pub workers_cell : FunctionView → List ℕ
+workers_cell f = option_map_or (λ workers. cell (workers_mark workers f.least) workers) f.workers (gap_cell Unknown)
+
+-- the jobs that wait for each of so many workers
+abbrev pub waiting_per : FunctionView → ℕ → Option ℕ
+waiting_per f workers = if workers == 0 then None else option_map (λ queue. div_ceil queue.waiting workers) f.queue
 
 -- the jobs that wait for each worker, rounded up; the greatest number that a function has is the backlog
 abbrev pub waiting_per_worker : FunctionView → Option ℕ
-waiting_per_worker f =
-    if f.workers == 0 then None else option_map (λ queue. div_ceil queue.waiting f.workers) f.queue
+waiting_per_worker f = option_map_or (waiting_per f) f.workers None
 
 -- what waits, what runs, and the workers
 abbrev pub workers_cells : FunctionView → ℕ → List ℕ
 workers_cells f all =
     cell_if (function_value f FunctionWaiting) Unknown ++ cell_if (waiting_per_worker f) Unknown
-    ++ cell_if (function_value f FunctionRunning) Unknown ++ cell (workers_mark f) f.workers
-    ++ bar (record { alive = f.workers; all = all }) f.least
+    ++ cell_if (function_value f FunctionRunning) Unknown ++ workers_cell f
+    ++ bar_if f.workers all f.least
 
 -- what became of the jobs
 abbrev pub jobs_cells : FunctionView → List ℕ
@@ -99,7 +109,7 @@ reached_cell h = option_map_or (λ why. unreached_cell (string_bytes why)) h.unr
 
 abbrev pub host_row : HostView → List ℕ
 host_row h =
-    row_name (string_bytes h.name) ++ cell Plain h.workers.alive ++ cell Plain h.workers.all ++ bar h.workers h.workers.all
+    row_name (string_bytes h.name) ++ cell_if (host_value h HostAlive) Unknown ++ cell Plain h.all ++ bar_if h.alive h.all h.all
     ++ reached_cell h ++ codes "</tr>\n"
 
 abbrev pub end_row : EndView → List ℕ

@@ -24,11 +24,14 @@ headline words = codes "<h1><span class=\"mark\"></span>" ++ page_text words ++ 
 abbrev pub has_faults : JobEnds → Bool
 has_faults jobs = nat_lt 0 jobs.failed || nat_lt 0 jobs.lost
 
+abbrev pub lacks_workers : FunctionView → Bool
+lacks_workers f = option_map_or (λ workers. nat_lt workers f.least) f.workers false
+
 -- jobs wait, or there are fewer workers than there are to be, or jobs failed or were lost
 abbrev pub is_busy : FunctionView → Bool
 is_busy f =
     option_map_or (λ queue. nat_lt 0 queue.waiting) f.queue false
-    || (nat_lt f.workers f.least || option_map_or has_faults f.jobs false)
+    || (lacks_workers f || option_map_or has_faults f.jobs false)
 
 abbrev pub is_of : Share → FunctionView → Bool
 is_of Busy f = is_busy f

@@ -52,7 +52,7 @@ pub fn put_cell(out: &mut Markup, mark: Mark, number: u64) -> Result<(), AllocEr
 }
 
 /// Adds the cell of a number that is not there.
-fn put_gap(out: &mut Markup, gap: Gap) -> Result<(), AllocError>
+pub fn put_gap(out: &mut Markup, gap: Gap) -> Result<(), AllocError>
     ensures { OnOk result (out.new ≡ out.old ++ spec.gap_cell gap) }
 {
     match gap {
@@ -126,4 +126,19 @@ pub fn put_bar(out: &mut Markup, workers: Workers, least: u32) -> Result<(), All
     out.put_tags("\"/><rect class=\"least\" width=\"2\" height=\"8\" x=\"")?;
     out.put_number(u64::from(share(least, workers.all)))?;
     out.put_tags("\"/></svg></td>")
+}
+
+/// Adds the cell of that bar, or that it is not known how many workers there are.
+pub fn put_bar_if(
+    out: &mut Markup,
+    alive: Option<u32>,
+    all: u32,
+    least: u32,
+) -> Result<(), AllocError>
+    ensures { OnOk result (out.new ≡ out.old ++ spec.bar_if alive all least) }
+{
+    match alive {
+        Some(alive) => put_bar(out, Workers { alive, all }, least),
+        None => put_gap(out, Gap::Unknown),
+    }
 }

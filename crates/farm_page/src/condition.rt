@@ -4,7 +4,7 @@ ghost use Rattle.std.specs.Prelude.{◌≡◌, ◌++◌, IfOk, OnOk, string_byte
 ghost use Rattle.std.specs.Option.{option_copied};
 ghost use Rattle.farm_page.specs.Condition as spec;
 
-use crate::view::{FarmView, HostView, Outcome, Shortage, Workers};
+use crate::view::{FarmView, FunctionView, HostView, Outcome, Shortage, Workers};
 use std::alloc::{AllocError, Global};
 use std::fmt::Write;
 
@@ -29,11 +29,35 @@ fn unreached(hosts: &[HostView]) -> Option<&HostView>
     hosts.iter().find(|host| host.unreached.is_some())
 }
 
+/// How many jobs wait for a function without workers. None do if it has one, or if that is not known.
+fn without_workers(function: &FunctionView) -> u32
+    ensures { result ≡ spec.without_workers function.now }
+{
+    match (function.workers, function.queue) {
+        (Some(0), Some(queue)) => queue.waiting,
+        _ => 0,
+    }
+}
+
+/// How many jobs wait for functions without workers, as far as a number of 64 bits counts them.
+fn all_without_workers(functions: &[FunctionView]) -> u64
+    ensures { result ≡ spec.all_without_workers functions.now }
+{
+    let mut jobs = 0u64;
+    for function in functions {
+        jobs = jobs.saturating_add(u64::from(without_workers(function)));
+    }
+    jobs
+}
+
 /// Whether a farm has workers, hosts and jobs as a farm that is well has them.
 fn is_whole(view: &FarmView) -> bool
     ensures { result ≡ spec.is_whole view.now }
 {
     if let Outcome::Unserved(_) = view.outcome {
+        return false;
+    }
+    if all_without_workers(&view.functions) > 0 {
         return false;
     }
     unreached(&view.hosts).is_none() && view.workers.alive >= view.workers.all
@@ -135,6 +159,20 @@ fn few_words(alloc: Global, workers: Workers) -> Result<String, AllocError>
     Ok(out)
 }
 
+/// How a farm is whose hosts are all reached.
+fn reached_words(alloc: Global, view: &FarmView, jobs: u64) -> Result<String, AllocError>
+    ensures { IfOk result (λ words. string_bytes words ≡ spec.reached_words view.now jobs) }
+{
+    let left = all_without_workers(&view.functions);
+    if left > 0 {
+        return format!(in alloc; "{left} jobs wait for functions without workers");
+    }
+    if view.workers.alive < view.workers.all {
+        return few_words(alloc, view.workers);
+    }
+    format!(in alloc; "Well: backlog {jobs}, as small as it can be")
+}
+
 /// How a farm with a backlog is.
 fn planned_words(alloc: Global, view: &FarmView, jobs: u64) -> Result<String, AllocError>
     ensures { IfOk result (λ words. string_bytes words ≡ spec.planned_words view.now jobs) }
@@ -142,10 +180,7 @@ fn planned_words(alloc: Global, view: &FarmView, jobs: u64) -> Result<String, Al
     if let Some(host) = unreached(&view.hosts) {
         return unreached_words(alloc, view, host);
     }
-    if view.workers.alive < view.workers.all {
-        return few_words(alloc, view.workers);
-    }
-    format!(in alloc; "Well: backlog {jobs}, as small as it can be")
+    reached_words(alloc, view, jobs)
 }
 
 /// How a farm is, in one sentence without a full stop. The only error is out of memory.
@@ -155,7 +190,9 @@ pub fn sentence(alloc: Global, view: &FarmView) -> Result<String, AllocError>
     match &view.outcome {
         Outcome::Backlog(jobs) => planned_words(alloc, view, *jobs),
         Outcome::Unserved(jobs) => {
-            format!(in alloc; "{jobs} jobs wait for a function that no worker alive may do")
+            format!(in alloc;
+                "{jobs} jobs wait for a function that workers alive may do and none does"
+            )
         }
         Outcome::NoPlan => no_plan_words(alloc, &view.shortage),
         Outcome::NoRound(why) => format!(in alloc; "No round was made: {why}"),

@@ -3,7 +3,7 @@
 ghost use Rattle.std.specs.Prelude.{◌≡◌, IfOk, string_bytes};
 ghost use Rattle.farm_page.specs.Health as spec;
 
-use crate::condition::sentence;
+use crate::condition::{Condition, condition_of, sentence};
 use crate::view::FarmView;
 use std::alloc::{AllocError, Global};
 use std::fmt::Write;
@@ -33,22 +33,42 @@ pub fn is_healthy(view: &FarmView, moment: Moment) -> bool
     view.outcome.has_plan() && !moment.is_late()
 }
 
-/// That no attempt ended for so long.
-fn late_text(alloc: Global, age_ms: u64) -> Result<String, AllocError>
-    ensures { IfOk result (λ line. string_bytes line ≡ spec.late_text age_ms) }
+/// How a farm is at a moment: bad if its last attempt is older than three rounds.
+pub fn condition_at(view: &FarmView, moment: Moment) -> Condition
+    ensures { result ≡ spec.condition_at view.now moment }
 {
-    let mut line = String::new(alloc);
-    write!(line, "No attempt ended in the last {age_ms} ms\n")?;
-    Ok(line)
+    if moment.is_late() {
+        Condition::Bad
+    } else {
+        condition_of(view)
+    }
+}
+
+/// That no attempt ended for so long.
+fn late_words(alloc: Global, age_ms: u64) -> Result<String, AllocError>
+    ensures { IfOk result (λ words. string_bytes words ≡ spec.late_words age_ms) }
+{
+    let mut words = String::new(alloc);
+    write!(words, "No attempt ended in the last {age_ms} ms")?;
+    Ok(words)
+}
+
+/// How a farm is at a moment, in one sentence without a full stop: the farm's own, or that its last attempt is older than three rounds.
+/// The only error is out of memory.
+pub fn sentence_at(alloc: Global, view: &FarmView, moment: Moment) -> Result<String, AllocError>
+    ensures { IfOk result (λ words. string_bytes words ≡ spec.sentence_at view.now moment) }
+{
+    if moment.is_late() {
+        late_words(alloc, moment.age_ms)
+    } else {
+        sentence(alloc, view)
+    }
 }
 
 /// The line that says whether a farm is well: its sentence, or that its last attempt is too old. The only error is out of memory.
 pub fn health_text(alloc: Global, view: &FarmView, moment: Moment) -> Result<String, AllocError>
     ensures { IfOk result (λ line. string_bytes line ≡ spec.health_text view.now moment) }
 {
-    if moment.is_late() {
-        return late_text(alloc, moment.age_ms);
-    }
-    let words = sentence(alloc, view)?;
+    let words = sentence_at(alloc, view, moment)?;
     format!(in alloc; "{words}\n")
 }

@@ -5,7 +5,7 @@
 //!
 //! | request | answer |
 //! |---|---|
-//! | `GET /` | the page, which asks for itself again every five seconds; `/?still` does not |
+//! | `GET /` | the page, which asks for itself again every five seconds, `/?still` not; it is bad if the last attempt is late |
 //! | `GET /metrics` | the metrics, in the text format of Prometheus |
 //! | `GET /evidence` | the report, the status text and the lost workers of one attempt, in one text |
 //! | `GET /report`, `/status.txt`, `/lost` | its parts |
@@ -42,7 +42,7 @@ pub use condition::{Condition, condition_of, sentence, shortage_words};
 pub use evidence::{evidence_text, lost_text};
 pub use failures::Failures;
 pub use headers::{Header, headers_of};
-pub use health::{Moment, health_text, is_healthy};
+pub use health::{Moment, condition_at, health_text, is_healthy, sentence_at};
 pub use markup::{Markup, escaped};
 pub use metric::{Metric, MetricKind};
 pub use metrics::metrics_text;

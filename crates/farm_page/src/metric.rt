@@ -3,6 +3,7 @@
 ghost use Rattle.std.specs.Prelude.{◌≡◌};
 ghost use Rattle.farm_page.specs.Metric as spec;
 
+use crate::health::Moment;
 use crate::view::{FarmView, FunctionView, HostView, Outcome};
 
 /// A metric.
@@ -14,8 +15,10 @@ pub enum Metric {
     HasPlan,
     /// The backlog.
     Backlog,
-    /// Jobs that no worker alive may do.
+    /// Jobs that some worker alive may do and none does.
     Unserved,
+    /// Whether the last attempt is late.
+    IsLate,
     /// Workers alive.
     AliveWorkers,
     /// Workers of the settings.
@@ -77,6 +80,7 @@ impl Metric {
             Metric::HasPlan => "poolman_has_plan",
             Metric::Backlog => "poolman_backlog_jobs",
             Metric::Unserved => "poolman_unserved_jobs",
+            Metric::IsLate => "poolman_is_late",
             Metric::AliveWorkers => "poolman_alive_workers",
             Metric::Workers => "poolman_workers",
             Metric::FunctionWaiting => "poolman_function_waiting_jobs",
@@ -102,7 +106,9 @@ impl Metric {
             Metric::Attempts => "Attempts to plan.",
             Metric::HasPlan => "1 if the last attempt led to a plan, else 0.",
             Metric::Backlog => "Jobs that wait for each worker of a function, at most.",
-            Metric::Unserved => "Jobs that wait for a function that no worker alive may do.",
+            Metric::Unserved =>
+                "Jobs that wait for a function that workers alive may do and none does, at most.",
+            Metric::IsLate => "1 if the last attempt is older than three rounds, else 0.",
             Metric::AliveWorkers => "Workers alive.",
             Metric::Workers => "Workers of the settings.",
             Metric::FunctionWaiting => "Jobs that wait for a worker.",
@@ -135,9 +141,9 @@ impl Metric {
     }
 }
 
-/// The value of a metric of the farm. None if it has none now, or is not of the farm.
-pub fn farm_value(view: &FarmView, metric: Metric) -> Option<u64>
-    ensures { result ≡ spec.farm_value view.now metric }
+/// The value of a metric of the farm at a moment. None if it has none now, or is not of the farm.
+pub fn farm_value(view: &FarmView, moment: Moment, metric: Metric) -> Option<u64>
+    ensures { result ≡ spec.farm_value view.now moment metric }
 {
     match (metric, &view.outcome) {
         (Metric::Attempts, _) => Some(u64::from(view.attempt)),
@@ -145,6 +151,7 @@ pub fn farm_value(view: &FarmView, metric: Metric) -> Option<u64>
         (Metric::Backlog, Outcome::Backlog(jobs)) => Some(*jobs),
         (Metric::Unserved, Outcome::Unserved(jobs)) => Some(*jobs),
         (Metric::Unserved, Outcome::Backlog(_)) => Some(0),
+        (Metric::IsLate, _) => Some(u64::from(moment.is_late())),
         (Metric::AliveWorkers, _) => Some(u64::from(view.workers.alive)),
         (Metric::Workers, _) => Some(u64::from(view.workers.all)),
         _ => None,
@@ -158,7 +165,7 @@ pub fn function_value(function: &FunctionView, metric: Metric) -> Option<u64>
     match metric {
         Metric::FunctionWaiting => Some(u64::from(function.queue?.waiting)),
         Metric::FunctionRunning => Some(u64::from(function.queue?.running)),
-        Metric::FunctionWorkers => Some(u64::from(function.workers)),
+        Metric::FunctionWorkers => Some(u64::from(function.workers?)),
         Metric::FunctionLeast => Some(u64::from(function.least)),
         Metric::FunctionMost => Some(u64::from(function.most?)),
         Metric::FunctionCompleted => Some(function.jobs?.completed),
@@ -168,14 +175,14 @@ pub fn function_value(function: &FunctionView, metric: Metric) -> Option<u64>
     }
 }
 
-/// The value of a metric of a host. None if it is not of a host.
+/// The value of a metric of a host. None if it is not known, or not of a host.
 pub fn host_value(host: &HostView, metric: Metric) -> Option<u64>
     ensures { result ≡ spec.host_value host.now metric }
 {
     match metric {
         Metric::HostReached => Some(u64::from(host.unreached.is_none())),
-        Metric::HostAlive => Some(u64::from(host.workers.alive)),
-        Metric::HostWorkers => Some(u64::from(host.workers.all)),
+        Metric::HostAlive => Some(u64::from(host.alive?)),
+        Metric::HostWorkers => Some(u64::from(host.all)),
         _ => None,
     }
 }

@@ -4,17 +4,19 @@ ghost use Rattle.std.specs.Prelude.{◌≡◌, ◌++◌, IfOk, OnOk};
 ghost use Rattle.std.specs.List.{flat_map};
 ghost use Rattle.farm_page.specs.Metrics as spec;
 
+use crate::health::Moment;
 use crate::metric::{Metric, farm_value, function_value, host_value};
 use crate::view::{EndView, FarmView, FunctionView, HostView};
 use crate::writing::{put_label, put_number, put_text};
 use std::alloc::{AllocError, Global};
 
 /// The metrics of a farm.
-const OF_FARM: [Metric; 6] = [
+const OF_FARM: [Metric; 7] = [
     Metric::Attempts,
     Metric::HasPlan,
     Metric::Backlog,
     Metric::Unserved,
+    Metric::IsLate,
     Metric::AliveWorkers,
     Metric::Workers,
 ];
@@ -77,10 +79,15 @@ fn put_labelled(out: &mut Vec<u8>, sample: &Labelled<'_>, value: u64) -> Result<
 }
 
 /// Adds a metric of the farm, if it has a value.
-fn put_of_farm(out: &mut Vec<u8>, view: &FarmView, metric: Metric) -> Result<(), AllocError>
-    ensures { OnOk result (out.new.items ≡ out.old.items ++ spec.farm_family view.now metric) }
+fn put_of_farm(
+    out: &mut Vec<u8>,
+    view: &FarmView,
+    moment: Moment,
+    metric: Metric,
+) -> Result<(), AllocError>
+    ensures { OnOk result (out.new.items ≡ out.old.items ++ spec.farm_family view.now moment metric) }
 {
-    let Some(value) = farm_value(view, metric) else {
+    let Some(value) = farm_value(view, moment, metric) else {
         return Ok(());
     };
     put_head(out, metric)?;
@@ -91,11 +98,16 @@ fn put_of_farm(out: &mut Vec<u8>, view: &FarmView, metric: Metric) -> Result<(),
 }
 
 /// Adds metrics of the farm.
-fn put_farm(out: &mut Vec<u8>, view: &FarmView, metrics: &[Metric]) -> Result<(), AllocError>
-    ensures { OnOk result (out.new.items ≡ out.old.items ++ flat_map (spec.farm_family view.now) metrics.now) }
+fn put_farm(
+    out: &mut Vec<u8>,
+    view: &FarmView,
+    moment: Moment,
+    metrics: &[Metric],
+) -> Result<(), AllocError>
+    ensures { OnOk result (out.new.items ≡ out.old.items ++ flat_map (spec.farm_family view.now moment) metrics.now) }
 {
     for metric in metrics {
-        put_of_farm(out, view, *metric)?;
+        put_of_farm(out, view, moment, *metric)?;
     }
     Ok(())
 }
@@ -207,13 +219,13 @@ fn put_ends(out: &mut Vec<u8>, ends: &[EndView]) -> Result<(), AllocError>
     Ok(())
 }
 
-/// The metrics of a farm in the text format of Prometheus, version 0.0.4: each metric with what it means and its type, and then its
-/// samples, those of functions, hosts and causes with a label. What is not known has no sample. The only error is out of memory.
-pub fn metrics_text(alloc: Global, view: &FarmView) -> Result<Vec<u8>, AllocError>
-    ensures { IfOk result (λ text. text.items ≡ spec.metrics_text view.now) }
+/// The metrics of a farm at a moment in the text format of Prometheus, version 0.0.4: each metric with what it means and its type, and then
+/// its samples, those of functions, hosts and causes with a label. What is not known has no sample. The only error is out of memory.
+pub fn metrics_text(alloc: Global, view: &FarmView, moment: Moment) -> Result<Vec<u8>, AllocError>
+    ensures { IfOk result (λ text. text.items ≡ spec.metrics_text view.now moment) }
 {
     let mut out = Vec::new(alloc);
-    put_farm(&mut out, view, &OF_FARM)?;
+    put_farm(&mut out, view, moment, &OF_FARM)?;
     put_functions(&mut out, &view.functions, &OF_FUNCTION)?;
     put_hosts(&mut out, &view.hosts, &OF_HOST)?;
     put_ends(&mut out, &view.ends)?;

@@ -1,12 +1,13 @@
 //! The page.
 
 ghost use Rattle.std.specs.Prelude.{◌≡◌, ◌++◌, IfOk, OnOk};
-ghost use Rattle.farm_page.specs.Condition.{sentence};
+ghost use Rattle.farm_page.specs.Health.{sentence_at};
 ghost use Rattle.farm_page.specs.Markup.{IsPageOf, opening};
 ghost use Rattle.farm_page.specs.Sections.{Holds, end_rows, failures_part, function_rows, headline, host_rows};
 
-use crate::condition::{Condition, condition_of, sentence, shortage_words};
+use crate::condition::{Condition, shortage_words};
 use crate::drawing::drawing;
+use crate::health::{Moment, condition_at, sentence_at};
 use crate::markup::Markup;
 use crate::sections::{
     Share, ends_section, failures_section, functions_section, headline, hosts_section,
@@ -75,16 +76,16 @@ fn put_server(out: &mut Markup, server: &str) -> Result<(), AllocError> {
 }
 
 /// What is between the opening and the sentence. The only error is out of memory.
-fn head(alloc: Global, view: &FarmView, title: &str) -> Result<Markup, AllocError> {
+fn head(alloc: Global, view: &FarmView, moment: Moment, title: &str) -> Result<Markup, AllocError> {
     let mut out = Markup::new(alloc);
     put_title(&mut out, title)?;
     put_style(&mut out)?;
-    put_body(&mut out, condition_of(view))?;
+    put_body(&mut out, condition_at(view, moment))?;
     put_server(&mut out, view.server.as_str())?;
     Ok(out)
 }
 
-/// Adds what shows that no plan is better. The sentence of a farm without a plan says it already.
+/// Adds what shows that no plan is better. The sentence of a farm without a plan says it already, if that is not late.
 fn put_shortage(alloc: Global, out: &mut Markup, view: &FarmView) -> Result<(), AllocError> {
     let shortage = match &view.shortage {
         Some(shortage) if view.outcome.has_plan() => shortage,
@@ -144,16 +145,21 @@ fn tables(alloc: Global, view: &FarmView) -> Result<Markup, AllocError>
 }
 
 /// What a page shows, after its opening. The only error is out of memory.
-fn rest_of(alloc: Global, view: &FarmView, refresh: Refresh) -> Result<Markup, AllocError>
-    ensures sentence { IfOk result (λ rest. Holds rest (headline (sentence view.now))) }
+fn rest_of(
+    alloc: Global,
+    view: &FarmView,
+    moment: Moment,
+    refresh: Refresh,
+) -> Result<Markup, AllocError>
+    ensures sentence { IfOk result (λ rest. Holds rest (headline (sentence_at view.now moment))) }
     ensures busy { IfOk result (λ rest. Holds rest (function_rows Share.Busy view.now.workers.all view.now.functions.items)) }
     ensures quiet { IfOk result (λ rest. Holds rest (function_rows Share.Quiet view.now.workers.all view.now.functions.items)) }
     ensures hosts { IfOk result (λ rest. Holds rest (host_rows view.now.hosts.items)) }
     ensures ends { IfOk result (λ rest. Holds rest (end_rows view.now.ends.items)) }
     ensures failures { IfOk result (λ rest. Holds rest (failures_part view.now.failures)) }
 {
-    let words = sentence(alloc, view)?;
-    let mut out = head(alloc, view, words.as_str())?;
+    let words = sentence_at(alloc, view, moment)?;
+    let mut out = head(alloc, view, moment, words.as_str())?;
     let headline = headline(alloc, words.as_str())?;
     let state = state(alloc, view, refresh)?;
     let drawing = drawing(alloc, &view.backlogs)?;
@@ -166,19 +172,24 @@ fn rest_of(alloc: Global, view: &FarmView, refresh: Refresh) -> Result<Markup, A
     Ok(out)
 }
 
-/// The page of a farm, in HTML: how the farm is in one sentence, what shows it, the last backlogs as a drawing, and the tables of the
-/// functions, the hosts, the causes for which workers ended, and the last jobs that were not completed. It has no script, and no file from
-/// elsewhere. Whatever names it shows, each `<` in it begins a tag of the program's own. The only error is out of memory.
-pub fn page_text(alloc: Global, view: &FarmView, refresh: Refresh) -> Result<Vec<u8>, AllocError>
+/// The page of a farm at a moment, in HTML: how the farm is then in one sentence, what shows it, the last backlogs as a drawing, and the
+/// tables of the functions, the hosts, the causes for which workers ended, and the last jobs that were not completed. It has no script, and
+/// no file from elsewhere. Whatever names it shows, each `<` in it begins a tag of the program's own. The only error is out of memory.
+pub fn page_text(
+    alloc: Global,
+    view: &FarmView,
+    moment: Moment,
+    refresh: Refresh,
+) -> Result<Vec<u8>, AllocError>
     ensures own { IfOk result (λ page. IsPageOf refresh page.items) }
-    ensures sentence { IfOk result (λ page. Holds page.items (headline (sentence view.now))) }
+    ensures sentence { IfOk result (λ page. Holds page.items (headline (sentence_at view.now moment))) }
     ensures busy { IfOk result (λ page. Holds page.items (function_rows Share.Busy view.now.workers.all view.now.functions.items)) }
     ensures quiet { IfOk result (λ page. Holds page.items (function_rows Share.Quiet view.now.workers.all view.now.functions.items)) }
     ensures hosts { IfOk result (λ page. Holds page.items (host_rows view.now.hosts.items)) }
     ensures ends { IfOk result (λ page. Holds page.items (end_rows view.now.ends.items)) }
     ensures failures { IfOk result (λ page. Holds page.items (failures_part view.now.failures)) }
 {
-    let rest = rest_of(alloc, view, refresh)?.into_bytes();
+    let rest = rest_of(alloc, view, moment, refresh)?.into_bytes();
     let mut page = Vec::new(alloc);
     put_opening(&mut page, refresh)?;
     put_bytes(&mut page, rest.as_slice())?;

@@ -116,28 +116,28 @@ fn part_answer(alloc: Global, evidence: &Option<Evidence>, part: Part) -> Result
 }
 
 /// The answer of the page.
-fn page_answer(alloc: Global, farm: &FarmView, refresh: Refresh) -> Result<Answer, AllocError>
-    ensures { IfOk result (λ answer. spec.IsPage farm.now refresh answer) }
+fn page_answer(alloc: Global, seen: &Seen<'_>, refresh: Refresh) -> Result<Answer, AllocError>
+    ensures { IfOk result (λ answer. spec.IsPage seen.now refresh answer) }
 {
     Ok(Answer {
         status: Status::Ok,
         content: Content::Page,
-        attempt: Some(farm.attempt),
+        attempt: Some(seen.farm.attempt),
         allowed: None,
-        body: page_text(alloc, farm, refresh)?,
+        body: page_text(alloc, seen.farm, seen.moment, refresh)?,
     })
 }
 
 /// The answer of the metrics.
-fn metrics_answer(alloc: Global, farm: &FarmView) -> Result<Answer, AllocError>
-    ensures { IfOk result (λ answer. answer ≡ spec.metrics_answer farm.now) }
+fn metrics_answer(alloc: Global, seen: &Seen<'_>) -> Result<Answer, AllocError>
+    ensures { IfOk result (λ answer. answer ≡ spec.metrics_answer seen.now) }
 {
     Ok(Answer {
         status: Status::Ok,
         content: Content::Metrics,
-        attempt: Some(farm.attempt),
+        attempt: Some(seen.farm.attempt),
         allowed: None,
-        body: metrics_text(alloc, farm)?,
+        body: metrics_text(alloc, seen.farm, seen.moment)?,
     })
 }
 
@@ -166,8 +166,8 @@ fn reply_at(
     let evidence = &seen.farm.evidence;
     let answer = match place {
         Place::Drain => return Ok(Reply::Drain),
-        Place::Page => page_answer(alloc, seen.farm, refresh)?,
-        Place::Metrics => metrics_answer(alloc, seen.farm)?,
+        Place::Page => page_answer(alloc, seen, refresh)?,
+        Place::Metrics => metrics_answer(alloc, seen)?,
         Place::Evidence => part_answer(alloc, evidence, Part::Whole)?,
         Place::Report => part_answer(alloc, evidence, Part::Report)?,
         Place::Status => part_answer(alloc, evidence, Part::Status)?,

@@ -4,18 +4,18 @@ ghost use Rattle.std.specs.Prelude.{◌≡◌, ◌++◌, OnOk};
 ghost use Rattle.farm_page.specs.Rows as spec;
 
 use crate::cells::{
-    Gap, Mark, put_bar, put_cell, put_cell_if, put_fault_cell, put_row_name, put_words,
+    Gap, Mark, put_bar_if, put_cell, put_cell_if, put_fault_cell, put_gap, put_row_name, put_words,
 };
 use crate::markup::Markup;
-use crate::metric::{Metric, function_value};
-use crate::view::{EndView, FailureEnd, FailureView, FunctionView, HostView, Workers};
+use crate::metric::{Metric, function_value, host_value};
+use crate::view::{EndView, FailureEnd, FailureView, FunctionView, HostView};
 use std::alloc::AllocError;
 
 /// How the number of a function's workers is shown: it is wrong below the least number.
-fn workers_mark(function: &FunctionView) -> Mark
-    ensures { result ≡ spec.workers_mark function.now }
+fn workers_mark(workers: u32, least: u32) -> Mark
+    ensures { result ≡ spec.workers_mark workers least }
 {
-    if function.workers < function.least {
+    if workers < least {
         Mark::Bad
     } else {
         Mark::Plain
@@ -27,24 +27,38 @@ fn waiting_per_worker(function: &FunctionView) -> Option<u64>
     ensures { result ≡ spec.waiting_per_worker function.now }
 {
     let queue = function.queue?;
-    if function.workers == 0 {
+    let workers = function.workers?;
+    if workers == 0 {
         return None;
     }
-    Some(u64::from(queue.waiting.div_ceil(function.workers)))
+    Some(u64::from(queue.waiting.div_ceil(workers)))
+}
+
+/// Adds the number of a function's workers, or that it is not known.
+fn put_workers_cell(out: &mut Markup, function: &FunctionView) -> Result<(), AllocError>
+    ensures { OnOk result (out.new ≡ out.old ++ spec.workers_cell function.now) }
+{
+    match function.workers {
+        Some(workers) => put_cell(
+            out,
+            workers_mark(workers, function.least),
+            u64::from(workers),
+        ),
+        None => put_gap(out, Gap::Unknown),
+    }
 }
 
 /// Adds the numbers of a function's queue and of its workers, of `all` workers of the farm.
 fn put_workers(out: &mut Markup, function: &FunctionView, all: u32) -> Result<(), AllocError>
     ensures { OnOk result (out.new ≡ out.old ++ spec.workers_cells function.now all) }
 {
-    let alive = function.workers;
     let waiting = function_value(function, Metric::FunctionWaiting);
     let running = function_value(function, Metric::FunctionRunning);
     put_cell_if(out, waiting, Gap::Unknown)?;
     put_cell_if(out, waiting_per_worker(function), Gap::Unknown)?;
     put_cell_if(out, running, Gap::Unknown)?;
-    put_cell(out, workers_mark(function), u64::from(alive))?;
-    put_bar(out, Workers { alive, all }, function.least)
+    put_workers_cell(out, function)?;
+    put_bar_if(out, function.workers, all, function.least)
 }
 
 /// Adds what became of a function's jobs.
@@ -95,10 +109,11 @@ fn put_reached(out: &mut Markup, host: &HostView) -> Result<(), AllocError>
 pub fn put_host(out: &mut Markup, host: &HostView) -> Result<(), AllocError>
     ensures { OnOk result (out.new ≡ out.old ++ spec.host_row host.now) }
 {
+    let alive = host_value(host, Metric::HostAlive);
     put_row_name(out, host.name.as_str())?;
-    put_cell(out, Mark::Plain, u64::from(host.workers.alive))?;
-    put_cell(out, Mark::Plain, u64::from(host.workers.all))?;
-    put_bar(out, host.workers, host.workers.all)?;
+    put_cell_if(out, alive, Gap::Unknown)?;
+    put_cell(out, Mark::Plain, u64::from(host.all))?;
+    put_bar_if(out, host.alive, host.all, host.all)?;
     put_reached(out, host)?;
     out.put_tags("</tr>\n")
 }

@@ -39,12 +39,22 @@ fn has_faults(jobs: JobEnds) -> bool
     jobs.failed > 0 || jobs.lost > 0
 }
 
+/// Whether a function has fewer workers than it is to have.
+fn lacks_workers(function: &FunctionView) -> bool
+    ensures { result ≡ spec.lacks_workers function.now }
+{
+    match function.workers {
+        Some(workers) => workers < function.least,
+        None => false,
+    }
+}
+
 /// Whether a function is one to look at.
 fn is_busy(function: &FunctionView) -> bool
     ensures { result ≡ spec.is_busy function.now }
 {
     function.queue.map_or(false, |queue| queue.waiting > 0)
-        || function.workers < function.least
+        || lacks_workers(function)
         || function.jobs.map_or(false, has_faults)
 }
 

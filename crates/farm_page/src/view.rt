@@ -11,7 +11,7 @@ use crate::failures::Failures;
 pub enum Outcome {
     /// A plan under which so many jobs wait for each worker of a function at most.
     Backlog(u64),
-    /// A plan, but jobs wait for a function that no worker alive may do: so many for the one that has the most.
+    /// A plan, but jobs wait for a function that some worker alive may do and none does: so many for the one that has the most.
     Unserved(u64),
     /// No plan meets the least and greatest numbers of workers.
     NoPlan,
@@ -64,8 +64,8 @@ pub struct FunctionView {
     pub name: String,
     /// Its queue. None if the attempt had no status of the job server.
     pub queue: Option<QueueView>,
-    /// How many workers do it.
-    pub workers: u32,
+    /// How many workers do it. None if the attempt had no plan of them.
+    pub workers: Option<u32>,
     /// How many workers are to do it at least.
     pub least: u32,
     /// How many may do it at most. None if any number may.
@@ -79,8 +79,10 @@ pub struct FunctionView {
 pub struct HostView {
     /// Its name.
     pub name: String,
-    /// Its workers.
-    pub workers: Workers,
+    /// How many of its workers are alive. None if the attempt did not count them.
+    pub alive: Option<u32>,
+    /// How many workers it has by the settings.
+    pub all: u32,
     /// Why it is not reached. None if it is.
     pub unreached: Option<String>,
 }

@@ -7,7 +7,7 @@ use Rattle.farm_page.proofs.metrics.metrics_text.Goals as goal
 pub returns : goal.returns
 returns c =
     let view = c.args.view.now in
-    let farm = flat_map (farm_family view) farm_metrics in
+    let farm = flat_map (farm_family view c.args.moment) farm_metrics in
     let functions = flat_map (function_family view.functions.items) function_metrics in
     let hosts = flat_map (host_family view.hosts.items) host_metrics in
     let ends = ends_family view.ends.items in

@@ -1,5 +1,5 @@
 use Rattle.std.proofs.Common.{◌∙◌, ◌++◌, List, ℕ, ap}
-use Rattle.farm_page.specs.Condition.{sentence}
+use Rattle.farm_page.specs.Health.{sentence_at}
 use Rattle.farm_page.specs.Markup.{opening}
 use Rattle.farm_page.specs.Sections.{end_rows, failures_part, function_rows, headline, host_rows}
 use Rattle.farm_page.specs.declared.sections.Share.TheVariants.{Busy, Quiet}
@@ -22,7 +22,7 @@ pub returns-clause-sentence : goal.returns-clause-sentence
 returns-clause-sentence c =
     let begun : List ℕ = c.put_opening.new.out.items in
     let added = c.in_ok-put_bytes.ensures ∙ ap (λ t. begun ++ t) (c.as_slice.ensures.value ∙ c.into_bytes-rest.ensures.all) in
-    holds_in begun c.in_ok-rest_of.field-0 (headline (sentence c.args.view.now)) c.put_bytes.new.out.items c.in_ok-rest_of.ensures.sentence added
+    holds_in begun c.in_ok-rest_of.field-0 (headline (sentence_at c.args.view.now c.args.moment)) c.put_bytes.new.out.items c.in_ok-rest_of.ensures.sentence added
 
 pub returns-clause-busy : goal.returns-clause-busy
 returns-clause-busy c =

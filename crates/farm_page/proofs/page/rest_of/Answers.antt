@@ -1,5 +1,5 @@
 use Rattle.std.proofs.Common.{◌∙◌, ◌++◌, List, ℕ, ap}
-use Rattle.farm_page.specs.Condition.{sentence}
+use Rattle.farm_page.specs.Health.{sentence_at}
 use Rattle.farm_page.specs.Sections.{end_rows, failures_part, function_rows, headline, host_rows}
 use Rattle.farm_page.specs.declared.sections.Share.TheVariants.{Busy, Quiet}
 use Rattle.farm_page.proofs.Held.{holds_in, holds_last, holds_more}
@@ -7,7 +7,7 @@ use Rattle.farm_page.proofs.page.rest_of.Goals as goal
 
 pub returns-clause-sentence : goal.returns-clause-sentence
 returns-clause-sentence c =
-    let rows : List ℕ = headline (sentence c.args.view.now) in
+    let rows : List ℕ = headline (sentence_at c.args.view.now c.args.moment) in
     let at_1 = holds_last c.in_ok-out.out rows c.put.new.self (c.in_ok-put.ensures ∙ ap (λ t. c.in_ok-out.out ++ t) (c.in_ok-headline.ensures ∙ ap (λ t. headline t) (c.as_str-2.ensures.value ∙ c.in_ok-words.ensures))) in
     let at_2 = holds_more c.put.new.self rows c.in_ok-state.state c.put-2.new.self at_1 c.in_ok-put-2.ensures in
     let at_3 = holds_more c.put-2.new.self rows c.in_ok-drawing.drawing c.put-3.new.self at_2 c.in_ok-put-3.ensures in
