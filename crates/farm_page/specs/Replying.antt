@@ -1,10 +1,10 @@
 -- What a request is answered.
 use Rattle.std.specs.Prelude.{ℕ, ◌≡◌, List, Option, Some, None, Result, Ok, Err, codes, if◌then◌else◌}
 use Rattle.farm_page.specs.Evidence.{evidence_text, lost_text}
-use Rattle.farm_page.specs.Health.{health_text, is_healthy, sentence_at}
+use Rattle.farm_page.specs.Health.{condition_at, health_text, is_healthy, sentence_at}
 use Rattle.farm_page.specs.Markup.{IsPageOf}
 use Rattle.farm_page.specs.Metrics.{metrics_text}
-use Rattle.farm_page.specs.Sections.{Holds, end_rows, failures_part, function_rows, headline, host_rows}
+use Rattle.farm_page.specs.Sections.{Holds, body_tag, end_rows, failures_part, function_rows, headline, host_rows}
 use Rattle.farm_page.specs.Told.{Told}
 use Rattle.farm_page.specs.declared.answer.Allowed.{Allowed}
 use Rattle.farm_page.specs.declared.answer.Allowed.TheVariants.{Posts, Reads}
@@ -75,14 +75,15 @@ abbrev pub health_answer : Seen → Told
 health_answer seen =
     text_of (if is_healthy seen.farm.now seen.moment then status.Ok else status.Unavailable) (health_text seen.farm.now seen.moment)
 
--- a page without a tag that is not its own, which asks for itself again or does not, with the sentence of the farm at the moment and a row
--- for each function, host, cause and job that was not completed
+-- a page without a tag that is not its own, which asks for itself again or does not, with the condition of the farm at the moment,
+-- its sentence, and a row for each function, host, cause and job that was not completed
 pub record IsPage (seen : Seen) (refresh : Refresh) (answer : Told) : Type 0 where
   pub found : answer.status ≡ status.Ok
   pub shown : answer.content ≡ content.Page
   pub attempt : answer.attempt ≡ Some seen.farm.now.attempt
   pub allowed : answer.allowed ≡ None
   pub own : IsPageOf refresh answer.body
+  pub condition : Holds answer.body (body_tag (condition_at seen.farm.now seen.moment))
   pub sentence : Holds answer.body (headline (sentence_at seen.farm.now seen.moment))
   pub busy : Holds answer.body (function_rows Busy seen.farm.now.workers.all seen.farm.now.functions.items)
   pub quiet : Holds answer.body (function_rows Quiet seen.farm.now.workers.all seen.farm.now.functions.items)

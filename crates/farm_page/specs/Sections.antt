@@ -4,6 +4,8 @@ use Rattle.std.specs.List.{flat_map}
 use Rattle.std.specs.Option.{option_map_or}
 use Rattle.farm_page.specs.Escaping.{page_text}
 use Rattle.farm_page.specs.Rows.{end_row, failure_rows, function_row, host_row}
+use Rattle.farm_page.specs.declared.condition.Condition.{Condition}
+use Rattle.farm_page.specs.declared.condition.Condition.TheVariants.{Bad, Watch, Well}
 use Rattle.farm_page.specs.declared.sections.Share.{Share}
 use Rattle.farm_page.specs.declared.sections.Share.TheVariants.{Busy, Quiet}
 use Rattle.farm_page.specs.declared.view.EndView.{EndView}
@@ -17,6 +19,15 @@ pub record Holds (text part : List ℕ) : Type 0 where
   pub before : List ℕ
   pub after : List ℕ
   pub is : text ≡ before ++ part ++ after
+
+-- the tag that says how the farm is
+abbrev pub body_tag : Condition → List ℕ
+body_tag Well = codes "<body class=\"well\">\n"
+body_tag Watch = codes "<body class=\"watch\">\n"
+body_tag Bad = codes "<body class=\"bad\">\n"
+
+abbrev pub server_words : List ℕ → List ℕ
+server_words server = codes "<header><p>poolman at job server " ++ page_text server ++ codes "</p>\n"
 
 abbrev pub headline : List ℕ → List ℕ
 headline words = codes "<h1><span class=\"mark\"></span>" ++ page_text words ++ codes ".</h1>\n"

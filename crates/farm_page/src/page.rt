@@ -1,9 +1,9 @@
 //! The page.
 
 ghost use Rattle.std.specs.Prelude.{◌≡◌, ◌++◌, IfOk, OnOk};
-ghost use Rattle.farm_page.specs.Health.{sentence_at};
+ghost use Rattle.farm_page.specs.Health.{condition_at, sentence_at};
 ghost use Rattle.farm_page.specs.Markup.{IsPageOf, opening};
-ghost use Rattle.farm_page.specs.Sections.{Holds, end_rows, failures_part, function_rows, headline, host_rows};
+ghost use Rattle.farm_page.specs.Sections.{Holds, body_tag, end_rows, failures_part, function_rows, headline, host_rows, server_words};
 
 use crate::condition::{Condition, shortage_words};
 use crate::drawing::drawing;
@@ -53,7 +53,9 @@ fn put_style(out: &mut Markup) -> Result<(), AllocError> {
 }
 
 /// Adds the tag of the body, which says how the farm is.
-fn put_body(out: &mut Markup, condition: Condition) -> Result<(), AllocError> {
+fn put_body(out: &mut Markup, condition: Condition) -> Result<(), AllocError>
+    ensures { OnOk result (out.new ≡ out.old ++ body_tag condition) }
+{
     match condition {
         Condition::Well => out.put_tags("<body class=\"well\">\n"),
         Condition::Watch => out.put_tags("<body class=\"watch\">\n"),
@@ -69,14 +71,18 @@ fn put_title(out: &mut Markup, title: &str) -> Result<(), AllocError> {
 }
 
 /// Adds the job server.
-fn put_server(out: &mut Markup, server: &str) -> Result<(), AllocError> {
+fn put_server(out: &mut Markup, server: &str) -> Result<(), AllocError>
+    ensures { OnOk result (out.new ≡ out.old ++ server_words server.now) }
+{
     out.put_tags("<header><p>poolman at job server ")?;
     out.put_text(server.as_bytes())?;
     out.put_tags("</p>\n")
 }
 
 /// What is between the opening and the sentence. The only error is out of memory.
-fn head(alloc: Global, view: &FarmView, moment: Moment, title: &str) -> Result<Markup, AllocError> {
+fn head(alloc: Global, view: &FarmView, moment: Moment, title: &str) -> Result<Markup, AllocError>
+    ensures { IfOk result (λ head. Holds head (body_tag (condition_at view.now moment))) }
+{
     let mut out = Markup::new(alloc);
     put_title(&mut out, title)?;
     put_style(&mut out)?;
@@ -151,6 +157,7 @@ fn rest_of(
     moment: Moment,
     refresh: Refresh,
 ) -> Result<Markup, AllocError>
+    ensures condition { IfOk result (λ rest. Holds rest (body_tag (condition_at view.now moment))) }
     ensures sentence { IfOk result (λ rest. Holds rest (headline (sentence_at view.now moment))) }
     ensures busy { IfOk result (λ rest. Holds rest (function_rows Share.Busy view.now.workers.all view.now.functions.items)) }
     ensures quiet { IfOk result (λ rest. Holds rest (function_rows Share.Quiet view.now.workers.all view.now.functions.items)) }
@@ -182,6 +189,7 @@ pub fn page_text(
     refresh: Refresh,
 ) -> Result<Vec<u8>, AllocError>
     ensures own { IfOk result (λ page. IsPageOf refresh page.items) }
+    ensures condition { IfOk result (λ page. Holds page.items (body_tag (condition_at view.now moment))) }
     ensures sentence { IfOk result (λ page. Holds page.items (headline (sentence_at view.now moment))) }
     ensures busy { IfOk result (λ page. Holds page.items (function_rows Share.Busy view.now.workers.all view.now.functions.items)) }
     ensures quiet { IfOk result (λ page. Holds page.items (function_rows Share.Quiet view.now.workers.all view.now.functions.items)) }

@@ -1,7 +1,7 @@
 use Rattle.std.proofs.Common.{◌∙◌, ◌++◌, List, ℕ, ap}
-use Rattle.farm_page.specs.Health.{sentence_at}
+use Rattle.farm_page.specs.Health.{condition_at, sentence_at}
 use Rattle.farm_page.specs.Markup.{opening}
-use Rattle.farm_page.specs.Sections.{end_rows, failures_part, function_rows, headline, host_rows}
+use Rattle.farm_page.specs.Sections.{body_tag, end_rows, failures_part, function_rows, headline, host_rows}
 use Rattle.farm_page.specs.declared.sections.Share.TheVariants.{Busy, Quiet}
 use Rattle.farm_page.proofs.Held.{holds_in}
 use Rattle.farm_page.proofs.page.page_text.Goals as goal
@@ -17,6 +17,12 @@ returns-clause-own c =
           ∙ ap (λ t. t ++ rest) begun;
       own = c.into_bytes-rest.ensures.own;
     }
+
+pub returns-clause-condition : goal.returns-clause-condition
+returns-clause-condition c =
+    let begun : List ℕ = c.put_opening.new.out.items in
+    let added = c.in_ok-put_bytes.ensures ∙ ap (λ t. begun ++ t) (c.as_slice.ensures.value ∙ c.into_bytes-rest.ensures.all) in
+    holds_in begun c.in_ok-rest_of.field-0 (body_tag (condition_at c.args.view.now c.args.moment)) c.put_bytes.new.out.items c.in_ok-rest_of.ensures.condition added
 
 pub returns-clause-sentence : goal.returns-clause-sentence
 returns-clause-sentence c =

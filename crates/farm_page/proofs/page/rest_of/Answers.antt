@@ -1,9 +1,18 @@
 use Rattle.std.proofs.Common.{◌∙◌, ◌++◌, List, ℕ, ap}
-use Rattle.farm_page.specs.Health.{sentence_at}
-use Rattle.farm_page.specs.Sections.{end_rows, failures_part, function_rows, headline, host_rows}
+use Rattle.farm_page.specs.Health.{condition_at, sentence_at}
+use Rattle.farm_page.specs.Sections.{body_tag, end_rows, failures_part, function_rows, headline, host_rows}
 use Rattle.farm_page.specs.declared.sections.Share.TheVariants.{Busy, Quiet}
 use Rattle.farm_page.proofs.Held.{holds_in, holds_last, holds_more}
 use Rattle.farm_page.proofs.page.rest_of.Goals as goal
+
+pub returns-clause-condition : goal.returns-clause-condition
+returns-clause-condition c =
+    let tag : List ℕ = body_tag (condition_at c.args.view.now c.args.moment) in
+    let at_1 = holds_more c.in_ok-out.out tag c.in_ok-headline.headline c.put.new.self c.in_ok-out.ensures c.in_ok-put.ensures in
+    let at_2 = holds_more c.put.new.self tag c.in_ok-state.state c.put-2.new.self at_1 c.in_ok-put-2.ensures in
+    let at_3 = holds_more c.put-2.new.self tag c.in_ok-drawing.drawing c.put-3.new.self at_2 c.in_ok-put-3.ensures in
+    let at_4 = holds_more c.put-3.new.self tag c.in_ok-tables.tables c.put-4.new.self at_3 c.in_ok-put-4.ensures in
+    holds_more c.put-4.new.self tag _ c.put_tags.new.self at_4 c.in_ok-put_tags.ensures
 
 pub returns-clause-sentence : goal.returns-clause-sentence
 returns-clause-sentence c =
