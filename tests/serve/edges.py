@@ -40,8 +40,8 @@ MOST_WAITING = 4096
 # For so many seconds a look-up waits for a resolver that does not answer.
 LOOKUP_S = 3
 
-# A report has to be taken in so many milliseconds. The great one is more than the system takes for whoever reads late.
-REPORT_MS, GREAT = 8000, 8_000_000
+# A report has to be taken in so many milliseconds. A job has so many bytes at most.
+REPORT_MS, MOST_BYTES = 8000, 16_000_000
 
 # So many descriptors are too few for all workers, each of which takes two.
 FEW = 22
@@ -340,8 +340,18 @@ def nolinks(lines):
     return sum(line.startswith("attempt ") and line.endswith(" nolink") for line in lines)
 
 
+def most_unread():
+    """How many bytes the system takes at most over one connection for whoever reads them late."""
+    with open("/proc/sys/net/ipv4/tcp_wmem", encoding="ascii") as it:
+        return int(it.read().split()[2])
+
+
 def a_report_is_taken_slowly(program, processes):
-    """The job server takes one report a little at a time: its worker ends in bounded time, and the job goes to another."""
+    """The job server takes one report a little at a time: its worker ends in bounded time, and the job goes to another. Where the system
+    itself takes a whole report, none is slow."""
+    great = 2 * most_unread()
+    if great > MOST_BYTES:
+        return
     edge = Edge(program, processes)
     port = ports(1)[0]
     way = SlowWay(port, edge.server)
@@ -352,7 +362,7 @@ def a_report_is_taken_slowly(program, processes):
         wait_until(edge.causes, PATIENCE, "the worker of a slow report ends")
         way.hurry()
 
-    at_once([lambda: edge.ask([("upper", "great", GREAT * b"a")]), hurry_at_the_end])
+    at_once([lambda: edge.ask([("upper", "great", great * b"a")]), hurry_at_the_end])
     held(edge.causes()[0] == "WriteFault", f"workers ended so: {edge.causes()}")
     held(edge.metric("poolman_alive_workers") > 0, "no worker is alive")
     edge.end(1)

@@ -5,7 +5,7 @@ ghost use Rattle.http_jobs.specs.Serving.{DialCall, then_called};
 ghost use Rattle.drain_command.specs.Drain as spec;
 
 use crate::caller::Caller;
-use byte_io::{Sink, Source};
+use byte_io::{Sink, Source, deadline_from, is_past};
 use http_jobs::{Answer, Bounds, Clock, Dial, NotDone, Post, Received, Unserved, ask};
 use http1::Header;
 use plan_commands::{Fault, PageError};
@@ -15,8 +15,7 @@ use std::snapshot::Snapshot;
 /// The most bytes that totals may have.
 const MOST_TOTALS: usize = 1_048_576;
 
-/// For how many milliseconds an answer is waited for. A page tells its totals no later than a minute after the longest job, which takes
-/// 2^32 - 1 milliseconds at most.
+/// For how many milliseconds an answer is waited for. A page waits for its totals for 2^32 - 1 milliseconds at most.
 const ANSWER_MS: u64 = 4_295_100_000;
 
 /// For how many milliseconds a page is asked again that closes connections without an answer. It serves nobody for more than 10 seconds,
@@ -31,18 +30,12 @@ const PAUSE_MS: u32 = 50;
 
 /// The moment so many milliseconds from now, if the time is known.
 fn moment<C: Clock>(clock: &mut C, milliseconds: u64) -> Option<u64> {
-    match clock.now_ms() {
-        Some(now) => Some(now.saturating_add(milliseconds)),
-        None => None,
-    }
+    deadline_from(milliseconds, clock.now_ms())
 }
 
 /// Whether this moment has come.
 fn has_come<C: Clock>(clock: &mut C, moment: Option<u64>) -> bool {
-    match (moment, clock.now_ms()) {
-        (Some(moment), Some(now)) => moment <= now,
-        _ => false,
-    }
+    is_past(moment, clock.now_ms())
 }
 
 /// The totals of a whole answer.

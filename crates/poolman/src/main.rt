@@ -17,8 +17,8 @@ use std::{env, fs, io, thread};
 /// For how many milliseconds at most the end of a farm waits for whoever reads its lines.
 const LAST_LINES_MS: u32 = 5_000;
 
-/// For how many milliseconds at most it waits for whoever reads its page.
-const LAST_PEERS_MS: u32 = 1_000;
+/// For how many milliseconds at most it waits for whoever reads its page: for longer than the answer to a drain may take to be written.
+const LAST_PEERS_MS: u32 = 6_000;
 
 /// The words of the command line, the program's name first.
 fn words(rt: &HostRuntime) -> io::Result<Vec<String>> {

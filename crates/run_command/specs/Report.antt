@@ -1,8 +1,33 @@
--- Until when a report has to be taken.
-use Rattle.std.specs.Prelude.{ℕ, Option, Some, None}
+-- How long texts to the job server may take.
+use Rattle.std.specs.Prelude.{ℕ, List, ◌*◌, ◌-◌, ◌^◌, ◌==◌, max, min, if◌then◌else◌, Option, Some, None, Result, Ok, Err}
 use Rattle.byte_io.specs.Deadline.{deadline_from}
+use Rattle.byte_io.specs.declared.device.DeviceFault.{DeviceFault}
+use Rattle.pool_settings.specs.Settings.{Settings}
 
--- Its deadline after a write at this time: the one that it had, or else so many milliseconds from then, if the time is known.
+-- How many milliseconds one write may take at most: 65 timeouts of a read.
+abbrev pub write_ms : Settings → ℕ
+write_ms settings = min (settings.lull_ms * 65) (2 ^ 32 - 1)
+
+-- How many milliseconds a text may take: as many as a job may, or as one write, if that is more.
+abbrev pub text_ms : Settings → ℕ
+text_ms settings = max settings.job_timeout_ms (write_ms settings)
+
+-- the way to a job server: its name, and the times of its links
+pub record Route : Type 0 where
+  pub server : List ℕ
+  pub lull_ms : ℕ
+  pub text_ms : ℕ
+
+-- the way to the server of these settings, by their times
+abbrev pub route_by : Settings → Route
+route_by settings = record { server = settings.server; lull_ms = settings.lull_ms; text_ms = text_ms settings }
+
+-- Until when a text has to be taken of which some is written now: until its deadline, or so many milliseconds from now if it begins.
 abbrev pub deadline_of : Option ℕ → ℕ → Option ℕ → Option ℕ
 deadline_of (Some deadline) limit now = Some deadline
 deadline_of None limit now = deadline_from limit now
+
+-- The deadline after a write of so many bytes. A text that was taken whole leaves none.
+abbrev pub deadline_after : Result ℕ DeviceFault → ℕ → Option ℕ → Option ℕ
+deadline_after (Ok taken) count deadline = if taken == count then None else deadline
+deadline_after (Err fault) count deadline = deadline

@@ -1,13 +1,15 @@
 //! What a run is lent by the machine that it is on.
-ghost use Rattle.std.specs.Prelude.{IfSome};
+ghost use Rattle.std.specs.Prelude.{◌≡◌, IfOk, IfSome};
 ghost use Rattle.job_runner.specs.Run.{seen_link};
 ghost use Rattle.pool_supervisor.specs.Dials.{IsNew};
+ghost use Rattle.run_command.specs.Report as spec;
 
 use crate::report_link::ReportLink;
 use byte_io::{LAST_TIMEOUT, Sink, Source};
 use pool_settings::Settings;
 use pool_supervisor::{Dial, Progress, Watch};
 use std::alloc::{AllocError, Global};
+use std::marker::Model;
 use std::snapshot::Snapshot;
 use std::sync::Wait;
 use std::thread::Threads;
@@ -24,7 +26,22 @@ pub trait Host: Threads + Wait + Watch + Progress + Sync {
         ensures { IfSome result (λ link. IsNew (seen_link Self.Link.input Self.Link.output link)) };
 }
 
-/// Makes links from a host to one server. On each a report has a deadline.
+/// How many milliseconds one write to the job server may take at most: 65 timeouts of a read.
+pub fn write_ms(settings: &Settings) -> u32
+    ensures limit { result ≡ spec.write_ms settings.now }
+{
+    settings.lull_ms().saturating_mul(LAST_TIMEOUT)
+}
+
+/// In how many milliseconds after its first write a text has to be taken by the job server, as the answer to a job is one: in as many as a
+/// job may take, or as one write may take, if that is more.
+pub fn text_ms(settings: &Settings) -> u32
+    ensures limit { result ≡ spec.text_ms settings.now }
+{
+    settings.job_timeout_ms().max(write_ms(settings))
+}
+
+/// Makes links from a host to one server. On each link each text has a deadline.
 #[derive(Drop)]
 pub struct Route<'e, H> {
     /// Where the links begin.
@@ -33,25 +50,29 @@ pub struct Route<'e, H> {
     server: String,
     /// After how many milliseconds a read that gets nothing is a timeout.
     lull_ms: u32,
-    /// In how many milliseconds a report has to be taken.
-    report_ms: u32,
+    /// In how many milliseconds a text has to be taken.
+    text_ms: u32,
+}
+
+impl<'e, H> Model for Route<'e, H> {
+    ghost use Rattle.std.specs.Prelude.{string_bytes};
+    ghost use Rattle.run_command.specs.Report as meant;
+
+    ghost Value = { meant.Route };
+
+    ghost view = { λ r. record { server = string_bytes r.server; lull_ms = r.lull_ms; text_ms = r.text_ms } };
 }
 
 impl<'e, H: Host> Route<'e, H> {
-    /// To the server of these settings. A report has to be taken in as many milliseconds as a job may take, or as one write may take, if
-    /// that is more. The only error is out of memory.
-    pub fn new(
-        host: &'e H,
-        alloc: Global,
-        settings: &Settings,
-    ) -> Result<Route<'e, H>, AllocError> {
-        let lull_ms = settings.lull_ms();
-        let write_ms = lull_ms.saturating_mul(LAST_TIMEOUT);
+    /// To the server of these settings, by their times. The only error is out of memory.
+    pub fn new(host: &'e H, alloc: Global, settings: &Settings) -> Result<Route<'e, H>, AllocError>
+        ensures route { IfOk result (λ route. route ≡ spec.route_by settings.now) }
+    {
         Ok(Route {
             host,
             server: String::from_str(alloc, settings.server())?,
-            lull_ms,
-            report_ms: settings.job_timeout_ms().max(write_ms),
+            lull_ms: settings.lull_ms(),
+            text_ms: text_ms(settings),
         })
     }
 }
@@ -61,9 +82,12 @@ impl<'e, H: Host> Dial<ReportLink<'e, H::Link, H>> for Route<'e, H> {
 
     ghost calls = { λ _. None };
 
-    fn dial(&mut self) -> Option<ReportLink<'e, H::Link, H>> {
+    fn dial(&mut self) -> Option<ReportLink<'e, H::Link, H>>
+        ensures limit { IfSome result (λ link. link.limit_ms ≡ self.old.text_ms) }
+        ensures same { self.new ≡ self.old }
+    {
         let link = self.host.reach(self.server.as_str(), self.lull_ms)?;
-        Some(ReportLink::new(link, self.host, self.report_ms))
+        Some(ReportLink::new(link, self.host, self.text_ms))
     }
 
     fn hung_up(&mut self, _link: Snapshot<ReportLink<'e, H::Link, H>>)

@@ -1,4 +1,4 @@
-//! A link to a job server on which a report has a deadline.
+//! A link to a job server on which each text has a deadline.
 
 ghost use Rattle.std.specs.Prelude.{◌≡◌, ◌+◌, ◌-◌, ◌<◌, ◌≤◌, ◌^◌, IfOk, None, false, length, true};
 ghost use Rattle.byte_io.specs.Deadline.{is_past};
@@ -9,9 +9,9 @@ ghost use Rattle.run_command.specs.Report as spec;
 use byte_io::{Device, DeviceFault, Sink, Source, Took, deadline_from};
 use pool_supervisor::Watch;
 
-/// A link to a job server on which a report has a deadline: what is written with no read between has to be taken in so many milliseconds
-/// after its first write. A write after that fails, and writes nothing. A link alone bounds the time of each write: a server that takes
-/// a report by a few bytes at a time would hold a worker and its job for as long as it likes.
+/// A link to a job server on which each text has a deadline: it has to be taken in so many milliseconds after its first write. A write
+/// after that fails, and writes nothing. A link alone bounds the time of each write: a server that takes a report by a few bytes at a time
+/// would hold a worker and its job for as long as it likes.
 ///
 /// While the clock does not show the time, no write is late.
 #[derive(Drop)]
@@ -19,19 +19,33 @@ pub struct ReportLink<'e, L, H> {
     link: L,
     watch: &'e H,
     limit_ms: u64,
-    /// Until when what is being written has to be taken. None before its first write.
+    /// Until when the text has to be taken of which a prefix was written. None between two texts.
     deadline: Option<u64>,
     /// How many writes came too late.
     late: u64,
 }
 
-/// Until when a report has to be taken whose deadline this is, if it has one, and of which some is written now.
+/// Until when a text has to be taken of which some is written now. The deadline is the one that it has already.
 fn deadline_of(deadline: Option<u64>, limit_ms: u64, now: Option<u64>) -> Option<u64>
     ensures { result ≡ spec.deadline_of deadline limit_ms now }
 {
     match deadline {
         Some(deadline) => Some(deadline),
         None => deadline_from(limit_ms, now),
+    }
+}
+
+/// The deadline after a write of so many bytes: none if the text was taken whole.
+fn deadline_after(
+    written: &Result<usize, DeviceFault>,
+    count: usize,
+    deadline: Option<u64>,
+) -> Option<u64>
+    ensures { result ≡ spec.deadline_after written.now count deadline }
+{
+    match written {
+        Ok(taken) if *taken == count => None,
+        _ => deadline,
     }
 }
 
@@ -54,14 +68,15 @@ impl<'e, L: Source + Sink, H: Watch> ReportLink<'e, L, H> {
 }
 
 impl<'e, L: Sink, H> ReportLink<'e, L, H> {
-    /// Writes the bytes or a prefix of them at this time, if the report is not late.
+    /// Writes the rest of a text, or a prefix of it, at this time, if it is not late.
     fn give_at(&mut self, bytes: &[u8], now: Option<u64>) -> Result<usize, DeviceFault>
         requires some { 0 < length bytes.now }
         requires count { (L.output self.old.link).failures + self.old.late < 2 ^ 64 - 1 }
         ensures late { is_past self.old.deadline now ≡ true → failure_of result ≡ 1 }
         ensures unwritten { is_past self.old.deadline now ≡ true → self.new.link ≡ self.old.link }
         ensures in_time { is_past self.old.deadline now ≡ false → self.new.late ≡ self.old.late }
-        ensures deadline { self.new.deadline ≡ spec.deadline_of self.old.deadline self.old.limit_ms now }
+        ensures deadline { self.new.deadline
+            ≡ spec.deadline_after result (length bytes.now) (spec.deadline_of self.old.deadline self.old.limit_ms now) }
         ensures limit { self.new.limit_ms ≡ self.old.limit_ms }
         ensures within { IfOk result (λ n. (1 ≤ n) × (n ≤ length bytes.now)) }
         ensures bytes { (L.output self.new.link).got ≡ and_then (L.output self.old.link).got (gone bytes.now result) }
@@ -73,8 +88,10 @@ impl<'e, L: Sink, H> ReportLink<'e, L, H> {
             self.late += 1;
             return Err(DeviceFault);
         }
-        self.deadline = deadline_of(self.deadline, self.limit_ms, now);
-        self.link.give(bytes)
+        let deadline = deadline_of(self.deadline, self.limit_ms, now);
+        let written = self.link.give(bytes);
+        self.deadline = deadline_after(&written, bytes.len(), deadline);
+        written
     }
 }
 
@@ -88,7 +105,6 @@ impl<'e, L: Device, H> Device for ReportLink<'e, L, H> {
 
 impl<'e, L: Source, H> Source for ReportLink<'e, L, H> {
     fn take(&mut self, buffer: &mut [u8]) -> Result<Took, DeviceFault> {
-        self.deadline = None;
         self.link.take(buffer)
     }
 }

@@ -53,8 +53,8 @@ impl<R: Env + Alloc> System<R> {
 }
 
 impl<R: Wait> System<R> {
-    /// Why the last dial failed, if it did.
-    fn last_failure(&self) -> Option<DialError> {
+    /// Why the last dial of the job server failed, if it did.
+    pub fn last_failure(&self) -> Option<DialError> {
         *self.unreached.lock(&self.rt)
     }
 

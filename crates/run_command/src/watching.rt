@@ -19,9 +19,8 @@ pub fn job_note(
     format!(in alloc; "remark run has no job for {name}")
 }
 
-/// The line of an attempt, how many workers are alive, and the function with the longest queue per worker. Without a link the line says why
-/// the server was not reached, if that is known. The only error is out of memory.
-pub fn attempt_note(
+/// The line of an attempt. Without a link it says why the server was not reached, if that is known. The only error is out of memory.
+pub fn attempt_told(
     alloc: Global,
     made: &Attempted<'_>,
     unreached: Option<DialError>,
@@ -30,6 +29,16 @@ pub fn attempt_note(
     if let (Attempt::NoLink, Some(error)) = (made.attempt, unreached) {
         write!(line, " ({error})")?;
     }
+    Ok(line)
+}
+
+/// The line of an attempt, how many workers are alive, and the function with the longest queue per worker. The only error is out of memory.
+pub fn attempt_note(
+    alloc: Global,
+    made: &Attempted<'_>,
+    unreached: Option<DialError>,
+) -> Result<String, AllocError> {
+    let mut line = attempt_told(alloc, made, unreached)?;
     let alive = made.alive;
     write!(line, " alive {alive}")?;
     if let Some(queue) = &made.longest {

@@ -40,6 +40,12 @@ abbrev pub timeout_in : Farm → List ℕ → ℕ
 timeout_in farm name = option_map_or (λ f. slice_index farm.services.timeouts f) (place_of farm.settings.functions name)
     farm.settings.job_timeout_ms
 
+-- where the jobs of the slot's machine go
+pub record IsHostOf (farm : Farm) (slot : ℕ) (host : List ℕ) : Type 0 where
+  pub url : Url
+  pub own : slice_get farm.services.urls (machine_of farm.settings slot) ≡ Some url
+  pub is_its : host ≡ url.host
+
 -- The service is that of the worker's machine, and is asked in the worker's name.
 pub record IsServiceOf (farm : Farm) (worker : WorkerName) (service : Service) : Type 0 where
   pub url : Url

@@ -26,11 +26,28 @@ abbrev pub IsFarmRunBy : List ℕ → List ℕ → RunEnd → Type 0
 IsFarmRunBy settings_text services_text ended =
     (settings : Settings) × (services : Services) × IsOf settings_text services_text settings services × IsFarmRun settings ended
 
--- 0 after plans alone, 1 if some round had no plan, 5 if no attempt led to a plan, 6 if a slot can have no more workers
+-- what the attempts came to after one more round, which had no plan
+abbrev pub after_no_plan : Outlook → Outlook
+after_no_plan outlook.Nothing = outlook.NoPlan
+after_no_plan outlook.NoPlan = outlook.NoPlan
+after_no_plan outlook.Plans = outlook.LacksAPlan
+after_no_plan outlook.LacksAPlan = outlook.LacksAPlan
+after_no_plan outlook.SlotUsed = outlook.SlotUsed
+
+-- what they came to after one more round, which had a plan
+abbrev pub after_plan : Outlook → Outlook
+after_plan outlook.Nothing = outlook.Plans
+after_plan outlook.NoPlan = outlook.LacksAPlan
+after_plan outlook.Plans = outlook.Plans
+after_plan outlook.LacksAPlan = outlook.LacksAPlan
+after_plan outlook.SlotUsed = outlook.SlotUsed
+
+-- 0 if each round had a plan, 1 if some had none, 5 if no attempt led to a plan, 6 if a slot can have no more workers
 abbrev pub status_of : Outlook → ℕ
 status_of outlook.Plans = 0
 status_of outlook.LacksAPlan = 1
 status_of outlook.Nothing = 5
+status_of outlook.NoPlan = 5
 status_of outlook.SlotUsed = 6
 
 -- The texts mean a farm, and a run of it ended. Or they are refused, or memory is.

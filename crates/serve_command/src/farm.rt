@@ -1,6 +1,6 @@
 //! A farm: the settings of its pool, and the services of its machines.
 
-ghost use Rattle.std.specs.Prelude.{◌≡◌, ◌<◌, IfErr, IfOk, IfSome, IsSome, Some, slice_get};
+ghost use Rattle.std.specs.Prelude.{◌≡◌, ◌<◌, IfErr, IfOk, IfSome, IsSome, Some, slice_get, string_bytes};
 ghost use Rattle.pool_settings.specs.Slots.{machine_of, slots};
 ghost use Rattle.serve_command.specs.Farm as spec;
 
@@ -88,6 +88,7 @@ impl Farm {
     /// The host and port that a worker's jobs go to. None if memory is refused.
     pub fn host_of(&self, alloc: Global, slot: SlotId) -> Option<String>
         requires { slot < slots self.now.settings }
+        ensures own { IfSome result (λ host. spec.IsHostOf self.now slot (string_bytes host)) }
     {
         let url = self.url_of(slot);
         String::from_str(alloc, url.host()).ok()
@@ -104,7 +105,9 @@ impl Farm {
     }
 
     /// How long calls of a connection to a service may take.
-    pub fn call_times(&self) -> CallTimes {
+    pub fn call_times(&self) -> CallTimes
+        ensures connect { result.connect_ms ≡ self.now.services.connect_ms }
+    {
         CallTimes {
             connect_ms: self.services.connect_ms(),
             read_ms: READ_MS,
@@ -114,7 +117,8 @@ impl Farm {
     /// The host and port that a worker's jobs go to, and the service there, asked in the worker's name. None if memory is refused.
     pub fn place_of(&self, alloc: Global, worker: WorkerName) -> Option<(String, Service)>
         requires { worker.slot < slots self.now.settings }
-        ensures { IfSome result (λ place. spec.IsServiceOf self.now worker place.1) }
+        ensures host { IfSome result (λ place. spec.IsHostOf self.now worker.slot (string_bytes place.0)) }
+        ensures service { IfSome result (λ place. spec.IsServiceOf self.now worker place.1) }
     {
         let host = self.host_of(alloc, worker.slot)?;
         let service = self.service_of(alloc, worker)?;

@@ -54,7 +54,7 @@ impl<'e, H: FarmHost> JobSource for FarmSource<'e, H> {
 
     fn may_start(&self, slot: SlotId) -> bool {
         let farm = self.farm;
-        if slot.number() >= farm.settings.slots() {
+        if slot.number() >= farm.settings.slots() || self.host.is_to_end() {
             return false;
         }
         let machine = farm.settings.machine_of(slot);

@@ -7,7 +7,8 @@ use std::sync::{Mutex, Wait};
 /// How many files a worker takes: one for its link to the job server, and one for the connection to its service.
 const OF_WORKER: u32 = 2;
 
-/// How many files workers leave free: one for the status of an attempt, and some for look-ups and the peers of the page.
+/// How many files workers leave free: one for the status of an attempt, and some for look-ups and the peers of the page. Those that dial a
+/// host again take some of these for a moment.
 const LEFT_FREE: u32 = 8;
 
 /// For how many workers files are looked for first in an attempt, and then for twice as many each time. In the first attempt, in which all

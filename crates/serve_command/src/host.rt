@@ -1,6 +1,7 @@
 //! What a farm is lent by the machine that it is run on.
 
 use byte_io::{Sink, Source};
+use devices::DialError;
 use farm_page::{FailureView, FarmView};
 use http_jobs::{CallTimes, Clock, Dial, Look};
 use page_server::PageTimes;
@@ -29,6 +30,11 @@ pub trait FarmHost: Host {
     /// How many more files can be open now, if that is less than so many, and else so many.
     fn free_files(&self, most: u32) -> u32 {
         most
+    }
+
+    /// Why the last dial of the job server failed, if it did and that is known.
+    fn last_failure(&self) -> Option<DialError> {
+        None
     }
 
     /// Whether the farm has to end. Once it has, it always has.

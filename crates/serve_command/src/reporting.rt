@@ -1,7 +1,7 @@
 //! What a farm reports of its run while it goes on.
 
 ghost use Rattle.std.specs.Prelude.{◌≡◌};
-ghost use Rattle.serve_command.specs.Serving.{status_of};
+ghost use Rattle.serve_command.specs.Serving as spec;
 
 use crate::farm::Farm;
 use crate::farm_jobs::host_line;
@@ -16,11 +16,9 @@ use http_jobs::try_dial;
 use plan_model::{Certified, SlotId};
 use pool_core::{JoinError, totals_line};
 use pool_settings::Settings;
-use pool_supervisor::{
-    Attempt, Attempted, EndedWorker, JoinedWorker, Progress, RunEnd, Watch, attempt_line,
-};
+use pool_supervisor::{Attempt, Attempted, EndedWorker, JoinedWorker, Progress, RunEnd, Watch};
 use refusal::Labelled;
-use run_command::end_notes;
+use run_command::{attempt_told, end_notes};
 use std::alloc::{AllocError, Global};
 use std::sync::{Mutex, Wait};
 use std::thread::Threads;
@@ -29,11 +27,13 @@ use worker_state::WorkerName;
 /// What the attempts of a run came to so far.
 #[derive(Clone, Copy, Debug, PartialEq, Eq)]
 pub enum Outlook {
-    /// None led to a plan, and none to a round without one.
+    /// None led to a round.
     Nothing,
-    /// Some led to a plan, and none to a round without one.
+    /// Some led to a round, and no round to a plan.
+    NoPlan,
+    /// Some led to a round, and each round to a plan.
     Plans,
-    /// Some led to a round without a plan.
+    /// Some rounds led to a plan, and some did not.
     LacksAPlan,
     /// A slot can have no more workers, so the run has to end.
     SlotUsed,
@@ -42,22 +42,43 @@ pub enum Outlook {
 impl Outlook {
     /// After one more attempt.
     fn after(self, attempt: &Attempt) -> Outlook {
-        match (self, attempt) {
-            (Outlook::SlotUsed, _) => Outlook::SlotUsed,
-            (Outlook::LacksAPlan, _) | (_, Attempt::NoPlan { .. }) => Outlook::LacksAPlan,
-            (_, Attempt::Backlog { .. } | Attempt::Unserved { .. }) => Outlook::Plans,
-            (before, _) => before,
+        match attempt {
+            Attempt::NoPlan { .. } => self.after_no_plan(),
+            Attempt::Backlog { .. } | Attempt::Unserved { .. } => self.after_plan(),
+            _ => self,
+        }
+    }
+
+    /// After a round without a plan.
+    fn after_no_plan(self) -> Outlook
+        ensures { result ≡ spec.after_no_plan self }
+    {
+        match self {
+            Outlook::Nothing => Outlook::NoPlan,
+            Outlook::Plans => Outlook::LacksAPlan,
+            other => other,
+        }
+    }
+
+    /// After a round with a plan.
+    fn after_plan(self) -> Outlook
+        ensures { result ≡ spec.after_plan self }
+    {
+        match self {
+            Outlook::Nothing => Outlook::Plans,
+            Outlook::NoPlan => Outlook::LacksAPlan,
+            other => other,
         }
     }
 
     /// The exit status of a farm that ended so.
     pub fn status(self) -> u8
-        ensures { result ≡ status_of self }
+        ensures { result ≡ spec.status_of self }
     {
         match self {
             Outlook::Plans => 0,
             Outlook::LacksAPlan => 1,
-            Outlook::Nothing => 5,
+            Outlook::Nothing | Outlook::NoPlan => 5,
             Outlook::SlotUsed => 6,
         }
     }
@@ -173,13 +194,16 @@ impl<'e, H: FarmHost> Watch for Reporting<'e, H> {
     }
 
     /// A worker whose host was not reached dials it again, beside the connection that it keeps: that may look open though its host is gone,
-    /// and then the next job would be done in vain. At the end of the farm the worker is ordered to stop in any case.
+    /// and then the next job would be done in vain. If the farm has to end, such a worker just ends.
     fn may_go_on(&self, worker: WorkerName) -> bool {
         let Some(machine) = self.farm.machine_of(worker.slot) else {
             return false;
         };
-        if !self.hosts.is_unreachable(self.host, machine) || self.host.is_to_end() {
+        if !self.hosts.is_unreachable(self.host, machine) {
             return true;
+        }
+        if self.host.is_to_end() {
+            return false;
         }
         let Some(name) = self.farm.host_of(self.alloc, worker.slot) else {
             return true;
@@ -201,7 +225,7 @@ impl<'e, H: FarmHost> Progress for Reporting<'e, H> {
             self.host.tell(String::from_str(self.alloc, news.line()));
         }
         self.host
-            .tell(attempt_line(self.alloc, made.number, made.attempt));
+            .tell(attempt_told(self.alloc, made, self.host.last_failure()));
         if let Some(view) = self.view(made) {
             self.host.show(view);
         }

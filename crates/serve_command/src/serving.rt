@@ -14,12 +14,11 @@ use crate::reporting::{Books, Outlook, Reporting};
 use farm_notes::Tally;
 use page_server::PageTimes;
 use plan_commands::{Exit, Fault};
-use pool_settings::Settings;
 use pool_supervisor::{ArenaPlanner, Lent, RunEnd, run_until_ended};
-use run_command::Route;
+use run_command::{Route, text_ms, write_ms};
 use std::alloc::{AllocError, Global};
 
-/// For how many milliseconds more than a job and its report may take a drain waits for the end of the farm.
+/// For how many milliseconds more than workers may take to end a drain waits for the end of the farm.
 const DRAIN_MS: u32 = 60_000;
 
 /// A farm that ended.
@@ -31,14 +30,21 @@ pub struct FarmEnd {
     pub outlook: Outlook,
 }
 
-/// The times that the page of a farm with these settings goes by.
-fn page_times(settings: &Settings) -> PageTimes {
+/// How many milliseconds workers may take to end: to open a connection, to do a job, and to write its answer and what comes after it.
+fn end_ms(farm: &Farm) -> u32 {
+    let settings = &farm.settings;
+    farm.services
+        .connect_ms()
+        .saturating_add(settings.job_timeout_ms())
+        .saturating_add(text_ms(settings))
+        .saturating_add(write_ms(settings).saturating_mul(2))
+}
+
+/// The times that the page of a farm goes by.
+fn page_times(farm: &Farm) -> PageTimes {
     PageTimes {
-        round_ms: settings.round_ms(),
-        drain_ms: settings
-            .job_timeout_ms()
-            .saturating_mul(2)
-            .saturating_add(DRAIN_MS),
+        round_ms: farm.settings.round_ms(),
+        drain_ms: end_ms(farm).saturating_add(DRAIN_MS),
     }
 }
 
@@ -67,7 +73,7 @@ fn run_until_end<'x, H: FarmHost>(
         files: &files,
     };
     if let Some(page) = farm.services.page() {
-        host.open_page(page, page_times(&settings));
+        host.open_page(page, page_times(farm));
     }
     let books = Books {
         farm,
@@ -109,8 +115,8 @@ pub fn run_farm<H: FarmHost>(
     Ok(run_until_end(host, alloc, &farm)?)
 }
 
-/// [`run_farm`] as a command. Its status is 0 if it ended with a plan; 1 if some round had no plan; 5 if no attempt ever led to a plan;
-/// 6 if a slot has had all the workers that it can have, which ends the farm; and 3 or 4 with its fault.
+/// [`run_farm`] as a command. Its status is 0 if each round had a plan; 1 if some had none; 5 if no attempt ever led to a plan; 6 if a slot
+/// has had all the workers that it can have, which ends the farm; and 3 or 4 with its fault.
 pub fn serve_farm<H: FarmHost>(host: &H, alloc: Global, texts: FarmTexts<'_>) -> Exit
     ensures serves { spec.Serves texts.entry.settings.now texts.entry.services.now result }
 {

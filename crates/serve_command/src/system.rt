@@ -199,6 +199,10 @@ impl<
         free_files(&self.rt, self.rt.alloc(), most)
     }
 
+    fn last_failure(&self) -> Option<DialError> {
+        self.run.last_failure()
+    }
+
     fn is_to_end(&self) -> bool {
         self.edges.end.is_raised(&self.rt)
     }
