@@ -336,8 +336,8 @@ def too_few_descriptors_at_first(program, processes):
 
 
 def nolinks(lines):
-    """In how many attempts of these lines the server was not reached."""
-    return sum(line.startswith("attempt ") and line.endswith(" nolink") for line in lines)
+    """In how many attempts of these lines the server was not reached for want of descriptors."""
+    return sum(line.startswith("attempt ") and line.endswith(" nolink (too many files are open)") for line in lines)
 
 
 def most_unread():
