@@ -5,7 +5,7 @@ ghost use Rattle.pool_supervisor.specs.Dials.{IsNew};
 ghost use Rattle.run_command.specs.Report as spec;
 
 use crate::report_link::ReportLink;
-use byte_io::{LAST_TIMEOUT, Sink, Source};
+use byte_io::{Device, LAST_TIMEOUT, Sink, Source};
 use pool_settings::Settings;
 use pool_supervisor::{Dial, Progress, Watch};
 use std::alloc::{AllocError, Global};
@@ -83,6 +83,8 @@ impl<'e, H: Host> Dial<ReportLink<'e, H::Link, H>> for Route<'e, H> {
     ghost calls = { λ _. None };
 
     fn dial(&mut self) -> Option<ReportLink<'e, H::Link, H>>
+        ensures fresh { IfSome result (λ link. IsNew (seen_link ⟦<ReportLink<'e, H::Link, H> as Device>⟧.input
+            ⟦<ReportLink<'e, H::Link, H> as Device>⟧.output link)) }
         ensures limit { IfSome result (λ link. link.limit_ms ≡ self.old.text_ms) }
         ensures same { self.new ≡ self.old }
     {
