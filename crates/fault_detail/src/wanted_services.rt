@@ -38,7 +38,7 @@ fn wanted_at(key: &str) -> &'static str {
 /// What is wanted at a key of the page.
 fn wanted_of_page(key: &str) -> &'static str {
     if key == "listen" {
-        "an address and a port are wanted, as 127.0.0.1:4780"
+        "an address and a port from 1 to 65535 are wanted, as 127.0.0.1:4780"
     } else {
         "a list of names or addresses is wanted"
     }

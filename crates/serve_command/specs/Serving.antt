@@ -42,7 +42,7 @@ after_plan outlook.Plans = outlook.Plans
 after_plan outlook.LacksAPlan = outlook.LacksAPlan
 after_plan outlook.SlotUsed = outlook.SlotUsed
 
--- 0 if each round had a plan, 1 if some had none, 5 if no attempt led to a plan, 6 if a slot can have no more workers
+-- 0 if each round had a plan, 1 if only some had one, 5 if no attempt led to a plan, 6 if a slot can have no more workers
 abbrev pub status_of : Outlook → ℕ
 status_of outlook.Plans = 0
 status_of outlook.LacksAPlan = 1

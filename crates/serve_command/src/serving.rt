@@ -115,8 +115,8 @@ pub fn run_farm<H: FarmHost>(
     Ok(run_until_end(host, alloc, &farm)?)
 }
 
-/// [`run_farm`] as a command. Its status is 0 if each round had a plan; 1 if some had none; 5 if no attempt ever led to a plan; 6 if a slot
-/// has had all the workers that it can have, which ends the farm; and 3 or 4 with its fault.
+/// [`run_farm`] as a command. Its status is 0 if each round had a plan; 1 if only some had one; 5 if no attempt ever led to a plan; 6 if a
+/// slot has had all the workers that it can have, which ends the farm; and 3 or 4 with its fault.
 pub fn serve_farm<H: FarmHost>(host: &H, alloc: Global, texts: FarmTexts<'_>) -> Exit
     ensures serves { spec.Serves texts.entry.settings.now texts.entry.services.now result }
 {
