@@ -1,6 +1,5 @@
 -- How long texts to the job server may take.
-use Rattle.std.specs.Prelude.{ℕ, List, ◌*◌, ◌-◌, ◌^◌, ◌==◌, max, min, if◌then◌else◌, Option, Some, None, Result, Ok, Err}
-use Rattle.byte_io.specs.Deadline.{deadline_from}
+use Rattle.std.specs.Prelude.{ℕ, List, ◌*◌, ◌-◌, ◌^◌, ◌==◌, max, min, if◌then◌else◌, Option, None, Result, Ok, Err}
 use Rattle.byte_io.specs.declared.device.DeviceFault.{DeviceFault}
 use Rattle.pool_settings.specs.Settings.{Settings}
 
@@ -8,7 +7,7 @@ use Rattle.pool_settings.specs.Settings.{Settings}
 abbrev pub write_ms : Settings → ℕ
 write_ms settings = min (settings.lull_ms * 65) (2 ^ 32 - 1)
 
--- How many milliseconds a text may take: as many as a job may, or as one write, if that is more.
+-- How many milliseconds a text may take after its first write: as many as a job may, or as one write, if that is more.
 abbrev pub text_ms : Settings → ℕ
 text_ms settings = max settings.job_timeout_ms (write_ms settings)
 
@@ -22,12 +21,7 @@ pub record Route : Type 0 where
 abbrev pub route_by : Settings → Route
 route_by settings = record { server = settings.server; lull_ms = settings.lull_ms; text_ms = text_ms settings }
 
--- Until when a text has to be taken of which some is written now: until its deadline, or so many milliseconds from now if it begins.
-abbrev pub deadline_of : Option ℕ → ℕ → Option ℕ → Option ℕ
-deadline_of (Some deadline) limit now = Some deadline
-deadline_of None limit now = deadline_from limit now
-
--- The deadline after a write of so many bytes. A text that was taken whole leaves none.
+-- The deadline after a write of so many bytes, of a text with this deadline. A text that was taken whole leaves none.
 abbrev pub deadline_after : Result ℕ DeviceFault → ℕ → Option ℕ → Option ℕ
 deadline_after (Ok taken) count deadline = if taken == count then None else deadline
 deadline_after (Err fault) count deadline = deadline

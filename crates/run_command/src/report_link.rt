@@ -1,7 +1,7 @@
 //! A link to a job server on which each text has a deadline.
 
 ghost use Rattle.std.specs.Prelude.{◌≡◌, ◌+◌, ◌-◌, ◌<◌, ◌≤◌, ◌^◌, IfOk, None, false, length, true};
-ghost use Rattle.byte_io.specs.Deadline.{is_past};
+ghost use Rattle.byte_io.specs.Deadline.{deadline_from, is_past};
 ghost use Rattle.byte_io.specs.Device.{failure_of, gone};
 ghost use Rattle.byte_io.specs.Sides.{and_then};
 ghost use Rattle.run_command.specs.Report as spec;
@@ -9,30 +9,20 @@ ghost use Rattle.run_command.specs.Report as spec;
 use byte_io::{Device, DeviceFault, Sink, Source, Took, deadline_from};
 use pool_supervisor::Watch;
 
-/// A link to a job server on which each text has a deadline: it has to be taken in so many milliseconds after its first write. A write
-/// after that fails, and writes nothing. A link alone bounds the time of each write: a server that takes a report by a few bytes at a time
-/// would hold a worker and its job for as long as it likes.
+/// A link to a job server on which each text has a deadline: what its first write leaves has to be taken in so many milliseconds after that
+/// write. A write after the deadline fails, and writes nothing. A link alone bounds the time of each write: a server that takes a report by
+/// a few bytes at a time would hold a worker and its job for as long as it likes.
 ///
-/// While the clock does not show the time, no write is late.
+/// Most texts are taken whole by their first write: then the clock is not read. While it does not show the time, no write is late.
 #[derive(Drop)]
 pub struct ReportLink<'e, L, H> {
     link: L,
     watch: &'e H,
     limit_ms: u64,
-    /// Until when the text has to be taken of which a prefix was written. None between two texts.
+    /// Until when the rest of a text has to be taken. None between two texts.
     deadline: Option<u64>,
     /// How many writes came too late.
     late: u64,
-}
-
-/// Until when a text has to be taken of which some is written now. The deadline is the one that it has already.
-fn deadline_of(deadline: Option<u64>, limit_ms: u64, now: Option<u64>) -> Option<u64>
-    ensures { result ≡ spec.deadline_of deadline limit_ms now }
-{
-    match deadline {
-        Some(deadline) => Some(deadline),
-        None => deadline_from(limit_ms, now),
-    }
 }
 
 /// The deadline after a write of so many bytes: none if the text was taken whole.
@@ -73,10 +63,10 @@ impl<'e, L: Sink, H> ReportLink<'e, L, H> {
         requires some { 0 < length bytes.now }
         requires count { (L.output self.old.link).failures + self.old.late < 2 ^ 64 - 1 }
         ensures late { is_past self.old.deadline now ≡ true → failure_of result ≡ 1 }
-        ensures unwritten { is_past self.old.deadline now ≡ true → self.new.link ≡ self.old.link }
+        ensures unwritten { is_past self.old.deadline now ≡ true → self.new ≡ record self.old { late = self.old.late + 1 } }
         ensures in_time { is_past self.old.deadline now ≡ false → self.new.late ≡ self.old.late }
-        ensures deadline { self.new.deadline
-            ≡ spec.deadline_after result (length bytes.now) (spec.deadline_of self.old.deadline self.old.limit_ms now) }
+        ensures deadline { is_past self.old.deadline now ≡ false
+            → self.new.deadline ≡ spec.deadline_after result (length bytes.now) self.old.deadline }
         ensures limit { self.new.limit_ms ≡ self.old.limit_ms }
         ensures within { IfOk result (λ n. (1 ≤ n) × (n ≤ length bytes.now)) }
         ensures bytes { (L.output self.new.link).got ≡ and_then (L.output self.old.link).got (gone bytes.now result) }
@@ -88,10 +78,18 @@ impl<'e, L: Sink, H> ReportLink<'e, L, H> {
             self.late += 1;
             return Err(DeviceFault);
         }
-        let deadline = deadline_of(self.deadline, self.limit_ms, now);
         let written = self.link.give(bytes);
-        self.deadline = deadline_after(&written, bytes.len(), deadline);
+        self.deadline = deadline_after(&written, bytes.len(), self.deadline);
         written
+    }
+}
+
+impl<'e, L, H> ReportLink<'e, L, H> {
+    /// Gives the rest of a text a deadline from this time on.
+    fn begin_deadline(&mut self, now: Option<u64>)
+        ensures deadline { self.new ≡ record self.old { deadline = deadline_from self.old.limit_ms now } }
+    {
+        self.deadline = deadline_from(self.limit_ms, now);
     }
 }
 
@@ -111,6 +109,15 @@ impl<'e, L: Source, H> Source for ReportLink<'e, L, H> {
 
 impl<'e, L: Sink, H: Watch> Sink for ReportLink<'e, L, H> {
     fn give(&mut self, bytes: &[u8]) -> Result<usize, DeviceFault> {
-        self.give_at(bytes, self.watch.now_ms())
+        if self.deadline.is_some() {
+            let now = self.watch.now_ms();
+            return self.give_at(bytes, now);
+        }
+        let written = self.link.give(bytes);
+        if written != Ok(bytes.len()) {
+            let now = self.watch.now_ms();
+            self.begin_deadline(now);
+        }
+        written
     }
 }
