@@ -6,9 +6,9 @@ use Rattle.std.specs.Str.{bytes_eq}
 use Rattle.std.proofs.lemmas.Bool.{lt-ltb}
 use Rattle.std.proofs.lemmas.List.{append_cancel_right}
 use Rattle.pool_settings.specs.Names.{is_machine_name, is_name}
-use Rattle.pool_report.specs.Law.{IsNamed, TellsLine, is_one_line}
+use Rattle.pool_report.specs.Law.{TellsLine, is_one_line}
 use Rattle.pool_report.specs.Lines.{ReportLine, count_after, last, line_of, needed, short, task}
-use Rattle.pool_report.specs.Report.{Needed, name_of_worker, needed_line, short_line, task_line}
+use Rattle.pool_report.specs.Report.{Needed, needed_line, short_line, task_line}
 use Rattle.pool_report.proofs.Written.{joined, lines_read, machine_line, name_line, number_line}
 use Rattle.size_report.specs.Lines.{SizeLine, above_most, above_most_in, add, first, level, level_in, no_machine, no_machine_in, on, on_in, shared, size_line_of, too_many}
 use Rattle.size_report.specs.Text.{above_most_line, add_line, level_line, no_machine_line, on_line, too_many_line}

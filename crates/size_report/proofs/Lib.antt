@@ -12,3 +12,8 @@ pub mod Named
 pub mod Plans
 pub mod Retold
 pub mod Enough
+mod LinesBack
+mod NamedBack
+mod SetsBack
+mod GrammarsBack
+mod Grammars

@@ -1,5 +1,5 @@
 -- The lines of the workers of a plan, taken.
-use Rattle.std.proofs.Common.{◌≡◌, ℕ, ◌+◌, ◌^◌, ◌<◌, ◌≤◌, List, [], ◌∷◌, ◌++◌, Bool, true, false, Option, Some, None, Ok, eqb, ltb, length, get_or, map, All, append_assoc, refl, ap, sym, subst, ◌∙◌, inl, inr, arith}
+use Rattle.std.proofs.Common.{◌≡◌, ℕ, ◌+◌, ◌<◌, ◌≤◌, List, [], ◌∷◌, ◌++◌, true, false, Option, Some, None, eqb, ltb, length, get_or, All, append_assoc, refl, sym, subst, inl, inr}
 use Rattle.std.specs.Prelude.{codes}
 use Rattle.std.specs.Fmt.{decimal}
 use Rattle.std.specs.List.{AllByRecursion, flat_map, list_all, list_any}
@@ -17,7 +17,7 @@ use Rattle.pool_settings.specs.Names.{name_at}
 use Rattle.pool_settings.specs.Settings.{AreSettings, Settings}
 use Rattle.pool_settings.specs.Slots.{slots}
 use Rattle.pool_report.specs.Lines.{task}
-use Rattle.pool_report.specs.Report.{name_of_worker, worker_line}
+use Rattle.pool_report.specs.Report.{worker_line}
 use Rattle.pool_report.proofs.Found.{function_found}
 use Rattle.pool_report.proofs.Whole.{Below, may_below, numbers_above}
 use Rattle.size_report.specs.Grown.{told_worker, worker_of}

@@ -1,6 +1,6 @@
 -- The names of the workers of a farm that has grown: those of the settings, and the added ones of a machine numbered on from its last.
 use Rattle.std.specs.Prelude.{ℕ, ◌+◌, ◌-◌, ◌^◌, List, ◌==◌, nat_lt, nat_le, slice_index, slice_index_or, Option, Some, None}
-use Rattle.std.specs.Prelude.{option_map, option_and_then, false, if◌then◌else◌}
+use Rattle.std.specs.Prelude.{option_and_then, false, if◌then◌else◌}
 use Rattle.std.specs.List.{prefix_len, slice_get}
 use Rattle.std.specs.Option.{option_map_or, option_or}
 use Rattle.text_pieces.specs.Numbers.{plain_number_below}

@@ -5,3 +5,4 @@ pub mod Text
 pub mod Reading
 pub mod Drafts
 pub mod Law
+pub mod Grammar

@@ -1,5 +1,5 @@
 -- One line of the text of a size, as it is read: what it says, less the numbers that a size does not hold.
-use Rattle.std.specs.Prelude.{ℕ, ◌^◌, List, Bool, ◌&&◌, nat_lt, Option, Some, None, option_map, option_and_then, codes, if◌then◌else◌}
+use Rattle.std.specs.Prelude.{ℕ, ◌^◌, List, Bool, ◌&&◌, nat_lt, Option, Some, None, option_map, codes, if◌then◌else◌}
 use Rattle.std.specs.Option.{option_map_or}
 use Rattle.std.specs.Str.{bytes_eq}
 use Rattle.pool_report.specs.Lines.{ReportLine, after_word, count_after, line_of}

@@ -7,7 +7,7 @@ use Rattle.plan_sizing.specs.declared.size.Obstacle.{Obstacle}
 use Rattle.plan_sizing.specs.declared.size.Obstacle.TheVariants.{AboveMost, NoMachine}
 use Rattle.plan_sizing.specs.declared.size.Size.{Size}
 use Rattle.plan_sizing.specs.declared.size.Size.TheVariants.{Enough, Never, TooMany}
-use Rattle.pool_report.specs.Lines.{ReportLine, head, backlog, no_plan, task, short, needed, stranded, last}
+use Rattle.pool_report.specs.Lines.{ReportLine, task, short, needed, last}
 use Rattle.pool_report.specs.declared.error.ReadError.{ReadError}
 use Rattle.pool_report.specs.declared.error.ReadError.TheVariants as error
 use Rattle.pool_report.specs.declared.stage.Misread.{Misread}

@@ -4,6 +4,7 @@ ghost use Rattle.std.specs.Prelude.{◌≡◌, ◌<◌, ◌^◌, All, Ok, length
 ghost use Rattle.pool_settings.specs.Slots.{slots};
 ghost use Rattle.plan_sizing.specs.Shown.{Shown};
 ghost use Rattle.plan_sizing.specs.declared.size.Size.TheVariants.{Enough, Never, TooMany};
+ghost use Rattle.size_report.specs.Grammar.{AreTextsSizes};
 ghost use Rattle.size_report.specs.Law.{IsReadBack, retold};
 ghost use Rattle.size_report.specs.Reading.{size_meaning};
 ghost use Rattle.size_report.specs.Text.{size_text};
@@ -80,4 +81,12 @@ pub fn size_reads_back(settings: &Settings, farm: &Farm, size: &Size)
         Size::Never(obstacle) => never_reads_back(settings, farm, *obstacle),
         Size::TooMany { added, short } => too_many_reads_back(settings, farm, *added, short),
     }
+}
+
+/// The law of the whole text, which does nothing that is seen: a text means a size exactly if it is a text of that size, line by line, by
+/// the names of the settings and in rising order. So [`read_size`](crate::read_size) takes exactly the texts of sizes.
+pub fn texts_are_sizes(settings: &Settings)
+    ensures { AreTextsSizes settings.now }
+{
+    settings.facts();
 }

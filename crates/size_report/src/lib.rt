@@ -38,6 +38,6 @@ mod stage;
 mod text;
 mod workers;
 
-pub use law::size_reads_back;
+pub use law::{size_reads_back, texts_are_sizes};
 pub use reader::read_size;
 pub use text::size_text;
