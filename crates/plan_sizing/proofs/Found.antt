@@ -1,16 +1,18 @@
 -- The addition for what the live workers leave is shown.
-use Rattle.std.proofs.Common.{◌≡◌, ℕ, ◌+◌, ◌≤◌, ltb, List, ◌++◌, length, Option, None, Some, sym, ap, ◌∙◌, subst, arith, inl, inr}
+use Rattle.std.proofs.Common.{◌≡◌, ℕ, ◌+◌, ◌≤◌, ltb, List, ◌++◌, length, Option, None, Some, All, sym, ap, ◌∙◌, subst, arith, inl, inr}
 use Rattle.std.specs.Prelude.{sum}
+use Rattle.std.specs.List.{enumerate_from}
 use Rattle.std.proofs.lemmas.Bool.{cases_Bool, cond-true, cond-false, ltb-true, ltb-false}
 use Rattle.std.proofs.lemmas.List.{length-map}
+use Rattle.plan_model.specs.Planning.{assigned}
 use Rattle.round_arena.specs.declared.tables.Tables.{Tables}
 use Rattle.round_arena.specs.Round.{plan_entries}
 use Rattle.round_arena.proofs.Lists.{order-size}
-use Rattle.plan_sizing.specs.Hiring.{AreHires, IsLeft, evidence, hired_entries}
+use Rattle.plan_sizing.specs.Hiring.{AreHires, IsLeft, IsPlaced, evidence, hired_entries}
 use Rattle.plan_sizing.specs.Shown.{IsEvidence, IsShownAddition}
 use Rattle.plan_sizing.specs.Sizing.{Farm, IsFarm, IsShortBy, first_obstacle}
 use Rattle.plan_sizing.proofs.Barred.{free}
-use Rattle.plan_sizing.proofs.Hired.{all_bounded, all_needs, all_permitted, machines_of}
+use Rattle.plan_sizing.proofs.Hired.{all_bounded, all_needs, all_permitted, all_placed, machines_of}
 
 is_evidence : (farm : Farm) (many : ℕ) (set : List ℕ) → IsShortBy farm many set → IsEvidence farm many (evidence many set)
 is_evidence farm many set short = elim (cases_Bool (ltb 0 many)) [
@@ -36,3 +38,9 @@ shown_addition farm entries set lacks hires valid none left hired few =
       at_most = all_bounded farm t lacks hires valid left.leaves hired (free farm none);
       evidence = subst (λ (n : ℕ). IsEvidence farm n (evidence (sum lacks) set)) (sym many) (is_evidence farm (sum lacks) set left.short);
     })
+
+pub placed_addition : (farm : Farm) (entries : List (ℕ × Option ℕ)) (set lacks : List ℕ) (hires : List (ℕ × ℕ)) → IsFarm farm → (left : IsLeft farm entries set lacks) → AreHires farm.problem lacks hires
+    → All (IsPlaced farm (assigned (entries ++ hired_entries farm.slots hires))) (enumerate_from farm.slots (machines_of hires))
+placed_addition farm entries set lacks hires valid left hired =
+    subst (λ (now : List (ℕ × Option ℕ)). All (IsPlaced farm (assigned (now ++ hired_entries farm.slots hires))) (enumerate_from farm.slots (machines_of hires))) (sym (plan_by farm entries set lacks left))
+    (all_placed farm left.tables lacks hires valid left.leaves hired)

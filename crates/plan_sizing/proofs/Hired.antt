@@ -1,12 +1,12 @@
 -- Workers that are added for the needs that are left, and the plan of the farm that has grown by them.
-use Rattle.std.proofs.Common.{◌≡◌, ℕ, zero, suc, ◌+◌, ◌-◌, ◌<◌, ◌≤◌, Bool, true, cond, eqb, leb, ltb, List, [], ◌∷◌, ◌++◌, length, map, get_or, count_by, Option, None, Some, All, refl, sym, ap, ◌∙◌, arith, inl, inr}
+use Rattle.std.proofs.Common.{◌≡◌, ℕ, zero, suc, ◌+◌, ◌-◌, ◌<◌, ◌≤◌, Bool, true, cond, eqb, leb, ltb, List, [], ◌∷◌, ◌++◌, length, map, get_or, count_by, Option, None, Some, All, refl, sym, ap, ◌∙◌, subst, arith, inl, inr}
 use Rattle.std.specs.List.{enumerate_from, list_all}
 use Rattle.std.specs.List.Sorted.{IsStrictlyIncreasing}
 use Rattle.std.proofs.lemmas.Bool.{cases_Bool, cases_lt, cond-true, cond-false, eq-eqb, le-leb, ltb-true, and_from}
-use Rattle.std.proofs.lemmas.List.{get_or-map, get_or-append_right, get_or_append_left, length-append, length-map}
+use Rattle.std.proofs.lemmas.List.{ext_get_or, get_or-map, get_or-append_right, get_or_append_left, length-append, length-map}
 use Rattle.std.proofs.lemmas.List.Elements.{All-from_get_or, All-map}
 use Rattle.std.proofs.lemmas.List.Folds.{list_any_at}
-use Rattle.std.proofs.lemmas.List.FromFn.{get_or-map-range_with_len, length-map-range_with_len}
+use Rattle.std.proofs.lemmas.List.FromFn.{get_or-enumerate_from, get_or-map-range_with_len, length-enumerate_from, length-map-range_with_len}
 use Rattle.std.proofs.lemmas.List.Sums.{list_all-from_AllPass, sum_by-append, sum_by-cons}
 use Rattle.plan_model.specs.Planning.{Instance, assigned, is_live, is_on, is_permitted, may_do, may_have, meets_most, slots_of, workers_on}
 use Rattle.plan_model.proofs.Places.{assigned_at}
@@ -15,7 +15,7 @@ use Rattle.round_arena.specs.Plan.{count_on}
 use Rattle.round_arena.specs.Round.{function_at, plan_entries}
 use Rattle.round_arena.proofs.Seats.{on-function}
 use Rattle.augment.proofs.CutOff.{count_below}
-use Rattle.plan_sizing.specs.Hiring.{AreHires, Leaves, hired_entries}
+use Rattle.plan_sizing.specs.Hiring.{AreHires, IsBestFor, IsPlaced, Leaves, hired_entries, lacks_now}
 use Rattle.plan_sizing.specs.Shown.{IsPermitted, meets_needs}
 use Rattle.plan_sizing.specs.Sizing.{Farm, IsFarm, grown, need}
 use Rattle.plan_sizing.proofs.Barred.{IsFree}
@@ -217,3 +217,49 @@ module _ (farm : Farm) (t : Tables) (lacks : List ℕ) (hires : List (ℕ × ℕ
 
   pub all_bounded : ((f : ℕ) → f < length farm.problem.least → IsFree farm f) → meets_most (grown farm (machines_of hires)) (assigned entries) ≡ true
   all_bounded free = of_functions (λ f. leb (workers_on (grown farm (machines_of hires)) (assigned entries) f) (get_or farm.problem.most f 0)) many_functions (λ f below. le-leb _ _ (omega (arith, all_met f below, (free f below).within)))
+
+  -- the live workers on a function
+  live_on : (f : ℕ) → f < length farm.problem.least → workers_on farm.problem (assigned entries) f ≡ count_on t.owner.now f
+  live_on f below =
+      count_alike (λ (w : ℕ × ℕ). is_on f (assigned entries w.0)) (λ g. eqb g f) (0, 0) 0 farm.problem.live t.owner.now (sym many_owners) each
+    where
+      each : (k : ℕ) → k < length farm.problem.live → is_on f (assigned entries (get_or farm.problem.live k (0, 0)).0) ≡ eqb (get_or t.owner.now k 0) f
+      each k low =
+          let there : k < length everyone = omega (arith, low, length_grown farm (machines_of hires)) in
+          let has : assigned entries (get_or farm.problem.live k (0, 0)).0 ≡ function_at many_functions (get_or t.owner.now k 0) =
+          ap (λ (w : ℕ × ℕ). assigned entries w.0) (sym (live_at k low)) ∙ plan_at k there ∙ ap (λ (e : ℕ × Option ℕ). e.1) (now_at k low) in
+          ap (is_on f) has ∙ on-function many_functions (get_or t.owner.now k 0) f below
+
+  -- what the functions lack, by the plan of all
+  lacks_are : lacks ≡ lacks_now farm (assigned entries)
+  lacks_are = ext_get_or 0 lacks (lacks_now farm (assigned entries)) (left.many ∙ sym (length-map-range_with_len (λ f. need farm f - workers_on farm.problem (assigned entries) f) 0 many_functions)) each
+    where
+      each : (f : ℕ) → f < length lacks → get_or lacks f 0 ≡ get_or (lacks_now farm (assigned entries)) f 0
+      each f inside =
+          let below : f < many_functions = omega (arith, inside, left.many) in
+          omega (
+            arith,
+            left.lacking f below,
+            live_on f below,
+            get_or-map-range_with_len (λ f. need farm f - workers_on farm.problem (assigned entries) f) 0 many_functions f f 0 below (omega arith),
+          )
+
+  one_placed : (k : ℕ) → k < length hires → IsPlaced farm (assigned entries) (farm.slots + k, (get_or hires k (0, 0)).0)
+  one_placed k inside =
+      let n : ℕ = length farm.problem.live in
+      let f : ℕ = (get_or hires k (0, 0)).1 in
+      let past : n ≤ n + k = omega arith in
+      let there : n + k < length everyone = omega (arith, inside, length_grown farm (machines_of hires), length-map hires (λ (h : ℕ × ℕ). h.0)) in
+      let place : n + k - n ≡ k = omega arith in
+      let slot : (get_or everyone (n + k) (0, 0)).0 ≡ farm.slots + k = ap (λ (w : ℕ × ℕ). w.0) (added_worker (n + k) past there) ∙ ap (λ j. farm.slots + j) place in
+      let has : assigned entries (farm.slots + k) ≡ Some f =
+      ap (assigned entries) (sym slot) ∙ plan_at (n + k) there ∙ ap (λ (e : ℕ × Option ℕ). e.1) (new_at (n + k) past there) ∙ ap (λ j. Some (get_or hires j (0, 0)).1) place in
+      (f, has, subst (λ (ls : List ℕ). IsBestFor farm.problem ls f (get_or hires k (0, 0)).0) lacks_are (added.placed k (0, 0) inside))
+
+  pub all_placed : All (IsPlaced farm (assigned entries)) (enumerate_from farm.slots (machines_of hires))
+  all_placed = All-from_get_or (IsPlaced farm (assigned entries)) (enumerate_from farm.slots (machines_of hires)) (0, 0) (λ k below.
+      let inside : k < length hires = omega (arith, below, length-enumerate_from farm.slots (machines_of hires), length-map hires (λ (h : ℕ × ℕ). h.0)) in
+      let here : get_or (enumerate_from farm.slots (machines_of hires)) k (0, 0) ≡ (farm.slots + k, (get_or hires k (0, 0)).0) =
+      get_or-enumerate_from farm.slots (machines_of hires) k (0, 0) (omega (arith, inside, length-map hires (λ (h : ℕ × ℕ). h.0)))
+      ∙ ap (λ (m : ℕ). (farm.slots + k, m)) (get_or-map (λ (h : ℕ × ℕ). h.0) hires k (0, 0) 0 inside) in
+      subst (IsPlaced farm (assigned entries)) (sym here) (one_placed k inside))

@@ -1,12 +1,15 @@
 -- Which machines the added workers are of.
 use Rattle.std.specs.Prelude.{◌≡◌, ℕ, ◌+◌, ◌-◌, ◌<◌, ◌≤◌, ◌==◌, ◌++◌, true, false, nat_lt, if◌then◌else◌, List, [], ◌∷◌}
 use Rattle.std.specs.Prelude.{length, map, sum, count_by, replicate, slice_index, slice_index_or, Option, None, Some, All}
+use Rattle.std.specs.List.{enumerate_from}
 use Rattle.std.specs.List.Sorted.{IsNonDecreasing}
-use Rattle.plan_model.specs.Planning.{Instance, machines_of, may_do}
+use Rattle.plan_model.specs.Planning.{Assignment, Instance, assigned, functions, machines_of, may_do, workers_on}
 use Rattle.round_arena.specs.declared.tables.Tables.{Tables}
 use Rattle.round_arena.specs.Plan.{count_on}
 use Rattle.round_arena.specs.Round.{Holds, IsConsistent, plan_of}
 use Rattle.plan_sizing.specs.Sizing.{Farm, IsShortBy, is_known_to, need}
+use Rattle.plan_sizing.specs.declared.size.Size.{Size}
+use Rattle.plan_sizing.specs.declared.size.Size.TheVariants.{Enough, Never, TooMany}
 
 -- How many of the functions that lack workers the machine may do.
 abbrev pub score : Instance → List ℕ → ℕ → ℕ
@@ -29,6 +32,20 @@ pub record IsBestFor (i : Instance) (lacks : List ℕ) (f machine : ℕ) : Type 
   pub known : machine < length i.may
   pub permitted : may_do i machine f ≡ true
   pub best : (other : ℕ) → other < length i.may → may_do i other f ≡ true → score i lacks other ≤ score i lacks machine
+
+-- For each function how many workers it lacks, if only the workers that are live now follow the plan.
+abbrev pub lacks_now : Farm → Assignment → List ℕ
+lacks_now farm plan = map (λ f. need farm f - workers_on farm.problem plan f) (functions farm.problem)
+
+-- The worker, given by slot and machine, has a function, and its machine is best for it.
+abbrev pub IsPlaced : Farm → Assignment → ℕ × ℕ → Type 0
+IsPlaced farm plan worker = (f : ℕ) × (plan worker.0 ≡ Some f) × IsBestFor farm.problem (lacks_now farm plan) f worker.1
+
+-- Each added worker has a function, and of the machines that may do it its own may do the most of the functions that lack workers.
+abbrev pub ArePlaced : Farm → Size → Type 0
+ArePlaced farm (Enough added entries short) = All (IsPlaced farm (assigned entries)) (enumerate_from farm.slots added)
+ArePlaced farm (Never obstacle) = Unit {0}
+ArePlaced farm (TooMany many set) = Unit {0}
 
 -- So many workers are added for the function, on a machine that is best for it.
 pub record Adds (i : Instance) (lacks : List ℕ) (f many : ℕ) (old new : List (ℕ × ℕ)) : Type 0 where

@@ -1,7 +1,7 @@
 //! The search for a size.
 
 ghost use Rattle.std.specs.Prelude.{◌≡◌, ◌+◌, ◌++◌, ◌<◌, ◌≤◌, All, IfOk, None, length, map, sum};
-ghost use Rattle.plan_sizing.specs.Hiring.{AreLacks, AreNeeds, IsLeft, evidence, hired_entries};
+ghost use Rattle.plan_sizing.specs.Hiring.{AreLacks, AreNeeds, ArePlaced, IsLeft, evidence, hired_entries};
 ghost use Rattle.plan_sizing.specs.Shown.{Right, Shown};
 ghost use Rattle.plan_sizing.specs.Sizing.{first_obstacle};
 
@@ -28,6 +28,7 @@ use std::alloc::{AllocError, Global};
 pub fn find_size(alloc: Global, bump: &Bump, farm: &Farm) -> Result<Size, AllocError>
     ensures shown { IfOk result (Shown farm.now) }
     ensures right { IfOk result (Right farm.now) }
+    ensures placed { IfOk result (ArePlaced farm.now) }
 {
     if let Some(obstacle) = first_obstacle(farm) {
         let size = Size::Never(obstacle);
@@ -70,7 +71,8 @@ fn serve_now(alloc: Global, bump: &Bump, farm: &Farm) -> Result<Left, AllocError
 fn size_by(alloc: Global, farm: &Farm, left: Left) -> Result<Size, AllocError>
     requires free { first_obstacle farm.now ≡ None }
     requires left { IsLeft farm.now left.plan left.short left.lacks.items }
-    ensures { IfOk result (Shown farm.now) }
+    ensures shown { IfOk result (Shown farm.now) }
+    ensures placed { IfOk result (ArePlaced farm.now) }
 {
     farm.facts();
     let many = total(&left.lacks);
