@@ -12,11 +12,11 @@ use std::io::{ErrorKind, Read, Write};
 use std::net::{Net, TcpStream, ToSocketAddrs};
 use std::time::Duration;
 
-/// A TCP stream to the job server, as a source and a sink with one descriptor.
+/// A TCP stream to the job server or a service, as a source and a sink with one descriptor.
 ///
-/// A read that takes longer than its time limit is a timeout. A write that takes longer than 65 of them is a failure, so a server that
-/// stops reading holds a session no longer than that. It reports to contracts how often it failed and whether its input has ended, and no
-/// bytes: nothing can be proved of what a socket carries.
+/// A read that takes longer than its time limit is a timeout. A write that takes longer than 65 of them, or than was set since, is a
+/// failure, so a server that stops reading holds a session no longer than that. It reports to contracts how often it failed and whether its
+/// input has ended, and no bytes: nothing can be proved of what a socket carries.
 #[derive(Drop)]
 pub struct TcpLink {
     stream: TcpStream,
@@ -77,6 +77,13 @@ impl TcpLink {
             }
         }
         Err(last)
+    }
+
+    /// Lets each write from now on take so many milliseconds, and no longer. The error is the system's, or that zero is no time: then the
+    /// limit stays as it was.
+    pub fn limit_writes(&self, milliseconds: u64) -> io::Result<()> {
+        self.stream
+            .set_write_timeout(Some(Duration::from_millis(milliseconds)))
     }
 
     /// Whether the stream is open and nothing has come over it that was not read. It does not wait, and takes nothing. A stream of which

@@ -1,7 +1,8 @@
 -- One job over one connection.
-use Rattle.std.proofs.Common.{◌≡◌, ◌∙◌, ℕ, List, [], ◌∷◌, ◌++◌, Option, Some, None, Result, Ok, Err, refl, ap, append_assoc, inr}
+use Rattle.std.proofs.Common.{◌≡◌, ◌∙◌, ℕ, List, [], ◌∷◌, ◌++◌, Option, Some, None, Result, Ok, Err, refl, ap, ap₂, append_assoc, inr}
 use Rattle.std.specs.Prelude.{IfOk}
 use Rattle.gear_packets.specs.Response.{AssignedJob}
+use Rattle.byte_io.specs.Sides.{Input, Output}
 use Rattle.http_jobs.specs.declared.service.Service.{Service}
 use Rattle.http_jobs.specs.declared.fault.NotDone.{NotDone}
 use Rattle.http_jobs.specs.declared.fault.NotDone.TheVariants.{Unserved as Not, Memory}
@@ -27,6 +28,13 @@ opens_new seen old first before now (Ok link) e none d fresh = (
   inr (fresh, ap (λ (x : List DialCall). x ++ opened ∷ []) none),
 )
 opens_new seen old first before now (Err why) e none d fresh = tt
+
+-- a link with these sides
+abbrev pub link_of : Input → Output → Link
+link_of input output = record { input = input; output = output }
+
+pub same_link : (i j : Input) (o p : Output) → i ≡ j → o ≡ p → link_of i o ≡ link_of j p
+same_link i j o p ins outs = ap₂ link_of ins outs
 
 -- an exchange does not fail for lack of a connection
 pub failed_over : (s : Service) (timeout : ℕ) (old new : Visible) (j : AssignedJob) (e : NotDone) → Failed s timeout old new j e → NotServed s timeout old new j e

@@ -10,8 +10,9 @@ use crate::fault::{NotDone, Unserved};
 use crate::posts::EncodedRequest;
 use byte_io::Sink;
 
-/// Writes all the bytes, in as many writes as the sink needs. Before each write it looks at the clock. If a write fails or the deadline
-/// has come, a prefix of them has gone out, and nothing is written after it.
+/// Writes all the bytes, in as many writes as the sink needs. Before each write it looks at the clock, and after one that failed: if the
+/// deadline has come by then, the error is `Late`. If a write fails or the deadline has come, a prefix of them has gone out, and nothing is
+/// written after it.
 pub fn send<L: Sink, C: Clock>(
     link: &mut L,
     clock: &mut C,
@@ -32,7 +33,13 @@ pub fn send<L: Sink, C: Clock>(
         }
         match link.give(&bytes[count..]) {
             Ok(n) => count += n,
-            Err(_) => return Err(NotDone::Unserved(Unserved::Write)),
+            Err(_) => {
+                // Such as a write that waited as long as its job may take.
+                if is_late(clock, deadline) {
+                    return Err(NotDone::Unserved(Unserved::Late));
+                }
+                return Err(NotDone::Unserved(Unserved::Write));
+            }
         }
     }
     Ok(())

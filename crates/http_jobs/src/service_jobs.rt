@@ -23,7 +23,7 @@ use job_runner::{Jobs, Outcome};
 use std::alloc::Global;
 use std::snapshot::Snapshot;
 
-/// A connection that can be looked at without waiting.
+/// A connection that can be looked at without waiting, and whose writes wait no longer than they may.
 pub trait Look: Device {
     ghost use Rattle.std.specs.Prelude.{Bool, Option};
 
@@ -35,6 +35,12 @@ pub trait Look: Device {
         ensures quiet { IfSome (Self.quiet self.old) (λ quiet. result ≡ quiet) }
         ensures input { Self.input self.new ≡ Self.input self.old }
         ensures output { Self.output self.new ≡ Self.output self.old };
+
+    /// Lets each write from now on take so many milliseconds. A connection whose writes never wait need not know.
+    fn limit_writes(&mut self, _milliseconds: u64)
+        ensures input { Self.input self.new ≡ Self.input self.old }
+        ensures output { Self.output self.new ≡ Self.output self.old }
+    {}
 }
 
 /// What opens connections to a service, and gets word of those that were closed.
@@ -200,7 +206,7 @@ impl<L: Source + Sink + Look + Drop, D: Dial<L>, C: Clock> ServiceJobs<L, D, C> 
     /// Does a job. None if its function has no path of its own: then nothing is sent.
     ///
     /// It is sent once at most: over the kept connection, or over a new one if there is none, or if that has ended or holds a byte that
-    /// nobody asked for. Unserved says that no answer came, and why.
+    /// nobody asked for. A write may take as long as the job. Unserved says that no answer came, and why.
     pub fn serve(&mut self, alloc: Global, job: &Assignment) -> Result<Option<Reply>, NotDone>
         ensures served { IfOk result (λ reply. Tells self.old.service self.old.timeout_ms
             (visible L.input L.output L.quiet self.old.kept (D.calls self.old.dial) (C.shown self.old.clock))
@@ -218,6 +224,7 @@ impl<L: Source + Sink + Look + Drop, D: Dial<L>, C: Clock> ServiceJobs<L, D, C> 
         }
         let deadline = self.deadline();
         let mut link = self.connect(deadline)?;
+        link.limit_writes(self.timeout_ms);
         match exchange(
             alloc,
             &mut link,

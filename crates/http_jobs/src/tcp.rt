@@ -44,6 +44,11 @@ impl Look for TcpLink {
     fn is_quiet(&mut self) -> bool {
         TcpLink::is_quiet(self)
     }
+
+    fn limit_writes(&mut self, milliseconds: u64) {
+        // If the system does not take it, writes have the limit that they had.
+        let _ = TcpLink::limit_writes(self, milliseconds);
+    }
 }
 
 /// How long calls of a connection may take, in milliseconds. Zero is no time: then no connection is opened.
@@ -51,7 +56,7 @@ impl Look for TcpLink {
 pub struct CallTimes {
     /// The opening of one, all addresses of the host together.
     pub connect_ms: u32,
-    /// One read. A write may take 65 times as long.
+    /// One read. A write may take 65 times as long, or as long as was set since (`Look::limit_writes`).
     pub read_ms: u32,
 }
 

@@ -30,12 +30,13 @@ pub struct FarmEnd {
     pub outlook: Outlook,
 }
 
-/// How many milliseconds workers may take to end: to open a connection, to do a job, and to write its answer and what comes after it.
+/// How many milliseconds workers may take to end: to open a connection, to do a job, and to write its answer and what comes after it. A job
+/// may end as late as its time after its deadline, since a write that its service does not read may take so long.
 fn end_ms(farm: &Farm) -> u32 {
     let settings = &farm.settings;
     farm.services
         .connect_ms()
-        .saturating_add(settings.job_timeout_ms())
+        .saturating_add(settings.job_timeout_ms().saturating_mul(2))
         .saturating_add(text_ms(settings))
         .saturating_add(write_ms(settings).saturating_mul(2))
 }

@@ -24,11 +24,24 @@ returns-then-is_late-clause-why g c =
     let look = c.is_late.ensures in
     (so_far.0 ++ look.0 ∷ [], look.1 ∙ ap (λ (o : Shown). shown_then o (look.0 ∷ [])) so_far.1 ∙ shown_twice _ so_far.0 (look.0 ∷ []), tt, (so_far.0, look.0, refl, so_far.2, sym look.2 ∙ c.if-is_late.true))
 
+pub returns-then-is_late-2-clause-why : goal.returns-then-is_late-2-clause-why
+returns-then-is_late-2-clause-why g c =
+    let so_far = c.loop-count.invariant.shown in
+    let look = c.is_late.ensures in
+    let again = c.is_late-in-Err.ensures in
+    let times = so_far.0 ++ look.0 ∷ [] in
+    let shown = look.1 ∙ ap (λ (o : Shown). shown_then o (look.0 ∷ [])) so_far.1 ∙ shown_twice _ so_far.0 (look.0 ∷ []) in
+    let in_time = in_time_more c.args.deadline so_far.0 look.0 so_far.2 (sym look.2 ∙ c.if-is_late.false) in
+    (times ++ again.0 ∷ [], again.1 ∙ ap (λ (o : Shown). shown_then o (again.0 ∷ [])) shown ∙ shown_twice _ times (again.0 ∷ []), tt, (times, again.0, refl, in_time, sym again.2 ∙ c.if-is_late-2.true))
+
 pub returns-in-Err-clause-why : goal.returns-in-Err-clause-why
 returns-in-Err-clause-why g c =
     let so_far = c.loop-count.invariant.shown in
     let look = c.is_late.ensures in
-    (so_far.0 ++ look.0 ∷ [], look.1 ∙ ap (λ (o : Shown). shown_then o (look.0 ∷ [])) so_far.1 ∙ shown_twice _ so_far.0 (look.0 ∷ []), tt, omega (arith, c.in-Err.ensures.fails, c.loop-count.invariant.unfailed))
+    let again = c.is_late-in-Err.ensures in
+    let times = so_far.0 ++ look.0 ∷ [] in
+    let shown = look.1 ∙ ap (λ (o : Shown). shown_then o (look.0 ∷ [])) so_far.1 ∙ shown_twice _ so_far.0 (look.0 ∷ []) in
+    (times ++ again.0 ∷ [], again.1 ∙ ap (λ (o : Shown). shown_then o (again.0 ∷ [])) shown ∙ shown_twice _ times (again.0 ∷ []), tt, omega (arith, c.in-Err.ensures.fails, c.loop-count.invariant.unfailed))
 
 pub returns-clause-why : goal.returns-clause-why
 returns-clause-why g c =

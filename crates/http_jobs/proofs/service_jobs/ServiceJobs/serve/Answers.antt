@@ -1,14 +1,14 @@
 use Rattle.std.proofs.Common.{◌≡◌, ◌∙◌, ℕ, [], ◌∷◌, Option, sym, ap, subst, take}
 use Rattle.gear_packets.specs.Reading.{job_of}
-use Rattle.byte_io.specs.Sides.{and_then}
-use Rattle.job_runner.specs.Run.{seen_link}
+use Rattle.byte_io.specs.Sides.{Input, Output, and_then}
+use Rattle.job_runner.specs.Run.{Link, seen_link}
 use Rattle.http_jobs.specs.declared.service.Service.{Service}
 use Rattle.http_jobs.specs.Clock.{InTime, shown_then}
 use Rattle.http_jobs.specs.Exchange.{Explains}
 use Rattle.http_jobs.specs.Request.{has_no_path, request_of}
 use Rattle.http_jobs.specs.Serving.{Opens, visible, then_called}
 use Rattle.http_jobs.proofs.Exchanges.{Shown, shown_twice}
-use Rattle.http_jobs.proofs.Uses.{Calls, called_twice, failed_over}
+use Rattle.http_jobs.proofs.Uses.{Calls, called_twice, failed_over, same_link}
 use Rattle.http_jobs.proofs.service_jobs.ServiceJobs.serve.Goals as goal
 
 pub returns-in-Ok-clause-served : goal.returns-in-Ok-clause-served
@@ -33,8 +33,9 @@ returns-in-Ok-clause-served g c =
           first = opens.0;
           last = left.0;
           opens = subst (λ k. Opens (visible input output g.L.Look.quiet k (g.D.Dial.calls old.dial) (g.C.Clock.shown old.clock)) opens.0 (seen_link input output c.in_ok-link.link)) c.deadline-deadline.ensures.kept opens.2;
-          given = ex.1.0;
-          got = c.in-Ok.ensures.request ∙ ap (λ (s : Service). and_then (output c.in_ok-link.link).got (request_of s job)) same;
+          given = ex.1.0 ∙ ap (λ (i : Input). and_then i.given ex.0.read) c.limit_writes.ensures.input;
+          got = c.in-Ok.ensures.request ∙ ap (λ (o : Output). and_then o.got (request_of c.connect.new.self.service job)) c.limit_writes.ensures.output
+              ∙ ap (λ (s : Service). and_then (output c.in_ok-link.link).got (request_of s job)) same;
           leaves = left.2;
           calls = left.1 ∙ ap (λ (o : Calls). then_called o left.0) (opens.1 ∙ ap (λ d. then_called (g.D.Dial.calls d) opens.0) c.deadline-deadline.ensures.dial) ∙ called_twice (g.D.Dial.calls old.dial) opens.0 left.0;
           shown = ap (λ k. g.C.Clock.shown k) c.leave.ensures.clock ∙ ex.1.2 ∙ ap (λ k. shown_then (g.C.Clock.shown k) ex.0.times) c.connect.ensures.clock
@@ -67,12 +68,14 @@ returns-in-Err-clause-failed g c =
         first = opens.0;
         last = left.0;
         opens = subst (λ k. Opens (visible input output g.L.Look.quiet k (g.D.Dial.calls old.dial) (g.C.Clock.shown old.clock)) opens.0 (seen_link input output c.in_ok-link.link)) c.deadline-deadline.ensures.kept opens.2;
-        given = ex.1.0;
-        got = prefix.1 ∙ ap (λ (s : Service). and_then (output c.in_ok-link.link).got (take prefix.0 (request_of s job))) same;
+        given = ex.1.0 ∙ ap (λ (i : Input). and_then i.given ex.0.read) c.limit_writes.ensures.input;
+        got = prefix.1 ∙ ap (λ (o : Output). and_then o.got (take prefix.0 (request_of c.connect.new.self.service job))) c.limit_writes.ensures.output
+            ∙ ap (λ (s : Service). and_then (output c.in_ok-link.link).got (take prefix.0 (request_of s job))) same;
         leaves = left.2;
         calls = left.1 ∙ ap (λ (o : Calls). then_called o left.0) (opens.1 ∙ ap (λ d. then_called (g.D.Dial.calls d) opens.0) c.deadline-deadline.ensures.dial) ∙ called_twice (g.D.Dial.calls old.dial) opens.0 left.0;
         shown = ap (λ k. g.C.Clock.shown k) c.leave-in-Err.ensures.clock ∙ ex.1.2 ∙ ap (λ k. shown_then (g.C.Clock.shown k) ex.0.times) c.connect.ensures.clock
             ∙ ap (λ (o : Shown). shown_then o ex.0.times) start.1 ∙ shown_twice (g.C.Clock.shown old.clock) (start.0 ∷ []) ex.0.times;
       };
-      explained = subst (λ (d : Option ℕ). Explains d ex.0 (seen_link input output c.in_ok-link.link) (seen_link input output c.exchange.new.link) c.in-Err.e) start.2 ex.3;
+      explained = subst (λ (d : Option ℕ). Explains d ex.0 (seen_link input output c.in_ok-link.link) (seen_link input output c.exchange.new.link) c.in-Err.e) start.2
+          (subst (λ (before : Link). Explains c.deadline-deadline.result ex.0 before (seen_link input output c.exchange.new.link) c.in-Err.e) (same_link _ _ _ _ c.limit_writes.ensures.input c.limit_writes.ensures.output) ex.3);
     })
