@@ -7,7 +7,7 @@ use crate::clock::Clock;
 use crate::service_jobs::{Dial, Look};
 use byte_io::Device;
 use devices::{DialError, TcpLink};
-use std::net::{Net, TcpStream, ToSocketAddrs};
+use std::net::{Net, SocketAddr, TcpStream, ToSocketAddrs};
 use std::snapshot::Snapshot;
 use std::time;
 use std::time::Duration;
@@ -54,7 +54,7 @@ impl Look for TcpLink {
 /// How long calls of a connection may take, in milliseconds. Zero is no time: then no connection is opened.
 #[derive(Clone, Copy, Debug, PartialEq, Eq)]
 pub struct CallTimes {
-    /// The opening of one, all addresses of the host together.
+    /// The opening of one, all addresses of the host together, without the time in which its name is looked up.
     pub connect_ms: u32,
     /// One read. A write may take 65 times as long, or as long as was set since (`Look::limit_writes`).
     pub read_ms: u32,
@@ -67,66 +67,107 @@ pub struct TcpDial<R> {
     /// Where it is, as `10.0.0.5:8000`.
     host: String,
     times: CallTimes,
+    /// The address that took the last connection.
+    known: Option<SocketAddr>,
 }
 
 impl<R: Net<Stream = TcpStream> + time::Clock> TcpDial<R> {
-    /// What opens connections to this host, `NAME:PORT` or `ADDRESS:PORT`. A name is looked up at each dial, for as long as the system
-    /// takes.
+    /// What opens connections to this host, `NAME:PORT` or `ADDRESS:PORT`. A name is looked up, for as long as the system takes, at the
+    /// first dial, and again once the address that took the last connection takes none.
     pub fn new(rt: R, host: String, times: CallTimes) -> TcpDial<R> {
-        TcpDial { rt, host, times }
+        TcpDial {
+            rt,
+            host,
+            times,
+            known: None,
+        }
     }
 
-    /// By when a connection has to be there that is dialled now, or none if the time is not known.
-    fn end_of_dial(&self, deadline: Option<u64>) -> Option<u64> {
+    /// So many milliseconds from now, but no later than the deadline, or none if the time is not known.
+    fn end_of_dial(&self, milliseconds: u64, deadline: Option<u64>) -> Option<u64> {
         let now = SystemClock::new(&self.rt).now_ms()?;
-        let end = now.saturating_add(self.times.connect_ms as u64);
+        let end = now.saturating_add(milliseconds);
         Some(deadline.map_or(end, |deadline| end.min(deadline)))
     }
 
-    /// How long the next address may be tried, or none if the time is up.
-    fn time_left(&self, end: Option<u64>) -> Option<Duration> {
+    /// How many milliseconds are left, or none if the time is up.
+    fn time_left(&self, end: Option<u64>) -> Option<u64> {
         match (end, SystemClock::new(&self.rt).now_ms()) {
             (Some(end), Some(now)) if end <= now => None,
-            (Some(end), Some(now)) => Some(Duration::from_millis(end - now)),
-            _ => Some(Duration::from_millis(self.times.connect_ms as u64)),
+            (Some(end), Some(now)) => Some(end - now),
+            _ => Some(self.times.connect_ms as u64),
         }
     }
 
-    /// A connection over a stream that was just opened. The error says why the system set no times for it.
-    fn link_over(&self, stream: TcpStream) -> Result<TcpLink, DialError>
+    /// A connection to this address, which is the first of so many that share the time that is left. The error says why there is none, or
+    /// why the system set no times for its stream; it is `NoAnswer` if the time is up.
+    fn dial_address(
+        &mut self,
+        address: SocketAddr,
+        end: Option<u64>,
+        count: usize,
+    ) -> Result<TcpLink, DialError>
         ensures { IfOk result (λ link. IsNew (seen_link ⟦<TcpLink as Device>⟧.input ⟦<TcpLink as Device>⟧.output link)) }
     {
+        let Some(left) = self.time_left(end) else {
+            return Err(DialError::NoAnswer);
+        };
+        let share = Duration::from_millis((left / (count as u64).max(1)).max(1));
+        let stream = match TcpStream::connect_timeout(&self.rt, &address, share) {
+            Ok(stream) => stream,
+            Err(error) => return Err(DialError::of_connect(&error)),
+        };
         match TcpLink::new(stream, self.times.read_ms) {
-            Ok(link) => Ok(link),
+            Ok(link) => {
+                self.known = Some(address);
+                Ok(link)
+            }
             Err(error) => Err(DialError::of_connect(&error)),
         }
     }
+
+    /// A connection to the first of the host's addresses that takes one. The error is why the last of them was not reached, or why there is
+    /// none.
+    fn dial_host(&mut self, left: u64, deadline: Option<u64>) -> Result<TcpLink, DialError>
+        ensures { IfOk result (λ link. IsNew (seen_link ⟦<TcpLink as Device>⟧.input ⟦<TcpLink as Device>⟧.output link)) }
+    {
+        let addresses = match self.host.as_str().to_socket_addrs(&self.rt) {
+            Ok(addresses) => addresses,
+            Err(error) => return Err(DialError::why_not_found(&self.rt, &error)),
+        };
+        let end = self.end_of_dial(left, deadline);
+        let mut count = addresses.len();
+        let mut why = DialError::NoAddress;
+        for address in addresses {
+            match self.dial_address(address, end, count) {
+                Ok(link) => return Ok(link),
+                Err(error) => why = error,
+            }
+            count = count.saturating_sub(1);
+        }
+        Err(why)
+    }
 }
 
-/// Each address of the host is tried in turn, until one accepts or the time is up. The error is `NoAnswer` if the time is up, else why the
-/// last address was not reached, or why its stream could not be used.
+/// The address that took the last connection is tried first, for half of the time. If there is none, or it takes no connection, the name is
+/// looked up, and each of its addresses is tried in turn, for its share of the time that is left, until one accepts. The error is
+/// `NoAnswer` if the time is up, else why the last address was not reached, or why its stream could not be used.
 impl<R: Net<Stream = TcpStream> + time::Clock> Dial<TcpLink> for TcpDial<R> {
     ghost use Rattle.std.specs.Prelude.{◌≡◌, None};
 
     ghost calls = { λ _. None };
 
     fn dial(&mut self, deadline: Option<u64>) -> Result<TcpLink, DialError> {
-        let addresses = match self.host.as_str().to_socket_addrs(&self.rt) {
-            Ok(addresses) => addresses,
-            Err(error) => return Err(DialError::why_not_found(&self.rt, &error)),
-        };
-        let end = self.end_of_dial(deadline);
-        let mut why = DialError::NoAddress;
-        for address in addresses {
-            let Some(left) = self.time_left(end) else {
-                return Err(DialError::NoAnswer);
-            };
-            match TcpStream::connect_timeout(&self.rt, &address, left) {
-                Ok(stream) => return self.link_over(stream),
-                Err(error) => why = DialError::of_connect(&error),
+        let end = self.end_of_dial(self.times.connect_ms as u64, deadline);
+        if let Some(address) = self.known {
+            if let Ok(link) = self.dial_address(address, end, 2) {
+                return Ok(link);
             }
         }
-        Err(why)
+        let Some(left) = self.time_left(end) else {
+            return Err(DialError::NoAnswer);
+        };
+        self.dial_host(left, deadline)
     }
 
     fn hung_up(&mut self, _link: Snapshot<TcpLink>)
