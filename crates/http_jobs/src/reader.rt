@@ -12,6 +12,9 @@ use http1::{Client, Event, ReadError};
 use httparse::spans::HeaderSpan;
 use std::alloc::{AllocError, Global};
 
+/// Fewer consumed bytes than these are kept before the next read, since they are not worth a move of what comes after them.
+const MOST_CONSUMED: usize = 16384;
+
 /// A response as far as it was read.
 #[derive(Drop)]
 pub struct ResponseReader {
@@ -198,14 +201,18 @@ impl ResponseReader {
         }
     }
 
-    /// Drops what was consumed, if that is all that was read.
+    /// Drops what was consumed, if that is all that was read, or much of it.
     fn drop_consumed(&mut self)
         requires within { self.old.at ≤ length self.old.unread.items }
         ensures within { self.new.at ≤ length self.new.unread.items }
+        ensures few { self.new.at < 16384 }
         ensures keeps { (limits : Heads) (read : List ℕ) → IsPartway limits read self.old → IsPartway limits read self.new }
     {
         if self.at == self.unread.len() {
             self.unread.clear();
+            self.at = 0;
+        } else if self.at >= MOST_CONSUMED {
+            self.unread.drain(..self.at);
             self.at = 0;
         }
     }
