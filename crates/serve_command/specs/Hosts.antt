@@ -2,10 +2,13 @@
 use Rattle.std.specs.Prelude.{Bool, true, false, if◌then◌else◌, Option, Some, None, Result, Ok, Err}
 use Rattle.devices.specs.declared.dial_error.DialError.{DialError}
 use Rattle.devices.specs.declared.dial_error.DialError.TheVariants.{TooManyFiles, Memory}
+use Rattle.serve_command.specs.declared.hosts.BeforeJob.{BeforeJob}
+use Rattle.serve_command.specs.declared.hosts.BeforeJob.TheVariants.{Ask, Dial, End}
 use Rattle.serve_command.specs.declared.hosts.HostState.{HostState}
 use Rattle.serve_command.specs.declared.hosts.HostState.TheVariants as state
 use Rattle.serve_command.specs.declared.hosts.Reason.{Reason}
-use Rattle.serve_command.specs.declared.hosts.Reason.TheVariants.{Unreachable}
+use Rattle.serve_command.specs.declared.hosts.Reason.TheVariants.{Unreachable, Unserved}
+use Rattle.worker_state.specs.declared.slot.WorkerName.{WorkerName}
 
 -- The dial failed for what this process or machine lacked, and says nothing of the host.
 abbrev pub is_local : DialError → Bool
@@ -21,12 +24,19 @@ lets_go_on (Err why) = is_local why
 -- why a host is left alone, if it is
 abbrev pub reason_of : HostState → Option Reason
 reason_of (state.Present unserved) = None
-reason_of (state.Away why wait due) = Some why
+reason_of (state.Away absence) = Some absence.why
 
--- it is left alone since a dial to it failed
-abbrev pub is_unreachable : Option Reason → Bool
-is_unreachable (Some Unreachable) = true
-is_unreachable other = false
+-- the worker that tries whether it serves jobs again, if there is one
+abbrev pub trier_of : HostState → Option WorkerName
+trier_of (state.Present unserved) = None
+trier_of (state.Away absence) = absence.trier
+
+-- What a worker does before it asks for one more job, by why its host is left alone, and by whether it is the one that tries the host. One
+-- that was not reached is dialled; and of one whose jobs are not served all other workers end.
+abbrev pub before_job : Option Reason → Bool → BeforeJob
+before_job (Some Unreachable) is_trier = Dial
+before_job (Some Unserved) is_trier = if is_trier then Ask else End
+before_job None is_trier = Ask
 
 -- why it is left alone once a connection was opened, by what it was before
 abbrev pub after_opening : Option Reason → Option Reason

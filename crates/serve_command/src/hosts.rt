@@ -1,12 +1,14 @@
 //! Which hosts of a farm are reached, and when one that is not is tried again.
 
-ghost use Rattle.std.specs.Prelude.{◌≡◌, IfErr, Some, true};
+ghost use Rattle.std.specs.Prelude.{◌≡◌, ◌↔◌, IfErr, Some, true};
 ghost use Rattle.serve_command.specs.Hosts as spec;
+ghost use Rattle.serve_command.specs.declared.hosts.Reason.TheVariants.{Unserved};
 
 use devices::DialError;
 use plan_model::MachineId;
 use std::alloc::{AllocError, Global};
 use std::sync::{Mutex, Wait};
+use worker_state::WorkerName;
 
 /// For how many attempts at most a host is left alone before it is tried again.
 const LONGEST_WAIT: u64 = 64;
@@ -42,13 +44,52 @@ pub enum HostNews {
     Unreached(Reason),
 }
 
+/// What a worker does before it asks for one more job.
+#[derive(Clone, Copy, Debug, PartialEq, Eq)]
+pub enum BeforeJob {
+    /// Nothing: it asks.
+    Ask,
+    /// It dials its host, and asks if that is reached, or if nothing is learnt of it.
+    Dial,
+    /// It ends.
+    End,
+}
+
+/// A host that is left alone.
+#[derive(Clone, Copy, Debug, PartialEq, Eq)]
+struct Absence {
+    /// Why.
+    why: Reason,
+    /// How many attempts after the next try another may be made.
+    wait: u64,
+    /// From this attempt on one worker may try it.
+    due: u64,
+    /// The worker that tries whether it serves jobs: the last one that opened a connection to it, if it has not ended.
+    trier: Option<WorkerName>,
+}
+
+impl Absence {
+    /// After a worker joined in this attempt. If it came to try the host, the next wait is longer: 1, 2, 4 .. attempts, and 64 at most.
+    fn after_join(self, attempt: u64) -> Absence
+        ensures { result.why ≡ self.why }
+    {
+        let mut after = self;
+        if self.due <= attempt {
+            let wait = self.wait.saturating_mul(2).min(LONGEST_WAIT);
+            after.wait = wait;
+            after.due = attempt.saturating_add(wait);
+        }
+        after
+    }
+}
+
 /// How a host is.
 #[derive(Clone, Copy, Debug, PartialEq, Eq)]
 enum HostState {
     /// All its workers may start. It left so many jobs unserved since the last one that it served.
     Present(u32),
-    /// It is left alone. From the attempt `due` on one worker may try it. The next may `wait` attempts after that.
-    Away { why: Reason, wait: u64, due: u64 },
+    /// It is left alone.
+    Away(Absence),
 }
 
 /// Whether a dial that failed so says nothing of the host: this process or machine lacked what a dial needs.
@@ -73,14 +114,20 @@ impl HostState {
     fn away(self, why: Reason, attempt: u64) -> HostState
         ensures { spec.reason_of result ≡ Some why }
     {
-        match self {
-            HostState::Present(_) => HostState::Away {
+        let absence = match self {
+            HostState::Present(_) => Absence {
                 why,
                 wait: 1,
                 due: attempt.saturating_add(1),
+                trier: None,
             },
-            HostState::Away { wait, due, .. } => HostState::Away { why, wait, due },
-        }
+            HostState::Away(absence) => Absence {
+                why,
+                trier: None,
+                ..absence
+            },
+        };
+        HostState::Away(absence)
     }
 
     /// After a connection was opened, or could not be. If files or memory were lacking here, the host is as before.
@@ -100,10 +147,12 @@ impl HostState {
         ensures { spec.reason_of result ≡ spec.after_opening (spec.reason_of self) }
     {
         match self {
-            HostState::Away {
-                why: Reason::Unreachable,
-                ..
-            } => HostState::Present(0),
+            HostState::Away(
+                Absence {
+                    why: Reason::Unreachable,
+                    ..
+                },
+            ) => HostState::Present(0),
             state => state,
         }
     }
@@ -120,38 +169,78 @@ impl HostState {
         }
     }
 
-    /// Whether a worker may start beside so many that the host has. One that lives may have no job and so try nothing: after the longest
-    /// wait another may start beside it.
-    fn may_start(self, attempt: u64, workers: u32) -> bool {
+    /// Whether a worker may start. One that tries the host may have no job and so learn nothing: after the longest wait another may start
+    /// beside it.
+    fn may_start(self, attempt: u64) -> bool {
         match self {
             HostState::Present(_) => true,
-            HostState::Away { why, due, .. } => {
-                let is_free = workers == 0 || why == Reason::Unreachable;
-                let wait = if is_free { 0 } else { LONGEST_WAIT };
-                due.saturating_add(wait) <= attempt
+            HostState::Away(absence) => {
+                let wait = match absence.trier {
+                    Some(_) => LONGEST_WAIT,
+                    None => 0,
+                };
+                absence.due.saturating_add(wait) <= attempt
             }
         }
     }
 
-    /// Whether a dial to it failed, not for want of files or memory here, and since then none has succeeded and no job was served.
-    fn is_unreachable(self) -> bool
-        ensures { result ≡ spec.is_unreachable (spec.reason_of self) }
+    /// After a worker joined, which came to try it if it is left alone.
+    fn after_join(self, attempt: u64) -> HostState
+        ensures { spec.reason_of result ≡ spec.reason_of self }
     {
-        self.reason() == Some(Reason::Unreachable)
+        match self {
+            HostState::Present(unserved) => HostState::Present(unserved),
+            HostState::Away(absence) => HostState::Away(absence.after_join(attempt)),
+        }
     }
 
-    /// After a worker joined. If it came to try a host that is left alone, the next wait is longer: 1, 2, 4 .. attempts, and 64 at most.
-    fn after_join(self, attempt: u64) -> HostState {
+    /// After a worker opened a connection for its jobs. If jobs were not served, it is the one that tries the host from now on.
+    fn after_start(self, worker: WorkerName) -> HostState
+        ensures reason { spec.reason_of result ≡ spec.reason_of self }
+        ensures tries { spec.reason_of self ≡ Some Unserved → spec.trier_of result ≡ Some worker }
+    {
         match self {
-            HostState::Away { why, wait, due } if due <= attempt => {
-                let wait = wait.saturating_mul(2).min(LONGEST_WAIT);
-                HostState::Away {
-                    why,
-                    wait,
-                    due: attempt.saturating_add(wait),
-                }
+            HostState::Away(absence) if absence.why == Reason::Unserved => {
+                HostState::Away(Absence {
+                    trier: Some(worker),
+                    ..absence
+                })
             }
             state => state,
+        }
+    }
+
+    /// After a worker ended.
+    fn after_end(self, worker: WorkerName) -> HostState
+        ensures { spec.reason_of result ≡ spec.reason_of self }
+    {
+        match self {
+            HostState::Away(absence) if absence.trier == Some(worker) => HostState::Away(Absence {
+                trier: None,
+                ..absence
+            }),
+            state => state,
+        }
+    }
+
+    /// Whether this worker tries it.
+    fn is_tried_by(self, worker: WorkerName) -> bool
+        ensures { (result ≡ true) ↔ (spec.trier_of self ≡ Some worker) }
+    {
+        match self {
+            HostState::Present(_) => false,
+            HostState::Away(absence) => absence.trier == Some(worker),
+        }
+    }
+
+    /// What a worker does before it asks for one more job, which may have come to try the host.
+    fn before_job(self, is_trier: bool) -> BeforeJob
+        ensures { result ≡ spec.before_job (spec.reason_of self) is_trier }
+    {
+        match self.reason() {
+            Some(Reason::Unreachable) => BeforeJob::Dial,
+            Some(Reason::Unserved) if !is_trier => BeforeJob::End,
+            _ => BeforeJob::Ask,
         }
     }
 
@@ -161,27 +250,18 @@ impl HostState {
     {
         match self {
             HostState::Present(_) => None,
-            HostState::Away { why, .. } => Some(why),
-        }
-    }
-
-    /// What is new, if this was the state before.
-    fn news_since(self, before: HostState) -> Option<HostNews> {
-        match (before, self) {
-            (HostState::Away { .. }, HostState::Present(_)) => Some(HostNews::Reached),
-            (HostState::Present(_), HostState::Away { why, .. }) => Some(HostNews::Unreached(why)),
-            _ => None,
+            HostState::Away(absence) => Some(absence.why),
         }
     }
 }
 
-/// A host of a farm.
-#[derive(Clone, Copy)]
-struct HostEntry {
-    /// How it is.
-    state: HostState,
-    /// How many workers it has: those that joined and have not ended.
-    workers: u32,
+/// What is new of a host, by why it was left alone before and is now.
+fn news_of(before: Option<Reason>, now: Option<Reason>) -> Option<HostNews> {
+    match (before, now) {
+        (Some(_), None) => Some(HostNews::Reached),
+        (None, Some(why)) => Some(HostNews::Unreached(why)),
+        _ => None,
+    }
 }
 
 /// What is known of all hosts.
@@ -190,11 +270,12 @@ struct Table {
     /// The number of the attempt that is made now, from 1.
     attempt: u64,
     /// The host of each machine.
-    hosts: Vec<HostEntry>,
+    hosts: Vec<HostState>,
 }
 
 /// Which hosts of a farm are reached. A host is left alone if a dial to it failed, unless files or memory were lacking here, until one
-/// succeeds; or if three jobs, one after the other, were not served, until one is. To one that is left alone one worker comes at a time.
+/// succeeds; or if three jobs, one after the other, were not served, until one is. To one that is left alone one worker comes at a time, and
+/// of those whose jobs are not served it alone asks for more.
 #[derive(Drop)]
 pub struct Hosts {
     table: Mutex<Table>,
@@ -203,12 +284,8 @@ pub struct Hosts {
 impl Hosts {
     /// The hosts of so many machines, of which nothing is known. The only error is out of memory.
     pub fn new(alloc: Global, machines: u32) -> Result<Hosts, AllocError> {
-        let host = HostEntry {
-            state: HostState::Present(0),
-            workers: 0,
-        };
         let mut hosts = Vec::new(alloc);
-        hosts.resize(machines as usize, host)?;
+        hosts.resize(machines as usize, HostState::Present(0))?;
         Ok(Hosts {
             table: Mutex::new(Table { attempt: 1, hosts }),
         })
@@ -223,7 +300,7 @@ impl Hosts {
         let held = self.table.lock(rt);
         let mut unreached = Vec::new(alloc);
         for host in &held.hosts {
-            unreached.push(host.state.reason().map(Reason::name))?;
+            unreached.push(host.reason().map(Reason::name))?;
         }
         Ok(unreached)
     }
@@ -238,18 +315,17 @@ impl Hosts {
     pub fn may_start<R: Wait>(&self, rt: &R, machine: MachineId) -> bool {
         let held = self.table.lock(rt);
         match held.hosts.get(machine.number() as usize) {
-            Some(host) => host.state.may_start(held.attempt, host.workers),
+            Some(host) => host.may_start(held.attempt),
             None => false,
         }
     }
 
-    /// Whether a dial to the machine's host failed, not for want of files or memory here, and since then none has succeeded and no job was
-    /// served.
-    pub fn is_unreachable<R: Wait>(&self, rt: &R, machine: MachineId) -> bool {
+    /// What a worker of the machine does before it asks for one more job.
+    pub fn before_job<R: Wait>(&self, rt: &R, machine: MachineId, worker: WorkerName) -> BeforeJob {
         let held = self.table.lock(rt);
         match held.hosts.get(machine.number() as usize) {
-            Some(host) => host.state.is_unreachable(),
-            None => false,
+            Some(host) => host.before_job(host.is_tried_by(worker)),
+            None => BeforeJob::End,
         }
     }
 
@@ -258,16 +334,24 @@ impl Hosts {
         let mut held = self.table.lock(rt);
         let attempt = held.attempt;
         if let Some(host) = held.hosts.get_mut(machine.number() as usize) {
-            host.state = host.state.after_join(attempt);
-            host.workers = host.workers.saturating_add(1);
+            *host = host.after_join(attempt);
+        }
+    }
+
+    /// A worker of the machine opened a connection for its jobs. If its host is left alone since jobs were not served, this worker alone
+    /// goes on there, until another starts.
+    pub fn has_started<R: Wait>(&self, rt: &R, machine: MachineId, worker: WorkerName) {
+        let mut held = self.table.lock(rt);
+        if let Some(host) = held.hosts.get_mut(machine.number() as usize) {
+            *host = host.after_start(worker);
         }
     }
 
     /// A worker of the machine has ended.
-    pub fn has_ended<R: Wait>(&self, rt: &R, machine: MachineId) {
+    pub fn has_ended<R: Wait>(&self, rt: &R, machine: MachineId, worker: WorkerName) {
         let mut held = self.table.lock(rt);
         if let Some(host) = held.hosts.get_mut(machine.number() as usize) {
-            host.workers = host.workers.saturating_sub(1);
+            *host = host.after_end(worker);
         }
     }
 
@@ -282,9 +366,9 @@ impl Hosts {
         let mut held = self.table.lock(rt);
         let attempt = held.attempt;
         let host = held.hosts.get_mut(machine.number() as usize)?;
-        let before = host.state;
-        host.state = before.after_dial(dialled, attempt);
-        host.state.news_since(before)
+        let before = host.reason();
+        *host = host.after_dial(dialled, attempt);
+        news_of(before, host.reason())
     }
 
     /// A job was served by the host of this machine, or was not. What is new of the host.
@@ -297,8 +381,8 @@ impl Hosts {
         let mut held = self.table.lock(rt);
         let attempt = held.attempt;
         let host = held.hosts.get_mut(machine.number() as usize)?;
-        let before = host.state;
-        host.state = before.after_job(is_served, attempt);
-        host.state.news_since(before)
+        let before = host.reason();
+        *host = host.after_job(is_served, attempt);
+        news_of(before, host.reason())
     }
 }

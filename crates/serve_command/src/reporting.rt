@@ -7,7 +7,7 @@ use crate::farm::Farm;
 use crate::farm_jobs::host_line;
 use crate::file_room::FileRoom;
 use crate::host::FarmHost;
-use crate::hosts::{Hosts, lets_go_on};
+use crate::hosts::{BeforeJob, Hosts, lets_go_on};
 use crate::job_lines::{Uncompleted, line_of, lost_job};
 use crate::last_jobs::{AnsweredJob, LastJobs};
 use farm_notes::{Known, PageNotes, Tally};
@@ -194,13 +194,16 @@ impl<'e, H: FarmHost> Watch for Reporting<'e, H> {
     }
 
     /// A worker whose host was not reached dials it again, beside the connection that it keeps: that may look open though its host is gone,
-    /// and then the next job would be done in vain. If the farm has to end, such a worker just ends.
+    /// and then the next job would be done in vain. If the farm has to end, such a worker just ends. So do all workers but one of a host that
+    /// takes connections and serves no job: one by one they would take jobs from others, and give them back.
     fn may_go_on(&self, worker: WorkerName) -> bool {
         let Some(machine) = self.farm.machine_of(worker.slot) else {
             return false;
         };
-        if !self.hosts.is_unreachable(self.host, machine) {
-            return true;
+        match self.hosts.before_job(self.host, machine, worker) {
+            BeforeJob::Ask => return true,
+            BeforeJob::End => return false,
+            BeforeJob::Dial => {}
         }
         if self.host.is_to_end() {
             return false;
@@ -256,7 +259,7 @@ impl<'e, H: FarmHost> Progress for Reporting<'e, H> {
 
     fn ended(&self, ended: &EndedWorker<'_>) {
         let machine = ended.settings.machine_of(ended.worker.slot);
-        self.hosts.has_ended(self, machine);
+        self.hosts.has_ended(self, machine, ended.worker);
         let lost = self.take_lost(ended);
         let lost = lost_of(self.alloc, ended, &lost);
         self.host.tell_if(line_of(self.alloc, &lost));
