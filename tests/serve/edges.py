@@ -369,23 +369,19 @@ def a_report_is_taken_slowly(program, processes):
 
 
 def idle_workers_end_with_their_host(program, processes):
-    """A host is gone while its workers wait for jobs: one of them takes a job in vain, and others end without one."""
+    """A host is gone while its workers wait for jobs: that is noticed, and they end, though no job comes."""
     edge = Edge(program, processes)
     edge.start()
     wait_until(edge.has_all_workers, PATIENCE, "all workers are there")
     edge.kill("north")
-    asked, end = 0, time.monotonic() + PATIENCE
-    while "unreached north Unreachable" not in edge.lines():
-        held(time.monotonic() < end, "no worker of the host has taken a job")
-        edge.ask(good_jobs(f"gone-{asked}", 1))
-        asked += 1
+    wait_until(lambda: "unreached north Unreachable" in edge.lines(), PATIENCE, "the host is missed")
     first = r"north/\d#1"
     wait_until(lambda: len(edge.causes(first)) == WORKERS, PATIENCE, "the workers of the host end")
-    held(set(edge.causes(first)) == {"Stopped", "Unserved"}, f"they ended so: {edge.causes(first)}")
+    held(set(edge.causes(first)) == {"Stopped"}, f"they ended so: {edge.causes(first)}")
     edge.restart("north")
     wait_until(edge.has_all_workers, PATIENCE, "all workers are back")
     edge.ask(good_jobs("back", 300))
-    edge.end(asked + 300)
+    edge.end(300)
 
 
 PARTS = (

@@ -31,12 +31,16 @@ abbrev pub trier_of : HostState → Option WorkerName
 trier_of (state.Present unserved) = None
 trier_of (state.Away absence) = absence.trier
 
--- What a worker does before it asks for one more job, by why its host is left alone, and by whether it is the one that tries the host. One
--- that was not reached is dialled; and of one whose jobs are not served all other workers end.
-abbrev pub before_job : Option Reason → Bool → BeforeJob
-before_job (Some Unreachable) is_trier = Dial
-before_job (Some Unserved) is_trier = if is_trier then Ask else End
-before_job None is_trier = Ask
+-- it asks, after a dial if nothing was heard of its host for long
+abbrev pub asking : Bool → BeforeJob
+asking is_silent = if is_silent then Dial else Ask
+
+-- What a worker does before it asks for one more job, by why its host is left alone, whether it is the one that tries the host, and whether
+-- nothing was heard of the host for long. One that was not reached is dialled; and of one whose jobs are not served all other workers end.
+abbrev pub before_job : Option Reason → Bool → Bool → BeforeJob
+before_job (Some Unreachable) is_trier is_silent = Dial
+before_job (Some Unserved) is_trier is_silent = if is_trier then asking is_silent else End
+before_job None is_trier is_silent = asking is_silent
 
 -- why it is left alone once a connection was opened, by what it was before
 abbrev pub after_opening : Option Reason → Option Reason

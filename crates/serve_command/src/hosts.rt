@@ -13,6 +13,9 @@ use worker_state::WorkerName;
 /// For how many attempts at most a host is left alone before it is tried again.
 const LONGEST_WAIT: u64 = 64;
 
+/// From how many attempts on after the last word of a host one of its workers dials it.
+const LONGEST_SILENCE: u64 = 4;
+
 /// How many jobs, one after the other, a host may leave unserved before it is left alone.
 const MOST_UNSERVED: u32 = 3;
 
@@ -233,13 +236,14 @@ impl HostState {
         }
     }
 
-    /// What a worker does before it asks for one more job, which may have come to try the host.
-    fn before_job(self, is_trier: bool) -> BeforeJob
-        ensures { result ≡ spec.before_job (spec.reason_of self) is_trier }
+    /// What a worker does before it asks for one more job, which may have come to try the host. For long nothing may have been heard of it.
+    fn before_job(self, is_trier: bool, is_silent: bool) -> BeforeJob
+        ensures { result ≡ spec.before_job (spec.reason_of self) is_trier is_silent }
     {
         match self.reason() {
             Some(Reason::Unreachable) => BeforeJob::Dial,
             Some(Reason::Unserved) if !is_trier => BeforeJob::End,
+            _ if is_silent => BeforeJob::Dial,
             _ => BeforeJob::Ask,
         }
     }
@@ -264,13 +268,56 @@ fn news_of(before: Option<Reason>, now: Option<Reason>) -> Option<HostNews> {
     }
 }
 
+/// A host of a farm.
+#[derive(Clone, Copy)]
+struct HostEntry {
+    /// How it is.
+    state: HostState,
+    /// The attempt of the last word of it: it took a connection or served a job. Or in which a worker was last let dial it to see.
+    heard: u64,
+}
+
+impl HostEntry {
+    /// What a worker does before it asks for one more job in this attempt. Of those that find a host silent one dials it.
+    fn before_job(&mut self, worker: WorkerName, attempt: u64) -> BeforeJob {
+        let is_silent = self.heard.saturating_add(LONGEST_SILENCE) <= attempt;
+        let does = self
+            .state
+            .before_job(self.state.is_tried_by(worker), is_silent);
+        if does == BeforeJob::Dial {
+            self.heard = attempt;
+        }
+        does
+    }
+
+    /// After a connection was opened, or could not be. What is new of it.
+    fn was_dialled(&mut self, dialled: Result<(), DialError>, attempt: u64) -> Option<HostNews> {
+        let before = self.state.reason();
+        self.state = self.state.after_dial(dialled, attempt);
+        if dialled.is_ok() {
+            self.heard = attempt;
+        }
+        news_of(before, self.state.reason())
+    }
+
+    /// After a job that was served, or was not. What is new of it.
+    fn was_asked(&mut self, is_served: bool, attempt: u64) -> Option<HostNews> {
+        let before = self.state.reason();
+        self.state = self.state.after_job(is_served, attempt);
+        if is_served {
+            self.heard = attempt;
+        }
+        news_of(before, self.state.reason())
+    }
+}
+
 /// What is known of all hosts.
 #[derive(Drop)]
 struct Table {
     /// The number of the attempt that is made now, from 1.
     attempt: u64,
     /// The host of each machine.
-    hosts: Vec<HostState>,
+    hosts: Vec<HostEntry>,
 }
 
 /// Which hosts of a farm are reached. A host is left alone if a dial to it failed, unless files or memory were lacking here, until one
@@ -284,8 +331,12 @@ pub struct Hosts {
 impl Hosts {
     /// The hosts of so many machines, of which nothing is known. The only error is out of memory.
     pub fn new(alloc: Global, machines: u32) -> Result<Hosts, AllocError> {
+        let host = HostEntry {
+            state: HostState::Present(0),
+            heard: 1,
+        };
         let mut hosts = Vec::new(alloc);
-        hosts.resize(machines as usize, HostState::Present(0))?;
+        hosts.resize(machines as usize, host)?;
         Ok(Hosts {
             table: Mutex::new(Table { attempt: 1, hosts }),
         })
@@ -300,7 +351,7 @@ impl Hosts {
         let held = self.table.lock(rt);
         let mut unreached = Vec::new(alloc);
         for host in &held.hosts {
-            unreached.push(host.reason().map(Reason::name))?;
+            unreached.push(host.state.reason().map(Reason::name))?;
         }
         Ok(unreached)
     }
@@ -315,16 +366,18 @@ impl Hosts {
     pub fn may_start<R: Wait>(&self, rt: &R, machine: MachineId) -> bool {
         let held = self.table.lock(rt);
         match held.hosts.get(machine.number() as usize) {
-            Some(host) => host.may_start(held.attempt),
+            Some(host) => host.state.may_start(held.attempt),
             None => false,
         }
     }
 
-    /// What a worker of the machine does before it asks for one more job.
+    /// What a worker of the machine does before it asks for one more job. Of a host of which nothing was heard for four attempts, that it took
+    /// a connection or served a job, one worker is let dial it.
     pub fn before_job<R: Wait>(&self, rt: &R, machine: MachineId, worker: WorkerName) -> BeforeJob {
-        let held = self.table.lock(rt);
-        match held.hosts.get(machine.number() as usize) {
-            Some(host) => host.before_job(host.is_tried_by(worker)),
+        let mut held = self.table.lock(rt);
+        let attempt = held.attempt;
+        match held.hosts.get_mut(machine.number() as usize) {
+            Some(host) => host.before_job(worker, attempt),
             None => BeforeJob::End,
         }
     }
@@ -334,7 +387,7 @@ impl Hosts {
         let mut held = self.table.lock(rt);
         let attempt = held.attempt;
         if let Some(host) = held.hosts.get_mut(machine.number() as usize) {
-            *host = host.after_join(attempt);
+            host.state = host.state.after_join(attempt);
         }
     }
 
@@ -343,7 +396,7 @@ impl Hosts {
     pub fn has_started<R: Wait>(&self, rt: &R, machine: MachineId, worker: WorkerName) {
         let mut held = self.table.lock(rt);
         if let Some(host) = held.hosts.get_mut(machine.number() as usize) {
-            *host = host.after_start(worker);
+            host.state = host.state.after_start(worker);
         }
     }
 
@@ -351,7 +404,7 @@ impl Hosts {
     pub fn has_ended<R: Wait>(&self, rt: &R, machine: MachineId, worker: WorkerName) {
         let mut held = self.table.lock(rt);
         if let Some(host) = held.hosts.get_mut(machine.number() as usize) {
-            *host = host.after_end(worker);
+            host.state = host.state.after_end(worker);
         }
     }
 
@@ -366,9 +419,7 @@ impl Hosts {
         let mut held = self.table.lock(rt);
         let attempt = held.attempt;
         let host = held.hosts.get_mut(machine.number() as usize)?;
-        let before = host.reason();
-        *host = host.after_dial(dialled, attempt);
-        news_of(before, host.reason())
+        host.was_dialled(dialled, attempt)
     }
 
     /// A job was served by the host of this machine, or was not. What is new of the host.
@@ -381,8 +432,6 @@ impl Hosts {
         let mut held = self.table.lock(rt);
         let attempt = held.attempt;
         let host = held.hosts.get_mut(machine.number() as usize)?;
-        let before = host.reason();
-        *host = host.after_job(is_served, attempt);
-        news_of(before, host.reason())
+        host.was_asked(is_served, attempt)
     }
 }
