@@ -23,12 +23,12 @@ lets_go_on (Err why) = is_local why
 
 -- why a host is left alone, if it is
 abbrev pub reason_of : HostState → Option Reason
-reason_of (state.Present unserved) = None
+reason_of (state.Present presence) = None
 reason_of (state.Away absence) = Some absence.why
 
 -- the worker that tries whether it serves jobs again, if there is one
 abbrev pub trier_of : HostState → Option WorkerName
-trier_of (state.Present unserved) = None
+trier_of (state.Present presence) = None
 trier_of (state.Away absence) = absence.trier
 
 -- it asks, after a dial if nothing was heard of its host for long

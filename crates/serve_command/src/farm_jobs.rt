@@ -3,7 +3,7 @@
 use crate::farm::Farm;
 use crate::file_room::FileRoom;
 use crate::host::FarmHost;
-use crate::hosts::{HostNews, Hosts};
+use crate::hosts::{HostNews, Hosts, MachineSlot};
 use crate::job_lines::{failure_of, line_of, told_part};
 use crate::last_jobs::{AnsweredJob, LastJobs};
 use devices::DialError;
@@ -58,7 +58,12 @@ impl<'e, H: FarmHost> JobSource for FarmSource<'e, H> {
             return false;
         }
         let machine = farm.settings.machine_of(slot);
-        if !self.hosts.may_start(self.host, machine) {
+        let own = MachineSlot {
+            machine,
+            number: farm.settings.worker_number(slot),
+            of: farm.settings.workers(machine),
+        };
+        if !self.hosts.may_start(self.host, own) {
             return false;
         }
         if let Some(most) = self.files.to_look_for(self.host) {

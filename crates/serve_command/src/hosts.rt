@@ -10,6 +10,9 @@ use std::alloc::{AllocError, Global};
 use std::sync::{Mutex, Wait};
 use worker_state::WorkerName;
 
+/// For how many attempts a host is left alone before it is tried again, if it served a job before.
+const FIRST_WAIT: u64 = 1;
+
 /// For how many attempts at most a host is left alone before it is tried again.
 const LONGEST_WAIT: u64 = 64;
 
@@ -86,13 +89,43 @@ impl Absence {
     }
 }
 
+/// A host that is not left alone: all its workers may start.
+#[derive(Clone, Copy, Debug, PartialEq, Eq)]
+struct Presence {
+    /// How many jobs it left unserved since the last one that it served.
+    unserved: u32,
+    /// How many attempts pass before it is tried, once it is left alone. Only a job that is served makes them fewer.
+    wait: u64,
+}
+
+impl Presence {
+    /// That of a host that served its last job.
+    fn new() -> Presence {
+        Presence {
+            unserved: 0,
+            wait: FIRST_WAIT,
+        }
+    }
+}
+
 /// How a host is.
 #[derive(Clone, Copy, Debug, PartialEq, Eq)]
 enum HostState {
-    /// All its workers may start. It left so many jobs unserved since the last one that it served.
-    Present(u32),
+    /// It is not left alone.
+    Present(Presence),
     /// It is left alone.
     Away(Absence),
+}
+
+/// A slot of a machine.
+#[derive(Clone, Copy, Debug, PartialEq, Eq)]
+pub struct MachineSlot {
+    /// The machine.
+    pub machine: MachineId,
+    /// The slot's number among those of the machine, from 0.
+    pub number: u32,
+    /// How many slots the machine has.
+    pub of: u32,
 }
 
 /// Whether a dial that failed so says nothing of the host: this process or machine lacked what a dial needs.
@@ -118,10 +151,10 @@ impl HostState {
         ensures { spec.reason_of result ≡ Some why }
     {
         let absence = match self {
-            HostState::Present(_) => Absence {
+            HostState::Present(presence) => Absence {
                 why,
-                wait: 1,
-                due: attempt.saturating_add(1),
+                wait: presence.wait,
+                due: attempt.saturating_add(presence.wait),
                 trier: None,
             },
             HostState::Away(absence) => Absence {
@@ -153,9 +186,10 @@ impl HostState {
             HostState::Away(
                 Absence {
                     why: Reason::Unreachable,
+                    wait,
                     ..
                 },
-            ) => HostState::Present(0),
+            ) => HostState::Present(Presence { unserved: 0, wait }),
             state => state,
         }
     }
@@ -163,27 +197,38 @@ impl HostState {
     /// After a job that was served, or was not.
     fn after_job(self, is_served: bool, attempt: u64) -> HostState {
         match self {
-            _ if is_served => HostState::Present(0),
-            HostState::Present(unserved) if unserved < MOST_UNSERVED - 1 => {
-                HostState::Present(unserved + 1)
+            _ if is_served => HostState::Present(Presence::new()),
+            HostState::Present(presence) if presence.unserved < MOST_UNSERVED - 1 => {
+                HostState::Present(Presence {
+                    unserved: presence.unserved + 1,
+                    ..presence
+                })
             }
             HostState::Present(_) => self.away(Reason::Unserved, attempt),
             state => state,
         }
     }
 
-    /// Whether a worker may start. One that tries the host may have no job and so learn nothing: after the longest wait another may start
-    /// beside it.
-    fn may_start(self, attempt: u64) -> bool {
+    /// From which attempt on one worker may start to try it. None if all may start. One that tries it may have no job and so learn nothing:
+    /// after the longest wait another may start beside it.
+    fn next_try(self) -> Option<u64> {
         match self {
-            HostState::Present(_) => true,
+            HostState::Present(_) => None,
             HostState::Away(absence) => {
                 let wait = match absence.trier {
                     Some(_) => LONGEST_WAIT,
                     None => 0,
                 };
-                absence.due.saturating_add(wait) <= attempt
+                Some(absence.due.saturating_add(wait))
             }
+        }
+    }
+
+    /// Whether a worker that joins now comes to try it.
+    fn is_tried_in(self, attempt: u64) -> bool {
+        match self {
+            HostState::Present(_) => false,
+            HostState::Away(absence) => absence.due <= attempt,
         }
     }
 
@@ -192,7 +237,7 @@ impl HostState {
         ensures { spec.reason_of result ≡ spec.reason_of self }
     {
         match self {
-            HostState::Present(unserved) => HostState::Present(unserved),
+            HostState::Present(presence) => HostState::Present(presence),
             HostState::Away(absence) => HostState::Away(absence.after_join(attempt)),
         }
     }
@@ -275,9 +320,29 @@ struct HostEntry {
     state: HostState,
     /// The attempt of the last word of it: it took a connection or served a job. Or in which a worker was last let dial it to see.
     heard: u64,
+    /// How many workers came to try it.
+    tries: u64,
 }
 
 impl HostEntry {
+    /// Whether a worker of this slot may start in this attempt. Tries go round the slots, since each can have only so many workers. If the
+    /// slot whose turn it is has a worker, any may have the try an attempt later.
+    fn may_start(&self, slot: MachineSlot, attempt: u64) -> bool {
+        let Some(due) = self.state.next_try() else {
+            return true;
+        };
+        let turn = self.tries.checked_rem(slot.of as u64);
+        due < attempt || (due == attempt && turn == Some(slot.number as u64))
+    }
+
+    /// After a worker joined in this attempt.
+    fn has_joined(&mut self, attempt: u64) {
+        if self.state.is_tried_in(attempt) {
+            self.tries = self.tries.saturating_add(1);
+        }
+        self.state = self.state.after_join(attempt);
+    }
+
     /// What a worker does before it asks for one more job in this attempt. Of those that find a host silent one dials it.
     fn before_job(&mut self, worker: WorkerName, attempt: u64) -> BeforeJob {
         let is_silent = self.heard.saturating_add(LONGEST_SILENCE) <= attempt;
@@ -332,8 +397,9 @@ impl Hosts {
     /// The hosts of so many machines, of which nothing is known. The only error is out of memory.
     pub fn new(alloc: Global, machines: u32) -> Result<Hosts, AllocError> {
         let host = HostEntry {
-            state: HostState::Present(0),
+            state: HostState::Present(Presence::new()),
             heard: 1,
+            tries: 0,
         };
         let mut hosts = Vec::new(alloc);
         hosts.resize(machines as usize, host)?;
@@ -362,11 +428,12 @@ impl Hosts {
         held.attempt = held.attempt.saturating_add(1);
     }
 
-    /// Whether a worker of the machine may start now: if its host is not left alone, or is to be tried again.
-    pub fn may_start<R: Wait>(&self, rt: &R, machine: MachineId) -> bool {
+    /// Whether a worker of this slot may start now: if its machine's host is not left alone, or is to be tried again and it is the slot's
+    /// turn.
+    pub fn may_start<R: Wait>(&self, rt: &R, slot: MachineSlot) -> bool {
         let held = self.table.lock(rt);
-        match held.hosts.get(machine.number() as usize) {
-            Some(host) => host.state.may_start(held.attempt),
+        match held.hosts.get(slot.machine.number() as usize) {
+            Some(host) => host.may_start(slot, held.attempt),
             None => false,
         }
     }
@@ -387,7 +454,7 @@ impl Hosts {
         let mut held = self.table.lock(rt);
         let attempt = held.attempt;
         if let Some(host) = held.hosts.get_mut(machine.number() as usize) {
-            host.state = host.state.after_join(attempt);
+            host.has_joined(attempt);
         }
     }
 

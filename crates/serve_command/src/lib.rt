@@ -18,7 +18,7 @@ pub use farm::{Farm, FarmTexts};
 pub use farm_jobs::{FarmJobs, FarmSource};
 pub use file_room::{FileNews, FileRoom};
 pub use host::FarmHost;
-pub use hosts::{BeforeJob, HostNews, Hosts, Reason};
+pub use hosts::{BeforeJob, HostNews, Hosts, MachineSlot, Reason};
 pub use job_lines::{Uncompleted, failure_line, lost_job, uncompleted_job, why_not_completed};
 pub use last_jobs::{AnsweredJob, LastJobs};
 pub use line_queue::{LineQueue, Taken, write_lines};
