@@ -43,8 +43,8 @@ LOOKUP_S = 3
 # A report has to be taken in so many milliseconds. A job has so many bytes at most.
 REPORT_MS, MOST_BYTES = 8000, 16_000_000
 
-# So many descriptors are too few for all workers, each of which takes two.
-FEW = 22
+# So many descriptors are too few for all workers, each of which takes two, beside the 64 that are left for the peers of the page.
+FEW = 86
 
 # What Linux calls a network interface that is up, and the request for it.
 IFF_UP, SIOCSIFFLAGS = 1, 0x8914

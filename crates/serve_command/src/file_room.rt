@@ -7,8 +7,8 @@ use std::sync::{Mutex, Wait};
 /// How many files a worker takes: one for its link to the job server, and one for the connection to its service.
 const OF_WORKER: u32 = 2;
 
-/// How many files workers leave free: one for the status of an attempt, and some for look-ups and the peers of the page. Those that dial a
-/// host again take some of these for a moment.
+/// How many files workers leave free beside those for the peers of the page: one for the status of an attempt, and some for look-ups. Those
+/// that dial a host again take some of these for a moment.
 const LEFT_FREE: u32 = 8;
 
 /// For how many workers files are looked for first in an attempt, and then for twice as many each time. In the first attempt, in which all
@@ -34,18 +34,21 @@ impl FileNews {
     }
 }
 
-/// How many workers may start if so many files are free, and so many of those that started have a connection to open yet.
-fn workers_for(free: u32, opening: u32) -> u32
-    ensures leaves { 0 < result → 2 * result + opening + 8 ≤ free }
+/// How many workers may start if so many files are free, and so many of those that started have a connection to open yet, beside so many
+/// peers of the page.
+fn workers_for(free: u32, opening: u32, peers: u32) -> u32
+    ensures leaves { 0 < result → 2 * result + opening + peers + 8 ≤ free }
 {
-    free.saturating_sub(LEFT_FREE).saturating_sub(opening) / OF_WORKER
+    let left = free.saturating_sub(LEFT_FREE).saturating_sub(peers);
+    left.saturating_sub(opening) / OF_WORKER
 }
 
-/// How many files so many workers need to start beside those that have a connection to open yet.
-fn files_for(workers: u32, opening: u32) -> u32 {
+/// How many files so many workers need to start beside those that have a connection to open yet, and beside so many peers of the page.
+fn files_for(workers: u32, opening: u32, peers: u32) -> u32 {
     workers
         .saturating_mul(OF_WORKER)
         .saturating_add(opening)
+        .saturating_add(peers)
         .saturating_add(LEFT_FREE)
 }
 
@@ -63,6 +66,8 @@ enum Starts {
 /// What is known of the files in this attempt.
 #[derive(Drop)]
 struct Known {
+    /// How many peers the page may have at once.
+    peers: u32,
     /// How many workers have started.
     started: u64,
     /// How many of them have opened a connection to their service, or could not.
@@ -90,7 +95,7 @@ impl Known {
             return None;
         }
         let workers = self.next_look?;
-        Some(files_for(workers, self.opening()))
+        Some(files_for(workers, self.opening(), self.peers))
     }
 
     /// So many files were looked for, and so many are free.
@@ -99,8 +104,8 @@ impl Known {
             return;
         };
         // As many as before the look: a connection that is opened during it may be after the file was counted as free.
-        let opening = most.saturating_sub(files_for(workers, 0));
-        self.may_start = workers_for(free, opening);
+        let opening = most.saturating_sub(files_for(workers, 0, self.peers));
+        self.may_start = workers_for(free, opening, self.peers);
         self.next_look = if free >= most {
             Some(workers.saturating_mul(2))
         } else {
@@ -144,10 +149,11 @@ pub struct FileRoom {
 }
 
 impl FileRoom {
-    /// That of a farm before its first attempt, in which so many workers start at most.
-    pub fn new(workers: u32) -> FileRoom {
+    /// That of a farm before its first attempt, in which so many workers start at most. Its page may have so many peers at once.
+    pub fn new(workers: u32, peers: u32) -> FileRoom {
         FileRoom {
             known: Mutex::new(Known {
+                peers,
                 started: 0,
                 opened: 0,
                 may_start: 0,

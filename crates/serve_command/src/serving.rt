@@ -21,6 +21,9 @@ use std::alloc::{AllocError, Global};
 /// For how many milliseconds more than workers may take to end a drain waits for the end of the farm.
 const DRAIN_MS: u32 = 60_000;
 
+/// How many peers a page has at once, each of which takes a file.
+const PEERS: u32 = 64;
+
 /// A farm that ended.
 #[derive(Drop)]
 pub struct FarmEnd {
@@ -63,7 +66,8 @@ fn run_until_end<'x, H: FarmHost>(
     let hosts = Hosts::new(alloc, settings.machines())?;
     let tally = Tally::new(alloc, settings.functions())?;
     let last_jobs = LastJobs::new(alloc, settings.slots())?;
-    let files = FileRoom::new(settings.slots());
+    let peers = farm.services.page().map_or(0, |_| PEERS);
+    let files = FileRoom::new(settings.slots(), peers);
     let source = FarmSource {
         host,
         alloc,
