@@ -22,7 +22,7 @@ use Rattle.clap.specs.declared.parser.matches.Found.{Found}
 use Rattle.clap.proofs.CallerLemmas.{added_plain}
 use Rattle.clap.proofs.CallerReads.{required_reads, signed_reads}
 use Rattle.clap.proofs.WalkLemmas.{one_text-rows}
-use Rattle.command_words.specs.Words.{decimal}
+use Rattle.command_words.specs.Words.{number_in}
 use Rattle.command_words.proofs.Chain.{Differ}
 
 -- no argument of the two but the second has the second's id
@@ -68,23 +68,23 @@ second_reads start mid cmd a b m one two args groups globals negates a_fits b_fi
     )
 
 -- what `get_one` reads of a text is the number of its digits
-read_is_decimal : {E : Type 0} (G : List ℕ → Result ℕ E → Type 0) (k : ℕ) (u : List ℕ) (n : ℕ)
-    → ((w : List ℕ) (x : Result ℕ E) → G w x → ParsesUnsigned k 10 w x) → ReadsOne G u (Some n) → n ≡ decimal u
-read_is_decimal G k u n only read = (only u (Ok n) read).1
+read_is_number : {E : Type 0} (G : List ℕ → Result ℕ E → Type 0) (k : ℕ) (u : List ℕ) (n : ℕ)
+    → ((w : List ℕ) (x : Result ℕ E) → G w x → ParsesUnsigned k 10 w x) → ReadsOne G u (Some n) → n ≡ number_in u
+read_is_number G k u n only read = (only u (Ok n) read).1
 
 -- `get_one` of an operand whose text passed a range without negative numbers gives a number in the range, that of the text
 pub number_given : {E : Type 0} (G : List ℕ → Result ℕ E → Type 0) (k low high : ℕ) (f : Found) (id t : List ℕ) (r : Option ℕ)
     → ((u : List ℕ) → one_text f id ≡ Some u → ReadsOne G u r)
     → ((w : List ℕ) (x : Result ℕ E) → G w x → ParsesUnsigned k 10 w x) → high < 2 ^ k
     → one_text f id ≡ Some (without_minus t) → IsSignedIn (pos low) (pos high) t
-    → (n : ℕ) × (r ≡ Some n) × (low ≤ n) × (n ≤ high) × (option_map decimal (one_of id (rows_of f)) ≡ Some n)
+    → (n : ℕ) × (r ≡ Some n) × (low ≤ n) × (n ≤ high) × (option_map number_in (one_of id (rows_of f)) ≡ Some n)
 number_given {E} G k low high f id t r reads only small text passed =
     let read = reads (without_minus t) text in
     let got = signed_reads E G k low high t r read only small passed in
-    let is : got.0 ≡ decimal (without_minus t) = read_is_decimal G k (without_minus t) got.0 only (subst (ReadsOne G (without_minus t)) got.1 read) in (
+    let is : got.0 ≡ number_in (without_minus t) = read_is_number G k (without_minus t) got.0 only (subst (ReadsOne G (without_minus t)) got.1 read) in (
       got.0,
       got.1,
       got.2,
       got.3,
-      ap (option_map decimal) (sym (one_text-rows f id) ∙ text) ∙ ap (λ n. Some n) (sym is),
+      ap (option_map number_in) (sym (one_text-rows f id) ∙ text) ∙ ap (λ n. Some n) (sym is),
     )

@@ -58,7 +58,7 @@ rounds = codes "ROUNDS"
 abbrev pub backlog : Text
 backlog = codes "BACKLOG"
 
--- how many rounds a run may have, at least and at most
+-- how many attempts to plan a run may have, at least and at most
 abbrev pub least_rounds : ℕ
 least_rounds = 1
 
@@ -107,7 +107,7 @@ serve_app = with_rules (new_app (codes "serve")) (operand settings ∷ operand s
 abbrev pub drain_app : App
 drain_app = with_rules (new_app (codes "drain")) (operand services ∷ [])
 
--- a command with its texts, a size with the level that is asked for, a run with its number of rounds, and `serve` with its flag
+-- a command with its texts, a size with the level that is asked for, a run with its number of attempts, and `serve` with its flag
 pub data Named : Type 0 where
   plan : Text → List Text → Named
   check : Text → Text → List Text → Named
@@ -168,12 +168,12 @@ abbrev pub settings_in : List Row → Option Named
 settings_in rows = option_map (λ s. show_settings s (first_of services rows)) (first_of settings rows)
 
 -- the number that a text writes in decimal digits, of which a `+` may come first
-abbrev pub decimal : Text → ℕ
-decimal text = digits_value 10 (without_leading_plus text)
+abbrev pub number_in : Text → ℕ
+number_in text = digits_value 10 (without_leading_plus text)
 
 -- the rounds of a run's matches: the number of the word for them
 abbrev pub rounds_in : List Row → Option ℕ
-rounds_in rows = option_map decimal (one_of rounds rows)
+rounds_in rows = option_map number_in (one_of rounds rows)
 
 abbrev pub run_of : List Row → Text → Option Named
 run_of rows s = option_map (run s) (rounds_in rows)

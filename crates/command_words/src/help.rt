@@ -9,25 +9,25 @@ pub struct Help {
 }
 
 pub const PLAN: Help = Help {
-    about: "Reads a status text and prints the best plan, with what shows it",
+    about: "Reads a status text and prints the best plan, with evidence that no plan is better",
     usage: "poolman plan SETTINGS [LOST]... < STATUS",
     example: "Example: poolman plan settings.toml b/0 < status.txt",
 };
 
 pub const CHECK: Help = Help {
-    about: "Reads a report and says whether it is shown, by the settings and the status text alone",
+    about: "Reads a report and checks its evidence by the settings and the status text alone",
     usage: "poolman check SETTINGS STATUS [LOST]... < REPORT",
     example: "Example: poolman check settings.toml status.txt b/0 < report.txt",
 };
 
 pub const SIZE: Help = Help {
-    about: "Reads a status text and prints how many workers have to be added, and where, with what shows it",
+    about: "Reads a status text and prints how many workers are missing, and where, with evidence that fewer will not do",
     usage: "poolman size SETTINGS BACKLOG [LOST]... < STATUS",
     example: "Example: poolman size settings.toml 4 < status.txt",
 };
 
 pub const CHECK_SIZE: Help = Help {
-    about: "Reads a size and says whether it is shown, by the settings and the status text alone",
+    about: "Reads a size and checks its evidence by the settings and the status text alone",
     usage: "poolman check-size SETTINGS STATUS BACKLOG [LOST]... < SIZE",
     example: "Example: poolman check-size settings.toml status.txt 4 < size.txt",
 };
@@ -39,19 +39,19 @@ pub const REPLAY: Help = Help {
 };
 
 pub const SETTINGS: Help = Help {
-    about: "Reads a settings file, and a services file if one is named, and prints what they mean, or where the first fault is",
+    about: "Reads a settings file and prints what it means, or where its first fault is; with a services file, what both mean",
     usage: "poolman settings SETTINGS [SERVICES]",
     example: "Example: poolman settings settings.toml services.toml",
 };
 
 pub const RUN: Help = Help {
-    about: "Keeps workers on the functions that need them, for ROUNDS rounds, and accounts for each job",
+    about: "Keeps workers at a job server for ROUNDS attempts to plan, and accounts for each job",
     usage: "poolman run SETTINGS ROUNDS",
     example: "Example: poolman run settings.toml 3600",
 };
 
 pub const SERVE: Help = Help {
-    about: "Keeps the functions of a job server served by the services of a farm, until it is told to stop",
+    about: "Keeps workers at a job server, whose jobs your services do over HTTP, until it is told to stop",
     usage: "poolman serve SETTINGS SERVICES [--until-input]",
     example: "Example: poolman serve settings.toml services.toml",
 };

@@ -140,7 +140,7 @@ fn status<'a>(alloc: Global) -> Arg<'a>
     operand(
         alloc,
         "STATUS",
-        "The status text that the report was made from",
+        "The file with the status text that was planned for",
     )
 }
 
@@ -181,7 +181,7 @@ fn rounds<'a>(alloc: Global) -> Arg<'a>
     operand(
         alloc,
         "ROUNDS",
-        "How many rounds, a whole number from 1 to 65536",
+        "How many attempts to plan, a whole number from 1 to 65536",
     )
     .value_parser(value_parser!(u32).range(1..=65536))
 }
