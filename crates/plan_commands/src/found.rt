@@ -8,7 +8,8 @@ use toml::{Table, Value};
 const LONGEST_TEXT: usize = 255;
 
 /// What a settings file has where its mistake is, in words, as far as it helps to mend it: a number as it is, another value by its kind,
-/// and of a text that is not TOML why it is not. The only error is out of memory.
+/// and of a text that is not TOML why it is not. If there is no memory for the words there are none, since the mistake is known without
+/// them.
 ///
 /// The text is read once more, which happens only for a file with a mistake.
 pub fn found(
@@ -16,33 +17,25 @@ pub fn found(
     settings_text: &[u8],
     error: SettingsError,
     place: &Place<String>,
-) -> Result<Option<String>, AllocError> {
+) -> Option<String> {
     match error {
         SettingsError::Text => why_not_toml(alloc, settings_text),
         SettingsError::BadValue => value_in_words(alloc, settings_text, place),
-        _ => Ok(None),
+        _ => None,
     }
 }
 
-fn why_not_toml(alloc: Global, settings_text: &[u8]) -> Result<Option<String>, AllocError> {
+fn why_not_toml(alloc: Global, settings_text: &[u8]) -> Option<String> {
     match toml::table_from_slice(alloc, settings_text) {
-        Ok(_) => Ok(None),
-        Err(error) => Ok(Some(String::from_str(alloc, error.message())?)),
+        Err(error) if !error.is_memory() => String::from_str(alloc, error.message()).ok(),
+        _ => None,
     }
 }
 
-fn value_in_words(
-    alloc: Global,
-    settings_text: &[u8],
-    place: &Place<String>,
-) -> Result<Option<String>, AllocError> {
-    let Ok(tree) = toml::table_from_slice(alloc, settings_text) else {
-        return Ok(None);
-    };
-    match value_at(&tree, place) {
-        Some(value) => Ok(Some(words(alloc, value)?)),
-        None => Ok(None),
-    }
+fn value_in_words(alloc: Global, settings_text: &[u8], place: &Place<String>) -> Option<String> {
+    let tree = toml::table_from_slice(alloc, settings_text).ok()?;
+    let value = value_at(&tree, place)?;
+    words(alloc, value, place).ok()
 }
 
 /// The value at a place, if one value is there.
@@ -66,23 +59,32 @@ fn entry<'t>(tree: &'t Table, section: Section, name: &str) -> Option<&'t Value>
     tree.get(key)?.as_table()?.get(name)
 }
 
-fn words(alloc: Global, value: &Value) -> Result<String, AllocError> {
+fn words(alloc: Global, value: &Value, place: &Place<String>) -> Result<String, AllocError> {
     if let Some(number) = value.as_integer() {
         return format!(in alloc; "{number}");
     }
-    String::from_str(alloc, kind(value))
+    String::from_str(alloc, kind(value, place))
 }
 
-fn kind(value: &Value) -> &'static str {
+/// Whether a list is wanted here: the functions of a machine.
+fn wants_list(place: &Place<String>) -> bool {
+    match place {
+        Place::EntryKey(Section::Machines, _, key) => key.as_str() == "functions",
+        _ => false,
+    }
+}
+
+fn kind(value: &Value, place: &Place<String>) -> &'static str {
     match value {
         Value::Integer(_) => "a number",
         Value::String(text) if text.is_empty() => "an empty text",
         Value::String(text) if text.len() > LONGEST_TEXT => "a text of more than 255 bytes",
         Value::String(_) => "a text",
-        Value::Float(_) => "a number with a point",
+        Value::Float(_) => "a float",
         Value::Boolean(_) => "true or false",
         Value::Datetime(_) => "a date or a time",
-        Value::Array(_) => "a list with other values",
+        Value::Array(_) if wants_list(place) => "a list with other values",
+        Value::Array(_) => "a list",
         Value::Table(_) => "a table",
     }
 }

@@ -17,7 +17,7 @@ pub struct Mistake {
     pub error: SettingsError,
     /// Where in the file that is.
     pub place: Place<String>,
-    /// What the file has there, in words, if that is known.
+    /// What the file has there, in words, if that is known and there was memory for it.
     pub found: Option<String>,
 }
 
@@ -39,17 +39,17 @@ impl Mistake {
         })
     }
 
-    /// The mistake, with what this text of the file has at its place. The only error is out of memory.
-    pub fn with_found(self, alloc: Global, settings_text: &[u8]) -> Result<Mistake, AllocError>
-        ensures same { IfOk result (λ more. mistake_view more ≡ mistake_view self) }
+    /// The mistake, with what this text of the file has at its place, if there is memory for it.
+    pub fn with_found(self, alloc: Global, settings_text: &[u8]) -> Mistake
+        ensures same { mistake_view result ≡ mistake_view self }
     {
         let Mistake { error, place, .. } = self;
-        let found = found(alloc, settings_text, error, &place)?;
-        Ok(Mistake {
+        let found = found(alloc, settings_text, error, &place);
+        Mistake {
             error,
             place,
             found,
-        })
+        }
     }
 
     /// The place, which lends its texts.

@@ -47,10 +47,7 @@ fn fault_in(alloc: Global, settings_text: &[u8], fault: &SettingsFault<'_>) -> F
     ensures { spec.Keeps fault.now result }
 {
     match Fault::of_settings(alloc, fault) {
-        Fault::Settings(mistake) => match mistake.with_found(alloc, settings_text) {
-            Ok(mistake) => Fault::Settings(mistake),
-            Err(_) => Fault::Memory,
-        },
+        Fault::Settings(mistake) => Fault::Settings(mistake.with_found(alloc, settings_text)),
         other => other,
     }
 }

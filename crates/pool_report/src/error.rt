@@ -13,7 +13,7 @@ pub enum ReadError {
     /// This line has not the shape of a line of a report, is out of its place or order, or comes
     /// after `end`. A machine or function of a name that no settings can have, as one of 65 bytes, is a wrong
     /// shape; a worker or function that is not above the one before it is out of order.
-    #[error("line {0} is no line of a report, or out of its place")]
+    #[error("line {0} is no line of such a text, or out of its place")]
     BadLine(u64),
     /// This line is in its place, and its worker or function is none of the settings.
     #[error("line {0} names a worker or function that the settings do not have")]

@@ -1,15 +1,14 @@
 -- What settings mean, as lines of one fact each.
 use Rattle.std.specs.Prelude.{ℕ, List, [], ◌++◌, codes, ◌==◌, length, slice_index, slice_index_or, unwrap_or, Bool, if◌then◌else◌}
-use Rattle.std.specs.List.{flat_map, list_all, list_any, range_with_len}
-use Rattle.std.specs.Char.{is_ascii_graphic}
+use Rattle.std.specs.List.{flat_map, list_any, range_with_len}
 use Rattle.std.specs.Fmt.{decimal}
 use Rattle.toml.specs.Data.{Members}
-use Rattle.toml_writer.specs.Text.{key_text}
 use Rattle.pool_settings.specs.Names.{name_at}
 use Rattle.pool_settings.specs.Settings.{Settings}
 use Rattle.pool_settings.specs.Reading.{function_has_key, has_key, history_key, job_timeout_key, least_key, lull_key, max_runs_key}
 use Rattle.pool_settings.specs.Reading.{most_key, round_key, server_key, version_in, version_key}
 use Rattle.pool_settings.specs.Rows.{may_do}
+use Rattle.settings_command.specs.Place.{printable}
 use Rattle.text_pieces.specs.Lines.{ended}
 
 -- a value that the file does not give is a default
@@ -19,12 +18,8 @@ mark is_given = if is_given then [] else codes " (default)"
 abbrev pub number_line : List ℕ → ℕ → List ℕ
 number_line key number = ended (key ++ codes " " ++ decimal number)
 
--- the server, and in quotes, as TOML writes a key, where a byte is not printable
-unfoldable pub server_words : List ℕ → List ℕ
-server_words server = if list_all is_ascii_graphic server then server else key_text server
-
 abbrev pub server_line : Bool → List ℕ → List ℕ
-server_line is_given server = ended (codes "server " ++ server_words server ++ mark is_given)
+server_line is_given server = ended (codes "server " ++ printable server ++ mark is_given)
 
 abbrev pub key_line : Members → List ℕ → ℕ → List ℕ
 key_line tree key number = ended (key ++ codes " " ++ decimal number ++ mark (has_key key tree))

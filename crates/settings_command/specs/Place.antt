@@ -1,6 +1,8 @@
 -- Where a fault of a settings file or a services file is, as a line.
-use Rattle.std.specs.Prelude.{ℕ, List, [], ◌∷◌, ◌++◌, codes}
+use Rattle.std.specs.Prelude.{ℕ, List, [], ◌∷◌, ◌++◌, codes, if◌then◌else◌}
+use Rattle.std.specs.Char.{is_ascii_graphic}
 use Rattle.std.specs.Fmt.{decimal}
+use Rattle.std.specs.List.{list_all}
 use Rattle.toml_writer.specs.Text.{key_text}
 use Rattle.pool_settings.specs.declared.place.Counted.{Counted}
 use Rattle.pool_settings.specs.declared.place.Counted.TheVariants as counted
@@ -19,6 +21,10 @@ abbrev pub counted_name : Counted → List ℕ
 counted_name counted.Machines = codes "machines"
 counted_name counted.Functions = codes "functions"
 counted_name counted.Workers = codes "workers"
+
+-- a text as it is, or in quotes, as TOML writes a key, if a byte of it is not printable
+unfoldable pub printable : List ℕ → List ℕ
+printable text = if list_all is_ascii_graphic text then text else key_text text
 
 -- the name of a function or a machine in its table
 unfoldable pub entry_words : Section → List ℕ → List ℕ

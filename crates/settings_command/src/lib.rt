@@ -14,7 +14,7 @@ mod services_place;
 mod settings;
 
 pub use meaning::meaning_text;
-pub use place::place_text;
+pub use place::{place_text, push_printable};
 pub use served::farm_text;
 pub use services_place::services_place_text;
 pub use settings::settings_text;

@@ -1,12 +1,11 @@
 //! What settings mean, as lines of one fact each.
 
 ghost use Rattle.std.specs.Prelude.{◌≡◌, ◌++◌, ◌<◌, IfOk, OnOk, length, string_bytes};
-ghost use Rattle.std.specs.Char.{is_ascii_graphic};
-ghost use Rattle.std.specs.List.{flat_map, list_all};
+ghost use Rattle.std.specs.List.{flat_map};
 ghost use Rattle.toml.specs.View.{table_view};
 ghost use Rattle.settings_command.specs.Meaning as spec;
 
-use crate::place::push_key;
+use crate::place::push_printable;
 use crate::remarks::push_remarks;
 use plan_model::{FuncId, MachineId};
 use pool_settings::{Settings, SettingsFile};
@@ -33,29 +32,11 @@ fn push_number(
     write!(out, "{key} {number}{mark}\n")
 }
 
-fn is_printable(text: &str) -> bool
-    ensures { result ≡ list_all is_ascii_graphic text.now }
-{
-    text.as_bytes().iter().all(|byte| byte.is_ascii_graphic())
-}
-
-/// The server, and in quotes, as TOML writes a key, if a byte is not printable.
-#[tactic(auto, unfolding(crate::specs::Meaning::server_words))]
-fn push_server_words(out: &mut String, server: &str) -> Result<(), AllocError>
-    ensures { OnOk result (string_bytes out.new ≡ string_bytes out.old ++ spec.server_words server.now) }
-{
-    if is_printable(server) {
-        out.push_str(server)
-    } else {
-        push_key(out, server)
-    }
-}
-
 fn push_server_line(out: &mut String, server: &str, is_given: bool) -> Result<(), AllocError>
     ensures { OnOk result (string_bytes out.new ≡ string_bytes out.old ++ spec.server_line is_given server.now) }
 {
     out.push_str("server ")?;
-    push_server_words(out, server)?;
+    push_printable(out, server)?;
     out.push_str(mark(is_given))?;
     out.push_str("\n")
 }

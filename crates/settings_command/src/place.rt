@@ -1,6 +1,8 @@
 //! Where a fault of a settings file is, as a line.
 
 ghost use Rattle.std.specs.Prelude.{◌≡◌, ◌++◌, [], ◌∷◌, IfOk, OnOk, Some, codes, string_bytes};
+ghost use Rattle.std.specs.Char.{is_ascii_graphic};
+ghost use Rattle.std.specs.List.{list_all};
 ghost use Rattle.pool_settings.specs.Place.{place_view};
 ghost use Rattle.toml_writer.specs.Text.{key_text};
 ghost use Rattle.settings_command.specs.Place as spec;
@@ -49,6 +51,25 @@ pub(crate) fn push_key(out: &mut String, key: &str) -> Result<(), AllocError>
     ensures { OnOk result (string_bytes out.new ≡ string_bytes out.old ++ key_text key.now) }
 {
     write!(out, "{}", Key { text: key })
+}
+
+fn is_printable(text: &str) -> bool
+    ensures { result ≡ list_all is_ascii_graphic text.now }
+{
+    text.as_bytes().iter().all(|byte| byte.is_ascii_graphic())
+}
+
+/// Adds a text as it is, or in quotes, as TOML writes a key, if a byte of it is not a visible character of ASCII. So a line stays one line
+/// whatever the text holds. The only error is out of memory.
+#[tactic(auto, unfolding(crate::specs::Place::printable))]
+pub fn push_printable(out: &mut String, text: &str) -> Result<(), AllocError>
+    ensures { OnOk result (string_bytes out.new ≡ string_bytes out.old ++ spec.printable text.now) }
+{
+    if is_printable(text) {
+        out.push_str(text)
+    } else {
+        push_key(out, text)
+    }
 }
 
 /// The name of a function or a machine in its table.

@@ -51,7 +51,7 @@ fn located(
     ensures mistake { IfOk result (λ both. mistake_view both.1 ≡ (error, place_view (λ t. t.now) place.now)) }
 {
     let line = place_text(alloc, place)?;
-    let mistake = Mistake::new(alloc, error, place)?.with_found(alloc, settings_text)?;
+    let mistake = Mistake::new(alloc, error, place)?.with_found(alloc, settings_text);
     Ok((line, mistake))
 }
 
