@@ -1,6 +1,6 @@
 //! What a command was given, by its names.
 
-ghost use Rattle.std.specs.Prelude.{◌≡◌, [], get_or};
+ghost use Rattle.std.specs.Prelude.{◌≡◌};
 ghost use Rattle.fault_detail.specs.Detail as spec;
 
 use plan_commands::{Fault, NamedFile};
@@ -18,50 +18,61 @@ pub struct Given<'a> {
     pub lost: &'a [&'a str],
 }
 
+/// What a fault is about.
+#[derive(Clone, Copy)]
+pub enum Subject<'a> {
+    /// A file or a lost worker, by the name that the command was given.
+    Named(&'a str),
+    /// What has no name on the command line, in words.
+    Unnamed(&'static str),
+}
+
 impl<'a> Given<'a> {
     /// What the fault is about: a file by its name, a lost worker by its name, a standard stream, or the page of a farm.
-    pub fn subject(&self, fault: &Fault) -> &'a str
-        ensures { result.now ≡ spec.subject (spec.names_of self.now) fault.now }
+    pub fn subject(&self, fault: &Fault) -> Subject<'a>
+        ensures { spec.subject_words result ≡ spec.subject (spec.names_of self.now) fault.now }
     {
         match fault {
-            Fault::Settings(_) | Fault::File(NamedFile::Settings, _) => self.settings,
-            Fault::Services(_) | Fault::File(NamedFile::Services, _) => self.services_name(),
-            Fault::Status(_) | Fault::File(NamedFile::Status, _) => self.status_name(),
-            Fault::UnknownWorker(place) => self.lost_name(*place),
-            Fault::WriteFault => "standard output",
-            Fault::Page(_) => "the page",
-            Fault::Memory => "memory",
+            Fault::Settings(_) | Fault::File(NamedFile::Settings, _) => {
+                Subject::Named(self.settings)
+            }
+            Fault::Services(_) | Fault::File(NamedFile::Services, _) => self.services_file(),
+            Fault::Status(_) | Fault::File(NamedFile::Status, _) => self.status_text(),
+            Fault::UnknownWorker(place) => self.lost_worker(*place),
+            Fault::WriteFault => Subject::Unnamed("standard output"),
+            Fault::Page(_) => Subject::Unnamed("the page"),
+            Fault::Memory => Subject::Unnamed("memory"),
             Fault::Report(_) | Fault::BadCommand(_) | Fault::TooLong | Fault::ReadFault => {
-                "standard input"
+                Subject::Unnamed("standard input")
             }
         }
     }
 
-    fn services_name(&self) -> &'a str
-        ensures { result.now ≡ spec.services_name (spec.names_of self.now) }
+    fn services_file(&self) -> Subject<'a>
+        ensures { spec.subject_words result ≡ spec.services_words (spec.names_of self.now) }
     {
         match self.services {
-            Some(name) => name,
-            None => "the services file",
+            Some(name) => Subject::Named(name),
+            None => Subject::Unnamed("the services file"),
         }
     }
 
-    fn status_name(&self) -> &'a str
-        ensures { result.now ≡ spec.status_name (spec.names_of self.now) }
+    fn status_text(&self) -> Subject<'a>
+        ensures { spec.subject_words result ≡ spec.status_words (spec.names_of self.now) }
     {
         match self.status {
-            Some(name) => name,
-            None => "standard input",
+            Some(name) => Subject::Named(name),
+            None => Subject::Unnamed("standard input"),
         }
     }
 
-    /// The name of the lost worker at this place, and the empty text after the last.
-    fn lost_name(&self, place: usize) -> &'a str
-        ensures { result.now ≡ get_or (spec.names_of self.now).lost place [] }
+    /// The lost worker at this place, and the empty name after the last.
+    fn lost_worker(&self, place: usize) -> Subject<'a>
+        ensures { spec.subject_words result ≡ spec.lost_words place (spec.names_of self.now) }
     {
         match self.lost.get(place) {
-            Some(name) => *name,
-            None => "",
+            Some(name) => Subject::Named(*name),
+            None => Subject::Named(""),
         }
     }
 }
