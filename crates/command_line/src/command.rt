@@ -53,12 +53,12 @@ pub enum Command<'a> {
         settings: &'a str,
         services: Option<&'a str>,
     },
-    /// `run SETTINGS ROUNDS`: keeps workers on the functions that need them, for 1 to 65,536 rounds.
+    /// `run SETTINGS ROUNDS`: keeps workers at a job server, for 1 to 65,536 attempts to plan.
     Run {
         settings: &'a str,
         rounds: u32,
     },
-    /// `serve SETTINGS SERVICES [--until-input]`: keeps the functions of a job server served by the services of a farm, until it is told to
+    /// `serve SETTINGS SERVICES [--until-input]`: keeps workers at a job server, whose jobs services do over HTTP, until it is told to
     /// stop. With the flag it ends when standard input does, too.
     Serve {
         settings: &'a str,
