@@ -34,14 +34,15 @@ pub struct FarmEnd {
 }
 
 /// How many milliseconds workers may take to end: to open a connection, to do a job, and to write its answer and what comes after it. A job
-/// may end as late as its time after its deadline, since a write that its service does not read may take so long.
+/// may end as late as its time after its deadline, since a write that its service does not read may take so long. The first write of an
+/// answer, the last one, and that of what comes after it each may take as long as a write may.
 fn end_ms(farm: &Farm) -> u32 {
     let settings = &farm.settings;
     farm.services
         .connect_ms()
         .saturating_add(settings.job_timeout_ms().saturating_mul(2))
         .saturating_add(text_ms(settings))
-        .saturating_add(write_ms(settings).saturating_mul(2))
+        .saturating_add(write_ms(settings).saturating_mul(3))
 }
 
 /// The times that the page of a farm goes by.
