@@ -1,12 +1,12 @@
 -- How many workers a farm is short of: the farm, what an addition makes of it, and when a plan serves.
-use Rattle.std.specs.Prelude.{◌≡◌, ℕ, ◌+◌, ◌^◌, ◌<◌, ◌≤◌, ◌&&◌, ◌++◌, Bool, not, nat_lt, max, if◌then◌else◌, List, [], ◌∷◌}
-use Rattle.std.specs.Prelude.{length, slice_index, sum_by, All, IfSome, Option, None, Some}
+use Rattle.std.specs.Prelude.{ℕ, ◌^◌, ◌<◌, ◌≤◌, ◌&&◌, ◌++◌, Bool, not, nat_lt, max, if◌then◌else◌, List, [], ◌∷◌}
+use Rattle.std.specs.Prelude.{length, slice_index, All, IfSome, Option, None, Some}
 use Rattle.std.specs.List.{enumerate_from, list_any, range_with_len}
-use Rattle.std.specs.List.Sorted.{IsStrictlyIncreasing}
 use Rattle.std.specs.Option.{option_or}
 use Rattle.std.specs.Int.{div_ceil}
+use Rattle.augment.specs.Most.{LacksJust}
 use Rattle.plan_model.specs.Planning.{Instance, IsInstance, Assignment, IsSound, cost, functions}
-use Rattle.plan_model.specs.Planning.{machines_of, may_do, neighbours, workers_on}
+use Rattle.plan_model.specs.Planning.{machines_of, may_do, workers_on}
 use Rattle.plan_sizing.specs.declared.size.Obstacle.{Obstacle}
 use Rattle.plan_sizing.specs.declared.size.Obstacle.TheVariants.{AboveMost, NoMachine}
 
@@ -81,10 +81,9 @@ abbrev pub NeedsAreFewest : Farm → Type 0
 NeedsAreFewest farm = (f n : ℕ) → (need farm f ≤ n → IsEnough farm f n) × (IsEnough farm f n → need farm f ≤ n)
 
 -- A set of functions, in rising order, whose needs are so many more than the live workers that may do any of them.
-pub record IsShortBy (farm : Farm) (many : ℕ) (set : List ℕ) : Type 0 where
-  pub rising : IsStrictlyIncreasing set
-  pub within : All (λ f. f < length farm.problem.least) set
-  pub exact : neighbours (may_do farm.problem) (machines_of farm.problem) set + many ≡ sum_by (need farm) set
+abbrev pub IsShortBy : Farm → ℕ → List ℕ → Type 0
+IsShortBy farm many set =
+    LacksJust (may_do farm.problem) (machines_of farm.problem) (length farm.problem.least) (need farm) many set
 
 -- Some machine may do the function, whether it has workers or not.
 abbrev pub is_known_to : Instance → ℕ → Bool
