@@ -1,5 +1,5 @@
 -- A text that says that no addition serves, read.
-use Rattle.std.proofs.Common.{◌≡◌, ℕ, ◌^◌, ◌<◌, [], Some, None, Ok, length, All, refl, subst}
+use Rattle.std.proofs.Common.{◌≡◌, ◌^◌, ◌<◌, [], Some, None, length, All, refl, subst}
 use Rattle.plan_sizing.specs.Sizing.{Farm, IsFarm, first_obstacle}
 use Rattle.plan_sizing.specs.declared.size.Obstacle.{Obstacle}
 use Rattle.plan_sizing.specs.declared.size.Obstacle.TheVariants.{AboveMost, NoMachine}

@@ -1,10 +1,9 @@
 -- The size that is read back is shown too, and its text is the same.
-use Rattle.std.proofs.Common.{◌≡◌, ℕ, ◌+◌, ◌<◌, List, [], ◌∷◌, ◌++◌, Bool, true, Option, Some, None, cond, eqb, refl, ap, sym, subst, ◌∙◌, inl, inr, arith}
+use Rattle.std.proofs.Common.{◌≡◌, ℕ, ◌<◌, List, [], ◌∷◌, ◌++◌, true, Option, Some, None, cond, eqb, refl, ap, sym, subst, ◌∙◌, inl, inr, arith}
 use Rattle.std.specs.List.{AllByRecursion, flat_map, list_all}
 use Rattle.std.specs.List.Sorted.{IsStrictlyIncreasing}
 use Rattle.std.proofs.lemmas.Bool.{and_from, and_parts, cases_Bool, eqb-true, ne_eqb}
 use Rattle.plan_model.specs.Planning.{Assignment, Instance, assigned, is_live, is_permitted, meets_most, slots_of}
-use Rattle.plan_model.specs.Shown.{is_plan}
 use Rattle.plan_model.proofs.Hall.{Rising, rising}
 use Rattle.plan_sizing.specs.Shown.{IsShownAddition, meets_needs}
 use Rattle.plan_sizing.specs.Sizing.{Farm, grown}

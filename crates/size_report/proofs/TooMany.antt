@@ -1,5 +1,5 @@
 -- A text that says that each addition that serves is too many, read.
-use Rattle.std.proofs.Common.{◌≡◌, ℕ, ◌^◌, ◌<◌, List, [], ◌++◌, Some, None, Ok, length, All, refl, arith}
+use Rattle.std.proofs.Common.{◌≡◌, ℕ, ◌^◌, ◌<◌, List, [], ◌++◌, Some, None, length, All, refl, arith}
 use Rattle.plan_sizing.specs.Shown.{IsShownTooMany}
 use Rattle.plan_sizing.specs.Sizing.{Farm, IsFarm}
 use Rattle.plan_sizing.specs.declared.size.Size.TheVariants.{TooMany}

@@ -1,4 +1,4 @@
-use Rattle.std.proofs.Common.{ℕ, ◌^◌, ◌<◌, All, ap, subst, ◌∙◌}
+use Rattle.std.proofs.Common.{◌^◌, ◌<◌, All, ap, subst, ◌∙◌}
 use Rattle.plan_model.specs.Planning.{Instance}
 use Rattle.size_report.proofs.TooMany.{too_many_read}
 use Rattle.size_report.proofs.law.too_many_reads_back.Goals as goal

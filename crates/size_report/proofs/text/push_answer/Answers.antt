@@ -1,4 +1,4 @@
-use Rattle.std.proofs.Common.{◌≡◌, ◌++◌, ◌∙◌, ap, append_assoc, arith, length, string_bytes, subst}
+use Rattle.std.proofs.Common.{◌++◌, ◌∙◌, ap, append_assoc, arith, length, string_bytes, subst}
 use Rattle.plan_sizing.specs.Shown.{Shown}
 use Rattle.pool_report.specs.Report.{short_lines}
 use Rattle.size_report.specs.Text.{short_of, too_many_line}
