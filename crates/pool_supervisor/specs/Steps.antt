@@ -1,5 +1,5 @@
 -- What the steps of an attempt look at in the pool.
-use Rattle.std.specs.Prelude.{◌≡◌, ℕ, ◌*◌, ◌<◌, Bool, List, length, Option, None, Result, IfSome}
+use Rattle.std.specs.Prelude.{◌≡◌, ℕ, ◌*◌, ◌<◌, Bool, List, length, Option, None, Some, Result, Ok, IfSome}
 use Rattle.byte_io.specs.Sides.{Input, Met, Meets}
 use Rattle.gear_status.specs.Status.{Line}
 use Rattle.gear_status.specs.Stream.{AnswersStatus}
@@ -12,11 +12,30 @@ use Rattle.worker_state.specs.declared.slot.WorkerName.{WorkerName}
 use Rattle.pool_settings.specs.Planning.{instance_of}
 use Rattle.pool_settings.specs.Settings.{Settings}
 use Rattle.pool_core.specs.Machine.{State, slot_in}
-use Rattle.pool_core.specs.Book.{Book, expire_refusal}
+use Rattle.pool_core.specs.Book.{Book, expire_refusal, grab_refusal}
+use Rattle.pool_core.specs.Calls.{EndsChapter, Grabs}
+use Rattle.pool_core.specs.declared.error.GrabError.{GrabError}
+use Rattle.pool_core.specs.declared.error.GrabError.TheVariants as grab
+use Rattle.pool_core.specs.declared.event.Chapter.{Chapter}
+use Rattle.pool_supervisor.specs.declared.attempts.Until.{Until}
+use Rattle.pool_supervisor.specs.declared.attempts.Until.TheVariants.{Rounds, Ended}
 
--- more than half of what the history may have is used
-abbrev pub IsChapterDue : Book → Type 0
-IsChapterDue book = book.settings.history < 2 * length book.events
+-- An attempt ends the chapter: of a run of so many attempts if more than half of what the history may have is used, and of one until its
+-- watch ends it if there is any event.
+abbrev pub IsChapterDue : Until → Book → Type 0
+IsChapterDue (Rounds rounds) book = book.settings.history < 2 * length book.events
+IsChapterDue Ended book = 0 < length book.events
+
+-- The history had no room for a job of the worker, in a run until its watch ends it. So the chapter was ended.
+abbrev pub IsCutFor : Until → WorkerName → Book → Book → Chapter → Type 0
+IsCutFor until worker old new chapter =
+    (until ≡ Ended) × (grab_refusal old worker ≡ Some grab.HistoryFull) × EndsChapter old new (Ok chapter)
+
+-- The worker's job was booked, or refused: at once, or after a chapter was ended for it.
+abbrev pub GrabsOrCuts : Until → WorkerName → List ℕ → List ℕ → ℕ → Book → Book → Result ℕ GrabError → Option Chapter → Type 0
+GrabsOrCuts until worker handle function now old new answer None = Grabs worker handle function now old new answer
+GrabsOrCuts until worker handle function now old new answer (Some chapter) =
+    (between : Book) × IsCutFor until worker old between chapter × Grabs worker handle function now between new answer
 
 -- the worker in the slot, or the last one that was
 abbrev pub worker_of : State → ℕ → WorkerName

@@ -30,9 +30,9 @@ use std::sync::Wait;
 use std::thread;
 use std::thread::{Scope, Threads};
 
-/// In how many holds of the lock an attempt forgets jobs, at the most. Together they may forget 1,048,576 jobs, and no history has room for
-/// more grabs between two attempts.
-const MOST_HOLDS: u32 = 1024;
+/// In how many holds of the lock an attempt forgets jobs, at the most. Together they may forget more jobs than any run grabs between two
+/// attempts.
+const MOST_HOLDS: u32 = u32::MAX;
 
 /// The supervisor's seats at the board.
 #[derive(Drop)]
@@ -43,12 +43,12 @@ pub struct Seats {
     pub source: SeatSource,
 }
 
-/// How long a run makes attempts.
+/// How long a run makes attempts, and when its history is cut.
 #[derive(Clone, Copy, Debug, PartialEq, Eq)]
 pub enum Until {
-    /// Until so many were made. Their lines are kept.
+    /// Until so many were made. Their lines are kept. An attempt cuts the history if more than half of it is used.
     Rounds(u32),
-    /// Until the watch says that the run has to end. No line is kept.
+    /// Until the watch says that the run has to end. No line is kept. Each attempt cuts the history, and so does a job that finds no room.
     Ended,
 }
 

@@ -29,6 +29,7 @@ mod shared;
 mod steps;
 
 pub use attempt::{Attempt, PoolRefusal, attempt_line, attempt_words};
+pub use attempts::Until;
 pub use booked::Booked;
 pub use calls::{Call, Calls};
 pub use dial::Dial;

@@ -3,6 +3,7 @@ ghost use Rattle.std.specs.Prelude.{◌≡◌, ◌≤◌};
 ghost use Rattle.atomic_table.specs.Seated.{TableId};
 ghost use Rattle.pool_settings.specs.Slots.{slots};
 
+use crate::attempts::Until;
 use agreed_rounds::{RoundsId, RoundsTold};
 use order_board::{Board, ReaderSeat};
 use pool_settings::Settings;
@@ -117,12 +118,14 @@ pub struct Place<N: RunId> {
     pub ghost here: { seat.board ≡ N.board },
 }
 
-/// The board of a run, which has a place for each slot, and the settings of its pool.
+/// The board of a run, which has a place for each slot, the settings of its pool, and how long it goes on.
 pub struct RunBoard<'e, N: RunId> {
     /// The board.
     pub board: &'e Board,
     /// The settings.
     pub settings: &'e Settings,
+    /// How long the run makes attempts, and so when its history is cut.
+    pub until: Until,
     /// Whose they are.
     pub of: PhantomData<N>,
     /// The board is the run's.

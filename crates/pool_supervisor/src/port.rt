@@ -8,11 +8,11 @@ ghost use Rattle.pool_supervisor.specs.Published.{IsRead};
 
 use crate::calls::{Call, Calls, note};
 use crate::job_counts::JobCounts;
-use crate::place::{Grabs, Place, Reports, RunId};
+use crate::place::{Grabs, Place, Reports, RunBoard, RunId};
 use crate::shared::Shared;
+use crate::steps::GivenJob;
 use gear_packets::Handle;
 use job_runner::{Gone, GrabRefusal, PoolPort};
-use order_board::Board;
 use pool_core::{GrabError, Pass, StayOrRetire};
 use std::snapshot::Snapshot;
 use std::sync::Wait;
@@ -51,13 +51,12 @@ pub struct SharedPort<'a, N: RunId, C, R> {
     rt: &'a R,
     shared: &'a Shared<Grabs<N>, Reports<N>>,
     watch: &'a C,
-    board: &'a Board,
+    run: RunBoard<'a, N>,
     place: Place<N>,
     grab_share: Share<Grabs<N>>,
     report_share: Share<Reports<N>>,
     jobs_done: JobCounts,
     calls: Snapshot<Calls>,
-    ghost here: { board.now.id ≡ N.board },
     ghost grab_part: { grab_share.parts ≡ 1 },
     ghost report_part: { report_share.parts ≡ 1 },
     ghost grabs_counted: { grab_share.amount ≡ (book_of calls.value).grabs },
@@ -71,11 +70,10 @@ impl<'a, N: RunId, C: Watch, R: Wait> SharedPort<'a, N, C, R> {
         rt: &'a R,
         shared: &'a Shared<Grabs<N>, Reports<N>>,
         watch: &'a C,
-        board: &'a Board,
+        run: RunBoard<'a, N>,
         place: Place<N>,
         shares: (Share<Grabs<N>>, Share<Reports<N>>),
     ) -> SharedPort<'a, N, C, R>
-        requires board { board.now.id ≡ N.board }
         requires grabbed { (shares.0.parts ≡ 1) × (shares.0.amount ≡ 0) }
         requires reported { (shares.1.parts ≡ 1) × (shares.1.amount ≡ 0) }
         ensures { ⟦<SharedPort<'a, N, C, R> as PoolPort>⟧.book result ≡ no_calls }
@@ -85,7 +83,7 @@ impl<'a, N: RunId, C: Watch, R: Wait> SharedPort<'a, N, C, R> {
             rt,
             shared,
             watch,
-            board,
+            run,
             place,
             grab_share,
             report_share,
@@ -111,7 +109,7 @@ impl<'a, N: RunId, C: Watch, R: Wait> SharedPort<'a, N, C, R> {
             rt: _,
             shared: _,
             watch: _,
-            board: _,
+            run: _,
             place,
             grab_share,
             report_share,
@@ -144,7 +142,7 @@ impl<'a, N: RunId, C: Watch, R: Wait> PoolPort for SharedPort<'a, N, C, R> {
     {
         // (the watch may take its time, and what is posted meanwhile is to be read)
         let may_go_on = self.watch.may_go_on(pass.name());
-        let read = self.board.read_by(&mut self.place.seat);
+        let read = self.run.board.read_by(&mut self.place.seat);
         let order = if may_go_on {
             read
         } else {
@@ -164,8 +162,18 @@ impl<'a, N: RunId, C: Watch, R: Wait> PoolPort for SharedPort<'a, N, C, R> {
         function: &[u8],
     ) -> Result<Ticket, GrabRefusal> {
         let now_ms = self.watch.now_ms().unwrap_or(u64::MAX);
-        let mut held = self.shared.hold(self.rt);
-        match held.grab(&mut self.grab_share, pass, handle, function, now_ms) {
+        let job = GivenJob {
+            handle: &handle,
+            function,
+            now_ms,
+        };
+        let (answer, cut) = {
+            let mut held = self.shared.hold(self.rt);
+            self.run.grab(&mut held, &mut self.grab_share, pass, job)
+        };
+        // The lock is free when the events of a chapter are dropped.
+        drop(cut);
+        match answer {
             Ok(ticket) => {
                 note(&mut self.calls, Call::Grab(Ok(ticket)));
                 Ok(ticket)

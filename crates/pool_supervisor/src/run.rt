@@ -136,6 +136,7 @@ impl<'e, L: Source + Sink + Send + Drop, Y: Dial<L> + Drop, P: Planner> Tools<'e
                 run: RunBoard {
                     board: &board,
                     settings,
+                    until: lines.until,
                     of: PhantomData,
                 },
             },

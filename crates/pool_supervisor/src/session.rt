@@ -158,17 +158,12 @@ fn run_jobs<N: RunId, L: Source + Sink, J: JobSource, C: Watch, R: Wait>(
         watch,
         ..
     } = site.lent;
-    let RunBoard {
-        board,
-        settings,
-        of: _,
-    } = site.run;
     let shares = (grabbed, reported);
-    let mut port = SharedPort::new(rt, site.shared, watch, board, place, shares);
+    let mut port = SharedPort::new(rt, site.shared, watch, site.run, place, shares);
     let mut jobs = jobs;
     let place = Workplace {
         alloc,
-        settings,
+        settings: site.run.settings,
         turns: TURNS,
     };
     let end = serve_worker(place, pass, link, &mut port, &mut jobs);

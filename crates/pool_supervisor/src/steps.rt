@@ -1,6 +1,6 @@
 //! The steps of an attempt, each on what lies under the lock in one hold of it.
 ghost use Rattle.std.specs.Prelude.{◌≡◌, ◌↔◌, ◌+◌, ◌<◌, ◌≤◌, ◌++◌, ◌∷◌, [], ℕ, true, false, not, count_by};
-ghost use Rattle.std.specs.Prelude.{IsSome, IfSome, IfNone, IfOk, OnErr};
+ghost use Rattle.std.specs.Prelude.{IsSome, IfSome, IfNone, IfOk, OnOk, OnErr, Ok};
 ghost use Rattle.pool_settings.specs.Slots.{slots as slot_count};
 ghost use Rattle.worker_state.specs.Slots.{is_live};
 ghost use Rattle.worker_state.specs.declared.slot.Slot.TheVariants.{Empty};
@@ -9,37 +9,103 @@ ghost use Rattle.pool_core.specs.Book.{has_closed_prefix};
 ghost use Rattle.pool_core.specs.Calls.{Adopts, EndsChapter, Expires};
 ghost use Rattle.pool_supervisor.specs.Published.{ArePosted, round_order, stop_order};
 ghost use Rattle.pool_supervisor.specs.Reached.{IsReached, IsRoundOf};
-ghost use Rattle.pool_supervisor.specs.Steps.{IsChapterDue, IsLate, most_forgotten, worker_of};
+ghost use Rattle.pool_supervisor.specs.Steps.{GrabsOrCuts, IsChapterDue, IsLate, most_forgotten, worker_of};
 
+use crate::attempts::Until;
 use crate::booked::Booked;
 use crate::place::{Grabs, Reports, RunBoard, RunId, RunRounds};
 use crate::posting::{publish_by, stop_by};
+use gear_packets::Handle;
 use order_board::PublisherSeat;
 use plan_model::{Certified, SlotId};
-use pool_core::{AdoptError, Chapter, ChapterError, ExpireError, Ran, histories_join};
+use pool_core::{
+    AdoptError, Chapter, ChapterError, ExpireError, GrabError, Pass, Ran, histories_join,
+};
 use std::sync::Wait;
-use worker_state::Slot;
+use std::sync::ledger::Share;
+use worker_state::{Slot, Ticket};
 
 /// How many jobs are forgotten in one hold of the lock, at the most.
 const MOST_FORGOTTEN: u32 = 1024;
 
+/// A job that the server gave to a worker.
+#[derive(Clone, Copy)]
+pub struct GivenJob<'a> {
+    /// Its handle.
+    pub handle: &'a Handle,
+    /// Its function.
+    pub function: &'a [u8],
+    /// When it came, in milliseconds.
+    pub now_ms: u64,
+}
+
 impl<'e, N: RunId> RunBoard<'e, N> {
-    /// Ends the chapter of the history if more than half of what the history may have is used, so that a long run does not run out of
-    /// room. None if it goes on. The events are handed out, to be dropped once the lock is free.
+    /// Ends the chapter of the history if that is due: in a run of so many attempts if more than half of what the history may have is
+    /// used, so that a long run does not run out of room; in one until its watch ends it if there is any event, so that it does not keep
+    /// the loads and plans of its attempts. None if it goes on. The events are handed out, to be dropped once the lock is free.
     pub fn end_if_due(
         &self,
         held: &mut Booked<Grabs<N>, Reports<N>>,
     ) -> Option<Result<Chapter, ChapterError>>
-        ensures due { IsSome result ↔ IsChapterDue held.old }
+        ensures due { IsSome result ↔ IsChapterDue self.now.until held.old }
         ensures ends { IfSome result (EndsChapter held.old held.new) }
         ensures goes_on { IfNone result (held.new ≡ held.old) }
     {
         held.facts();
-        if held.pool().totals().events > self.settings.history() / 2 {
+        let events = held.pool().totals().events;
+        let is_due = match self.until {
+            Until::Rounds(_) => events > self.settings.history() / 2,
+            Until::Ended => events > 0,
+        };
+        if is_due {
             Some(held.end_chapter())
         } else {
             None
         }
+    }
+
+    /// Ends the chapter of a run that goes on until its watch ends it, if there is any event. None if it goes on.
+    fn cut(&self, held: &mut Booked<Grabs<N>, Reports<N>>) -> Option<Chapter>
+        ensures cut { IfSome result (λ chapter. (self.now.until ≡ Until.Ended) × EndsChapter held.old held.new (Ok chapter)) }
+        ensures goes_on { IfNone result (held.new ≡ held.old) }
+    {
+        match self.until {
+            Until::Rounds(_) => None,
+            // A refusal changes nothing.
+            Until::Ended => self.end_if_due(held)?.ok(),
+        }
+    }
+
+    /// Books a job as [`Booked::grab`] does. If the history has no room for it, and the run goes on until its watch ends it, the chapter is
+    /// ended first. Its events are handed out, to be dropped once the lock is free.
+    pub fn grab(
+        &self,
+        held: &mut Booked<Grabs<N>, Reports<N>>,
+        mine: &mut Share<Grabs<N>>,
+        pass: &Pass,
+        job: GivenJob<'_>,
+    ) -> (Result<Ticket, GrabError>, Option<Chapter>)
+        requires part { 0 < mine.old.parts }
+        ensures pool { GrabsOrCuts self.now.until pass.now job.entry.handle.now job.entry.function.now job.entry.now_ms
+            held.old held.new result.0 result.1 }
+        ensures raised { OnOk result.0 (mine.new.amount ≡ mine.old.amount + 1) }
+        ensures kept { OnErr result.0 (mine.new.amount ≡ mine.old.amount) }
+        ensures parts { mine.new.parts ≡ mine.old.parts }
+    {
+        let GivenJob {
+            handle,
+            function,
+            now_ms,
+        } = job;
+        let answer = held.grab(mine, pass, handle.copy(), function, now_ms);
+        let Err(GrabError::HistoryFull) = answer else {
+            return (answer, None);
+        };
+        let Some(chapter) = self.cut(held) else {
+            return (answer, None);
+        };
+        let again = held.grab(mine, pass, handle.copy(), function, now_ms);
+        (again, Some(chapter))
     }
 
     /// Whether no worker is in the slot.
