@@ -12,11 +12,14 @@ use Rattle.worker_state.specs.declared.slot.WorkerName.{WorkerName}
 use Rattle.pool_settings.specs.Planning.{instance_of}
 use Rattle.pool_settings.specs.Settings.{Settings}
 use Rattle.pool_core.specs.Machine.{State, slot_in}
-use Rattle.pool_core.specs.Book.{Book, expire_refusal, grab_refusal}
+use Rattle.pool_core.specs.Book.{Book, IsInputOf, expire_refusal, grab_refusal, ran_of}
 use Rattle.pool_core.specs.Calls.{EndsChapter, Grabs}
 use Rattle.pool_core.specs.declared.error.GrabError.{GrabError}
 use Rattle.pool_core.specs.declared.error.GrabError.TheVariants as grab
 use Rattle.pool_core.specs.declared.event.Chapter.{Chapter}
+use Rattle.pool_supervisor.specs.Lines.{attempt_of}
+use Rattle.pool_supervisor.specs.Reached.{IsReached}
+use Rattle.pool_supervisor.specs.declared.attempt.Attempt.{Attempt}
 use Rattle.pool_supervisor.specs.declared.attempts.Until.{Until}
 use Rattle.pool_supervisor.specs.declared.attempts.Until.TheVariants.{Rounds, Ended}
 
@@ -53,10 +56,21 @@ most_forgotten = 1024
 abbrev pub IsMadeOf : Settings → Instance → Type 0
 IsMadeOf settings input = (live : List Bool) × (waiting : List ℕ) × (input ≡ instance_of settings live waiting)
 
+-- What was viewed of a pool of these settings, in a state that a history leads to: its input, and the plan before it.
+abbrev pub IsViewOf : Settings → Instance × Option (List (ℕ × Option ℕ)) → Type 0
+IsViewOf settings viewed =
+    (book : Book) × (book.settings ≡ settings) × IsReached settings book.state × IsInputOf book viewed.0 × (viewed.1 ≡ book.state.previous)
+
 -- An answer for the input that was viewed, which keeps the plan before it if that is best and full.
 abbrev pub AnswersView : Instance × Option (List (ℕ × Option ℕ)) → Certificate → Type 0
 AnswersView viewed certified =
     (certified.input ≡ viewed.0) × IfSome viewed.1 (λ plan. IsSteady viewed.0 plan certified.answer)
+
+-- The attempt came to a round with an answer to what was viewed of a pool of these settings.
+abbrev pub AnswersPool : Settings → Attempt → Type 0
+AnswersPool settings line =
+    (viewed : Instance × Option (List (ℕ × Option ℕ))) × (certified : Certificate) × (state : State) × IsViewOf settings viewed
+    × AnswersView viewed certified × (line ≡ attempt_of (ran_of certified.answer state))
 
 -- What was read of the link means this load, or is why there is none.
 abbrev pub Reads : Result (List Line) StatusError → Input → Input → Type 0

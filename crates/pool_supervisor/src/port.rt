@@ -3,7 +3,7 @@ ghost use Rattle.std.specs.Prelude.{◌≡◌, ◌+◌};
 ghost use Rattle.job_runner.specs.Book.{no_calls, after_order};
 ghost use Rattle.order_board.specs.Posts.{BeginsWith};
 ghost use Rattle.pool_supervisor.specs.JobCounts.{answered};
-ghost use Rattle.pool_supervisor.specs.PortCalls.{book_of};
+ghost use Rattle.pool_supervisor.specs.PortCalls.{book_of, grab_refusal_of};
 ghost use Rattle.pool_supervisor.specs.Published.{IsRead};
 
 use crate::calls::{Call, Calls, note};
@@ -121,7 +121,9 @@ impl<'a, N: RunId, C: Watch, R: Wait> SharedPort<'a, N, C, R> {
 }
 
 /// What a session is answered for a grab that the pool refused.
-fn refusal_of(error: GrabError) -> GrabRefusal {
+fn refusal_of(error: GrabError) -> GrabRefusal
+    ensures { result ≡ grab_refusal_of error }
+{
     match error {
         GrabError::HistoryFull => GrabRefusal::HistoryFull,
         GrabError::Memory => GrabRefusal::Memory,

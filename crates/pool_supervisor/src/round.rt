@@ -2,7 +2,7 @@
 ghost use Rattle.std.specs.Prelude.{◌≡◌, Ok, true, false, IfSome, IfNone, IfOk, IfErr, OnOk};
 ghost use Rattle.pool_supervisor.specs.Asking.{Given, IsNotTaken, Takes, Tells, is_planned};
 ghost use Rattle.pool_supervisor.specs.Rounds.{Notes, Posts, is_round};
-ghost use Rattle.pool_supervisor.specs.Steps.{AnswersView, IsMadeOf};
+ghost use Rattle.pool_supervisor.specs.Steps.{AnswersPool, AnswersView, IsMadeOf, IsViewOf};
 
 use crate::asking::ask_for_load;
 use crate::attempt::{Attempt, PoolRefusal};
@@ -27,7 +27,8 @@ const TRIES: u32 = 3;
 fn view_pool<N: RunId, J, C, R: Wait>(
     site: &Site<'_, N, J, C, R>,
 ) -> Result<(Input, Option<Plan>), ViewError>
-    ensures { IfOk result (λ viewed. IsMadeOf N.settings viewed.0) }
+    ensures input { IfOk result (λ viewed. IsMadeOf N.settings viewed.0) }
+    ensures view { IfOk result (IsViewOf N.settings) }
 {
     let held = site.shared.hold(site.lent.rt);
     held.facts();
@@ -91,6 +92,7 @@ impl<
         ensures notes { IfSome result (λ line. Notes line self.old.rounds self.new.rounds) }
         ensures stale { IfNone result ((self.new.seats.publisher ≡ self.old.seats.publisher) × (self.new.rounds ≡ self.old.rounds)) }
         ensures planned { IfSome result (λ line. is_planned line ≡ true) }
+        ensures answers { IfSome result (λ line. is_round line ≡ true → AnswersPool N.settings line) }
         ensures dial { self.new.dial ≡ self.old.dial }
         ensures crew { self.new.crew ≡ self.old.crew }
     {
@@ -125,6 +127,7 @@ impl<
         ensures posts { Posts N.settings result self.old.seats.publisher.posts self.new.seats.publisher.posts }
         ensures notes { Notes result self.old.rounds self.new.rounds }
         ensures planned { is_planned result ≡ true }
+        ensures answers { is_round result ≡ true → AnswersPool N.settings result }
         ensures dial { self.new.dial ≡ self.old.dial }
         ensures crew { self.new.crew ≡ self.old.crew }
     {

@@ -142,6 +142,9 @@ pub struct Waiting<'a, R> {
 impl<R: Clock> Planner for Waiting<'_, R> {
     fn solve(&self, input: &Input, previous: Option<&Plan>) -> Result<Answer, AllocError> {
         let before = self.tally.add(Happening::Planned);
+        if previous.is_some() {
+            let _before = self.tally.add(Happening::PlannedAfterAPlan);
+        }
         for (call, what, count) in self.waits {
             if *call == before.saturating_add(1) {
                 self.tally.wait_for(self.rt, *what, *count);

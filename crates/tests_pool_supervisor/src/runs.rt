@@ -73,7 +73,7 @@ const ANSWERED: &[Pause] = &[Pause {
     jump_ms: 0,
 }];
 
-/// One job, which is answered before the server sends its second status.
+/// One job, which is answered before the server sends its second status. The second plan is made from the first.
 #[test]
 fn one_job_in_two_rounds(rt: HostRuntime) -> Result<(), Fail> {
     let tally = Tally::new();
@@ -83,6 +83,7 @@ fn one_job_in_two_rounds(rt: HostRuntime) -> Result<(), Fail> {
     let lines = "attempt 1 round 1 backlog 1\nattempt 2 round 2 backlog 0\n";
     expect(&rt, rt.alloc(), &tally, &ended, lines, (1, 0, 1, 0, 2, 9))?;
     assert_eq!(rt; ended.chapters, 0);
+    assert_eq!(rt; tally.count(Happening::PlannedAfterAPlan), 1);
     Ok(())
 }
 
@@ -413,6 +414,7 @@ fn stale_plans(rt: HostRuntime) -> Result<(), Fail> {
     let lines = "attempt 1 refused 2 Stale\nattempt 2 round 1 backlog 0\n";
     expect(&rt, rt.alloc(), &tally, &ended, lines, (0, 0, 0, 0, 1, 15))?;
     assert_eq!(rt; tally.count(Happening::Planned), 4);
+    assert_eq!(rt; tally.count(Happening::PlannedAfterAPlan), 0);
     Ok(())
 }
 

@@ -24,6 +24,8 @@ pub enum Happening {
     Left,
     /// A plan was asked for.
     Planned,
+    /// The same, with the plan before it.
+    PlannedAfterAPlan,
     /// An attempt was reported.
     Attempted,
     /// The same, and it came to a round.
@@ -40,6 +42,7 @@ pub struct Tally {
     answered: AtomicU64,
     left: AtomicU64,
     planned: AtomicU64,
+    planned_after_a_plan: AtomicU64,
     attempted: AtomicU64,
     rounds: AtomicU64,
     paused: AtomicU64,
@@ -55,6 +58,7 @@ impl Tally {
             answered: AtomicU64::new(0),
             left: AtomicU64::new(0),
             planned: AtomicU64::new(0),
+            planned_after_a_plan: AtomicU64::new(0),
             attempted: AtomicU64::new(0),
             rounds: AtomicU64::new(0),
             paused: AtomicU64::new(0),
@@ -69,6 +73,7 @@ impl Tally {
             Happening::Answered => &self.answered,
             Happening::Left => &self.left,
             Happening::Planned => &self.planned,
+            Happening::PlannedAfterAPlan => &self.planned_after_a_plan,
             Happening::Attempted => &self.attempted,
             Happening::MadeRound => &self.rounds,
             Happening::Paused => &self.paused,
