@@ -2,6 +2,7 @@
 ghost use Rattle.std.specs.Prelude.{◌≡◌, ◌+◌, ◌≤◌, IsTrue, IsFalse};
 ghost use Rattle.page_server.specs.Places.{has_room, is_near};
 
+use std::net::IpAddr;
 use std::sync::{Condvar, Mutex, Wait};
 use std::time::{Clock, Duration};
 
@@ -14,13 +15,25 @@ const MOST_FAR: u32 = 63;
 /// Where a peer is.
 #[derive(Clone, Copy, Debug, PartialEq, Eq)]
 pub enum Distance {
-    /// On this machine: its address is one of the loopback.
+    /// On this machine: its address is one of the loopback, or the one that it called.
     Near,
     /// Elsewhere.
     Far,
 }
 
 impl Distance {
+    /// Where a peer is that has this address and called that one, if it is known. A machine that calls one of its own addresses does so
+    /// from the same address.
+    pub fn of_peer(peer: IpAddr, called: Option<IpAddr>) -> Distance {
+        let peer = peer.to_canonical();
+        let is_own = called.is_some_and(|called| called.to_canonical() == peer);
+        if is_own || peer.is_loopback() {
+            Distance::Near
+        } else {
+            Distance::Far
+        }
+    }
+
     /// Whether it is on this machine.
     pub fn is_near(self) -> bool
         ensures { result ≡ is_near self }

@@ -105,11 +105,8 @@ fn let_in<R: Threads + Wait + Clock + Copy + Send + Sync + Drop + 'static>(
     for _ in rt.forever() {
         match listener.accept() {
             Ok((stream, peer)) => {
-                let distance = if peer.ip().to_canonical().is_loopback() {
-                    Distance::Near
-                } else {
-                    Distance::Far
-                };
+                let called = stream.local_addr().ok().map(|called| called.ip());
+                let distance = Distance::of_peer(peer.ip(), called);
                 let has_place = hall.page.places.take(&rt, distance);
                 if has_place && welcome(rt, alloc, hall, stream, distance).is_err() {
                     hall.page.places.leave(&rt, distance);
