@@ -46,9 +46,10 @@ TellsEnd who command (Some fault) old new = Tells who (names_in command) fault o
 abbrev pub Lacks : Output → Output → ℕ → Type 0
 Lacks old new status = Complains Memory old new × (status ≡ 4)
 
--- Some text on error output says what is wrong with the words, or is the help that they ask for. Or there is no memory for it.
+-- Some text on error output, which is not empty, says what is wrong with the words, or is the help that they ask for. Or there is no memory
+-- for it.
 abbrev pub Advises : Output → Output → ℕ → Type 0
-Advises old new status = (((text : List ℕ) × SaysLine text old new) × (status ≡ 2)) ⊎ Lacks old new status
+Advises old new status = (((text : List ℕ) × (text ≢ []) × SaysLine text old new) × (status ≡ 2)) ⊎ Lacks old new status
 
 -- The system gives no words, by an error of this kind: there is no memory, or one of them is no text.
 abbrev pub HasNoWords : ErrorKind → Output → Output → ℕ → Type 0

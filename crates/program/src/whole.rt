@@ -1,6 +1,6 @@
 //! The whole program, over words, files, input, output and error output.
 
-ghost use Rattle.std.specs.Prelude.{◌≡◌, ◌-◌, ◌^◌, ◌<◌, map, string_bytes};
+ghost use Rattle.std.specs.Prelude.{◌≡◌, ◌≢◌, [], ◌-◌, ◌^◌, ◌<◌, map, string_bytes};
 ghost use Rattle.byte_io.specs.Sides.{Meets, Met};
 ghost use Rattle.command_line.specs.Named.{named};
 ghost use Rattle.fault_detail.specs.Detail.{names_of};
@@ -79,6 +79,17 @@ fn obey<F: Folder, H: FarmHost, R: Source, W: Sink, E: Sink>(
     }
 }
 
+/// What is printed of words that are not taken: this text of `clap`, or that they are no command if it is empty.
+fn usage_text(text: &str) -> &[u8]
+    ensures { result.now ≢ [] }
+{
+    if text.is_empty() {
+        b"poolman: the words are no command\n"
+    } else {
+        text.as_bytes()
+    }
+}
+
 /// Prints what `clap` says of the words.
 fn advise<E: Sink>(alloc: Global, error: &Error, errors: &mut E) -> u8
     requires { (E.output errors.old).failures < 2 ^ 64 - 1 }
@@ -86,7 +97,7 @@ fn advise<E: Sink>(alloc: Global, error: &Error, errors: &mut E) -> u8
 {
     match format!(in alloc; "{error}") {
         Ok(text) => {
-            say(errors, text.as_bytes());
+            say(errors, usage_text(text.as_str()));
             USAGE
         }
         Err(_) => end_lacking(alloc, errors),
