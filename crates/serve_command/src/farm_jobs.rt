@@ -256,7 +256,9 @@ impl<'e, H: FarmHost> Jobs for FarmJobs<'e, H> {
         self.tally.begin(self.host, function);
         let timeout_ms = self.farm.timeout_ms(&job.function);
         self.jobs.set_timeout(timeout_ms as u64);
+        self.hosts.begin_job(self.host, self.machine);
         let done = self.jobs.serve(alloc, &job);
+        self.hosts.end_job(self.host, self.machine);
         let news = news_of(self.host, self.hosts, self.machine, &done);
         self.host
             .tell_if(host_line(alloc, farm, self.machine, news));

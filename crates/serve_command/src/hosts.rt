@@ -320,6 +320,8 @@ struct HostEntry {
     state: HostState,
     /// The attempt of the last word of it: it took a connection or served a job. Or in which a worker was last let dial it to see.
     heard: u64,
+    /// How many jobs it has to do now.
+    jobs: u32,
     /// How many workers came to try it.
     tries: u64,
 }
@@ -343,9 +345,10 @@ impl HostEntry {
         self.state = self.state.after_join(attempt);
     }
 
-    /// What a worker does before it asks for one more job in this attempt. Of those that find a host silent one dials it.
+    /// What a worker does before it asks for one more job in this attempt. Of those that find a host silent one dials it. One that has a
+    /// job to do is not silent: a service that does one job after the other would leave such dials waiting, until its queue is full.
     fn before_job(&mut self, worker: WorkerName, attempt: u64) -> BeforeJob {
-        let is_silent = self.heard.saturating_add(LONGEST_SILENCE) <= attempt;
+        let is_silent = self.jobs == 0 && self.heard.saturating_add(LONGEST_SILENCE) <= attempt;
         let does = self
             .state
             .before_job(self.state.is_tried_by(worker), is_silent);
@@ -386,8 +389,8 @@ struct Table {
 }
 
 /// Which hosts of a farm are reached. A host is left alone if a dial to it failed, unless files or memory were lacking here, until one
-/// succeeds; or if three jobs, one after the other, were not served, until one is. To one that is left alone one worker comes at a time, and
-/// of those whose jobs are not served it alone asks for more.
+/// succeeds; or if three jobs, one after the other, were not served, until one is. To one that is left alone one worker comes at a time,
+/// and of those whose jobs are not served it alone asks for more.
 #[derive(Drop)]
 pub struct Hosts {
     table: Mutex<Table>,
@@ -399,6 +402,7 @@ impl Hosts {
         let host = HostEntry {
             state: HostState::Present(Presence::new()),
             heard: 1,
+            jobs: 0,
             tries: 0,
         };
         let mut hosts = Vec::new(alloc);
@@ -438,14 +442,30 @@ impl Hosts {
         }
     }
 
-    /// What a worker of the machine does before it asks for one more job. Of a host of which nothing was heard for four attempts, that it took
-    /// a connection or served a job, one worker is let dial it.
+    /// What a worker of the machine does before it asks for one more job. Of a host that has no job to do, and for four attempts has taken
+    /// no connection and served no job, one worker is let dial it.
     pub fn before_job<R: Wait>(&self, rt: &R, machine: MachineId, worker: WorkerName) -> BeforeJob {
         let mut held = self.table.lock(rt);
         let attempt = held.attempt;
         match held.hosts.get_mut(machine.number() as usize) {
             Some(host) => host.before_job(worker, attempt),
             None => BeforeJob::End,
+        }
+    }
+
+    /// The host of this machine is given a job.
+    pub fn begin_job<R: Wait>(&self, rt: &R, machine: MachineId) {
+        let mut held = self.table.lock(rt);
+        if let Some(host) = held.hosts.get_mut(machine.number() as usize) {
+            host.jobs = host.jobs.saturating_add(1);
+        }
+    }
+
+    /// A job of the host of this machine has ended, however it did.
+    pub fn end_job<R: Wait>(&self, rt: &R, machine: MachineId) {
+        let mut held = self.table.lock(rt);
+        if let Some(host) = held.hosts.get_mut(machine.number() as usize) {
+            host.jobs = host.jobs.saturating_sub(1);
         }
     }
 
