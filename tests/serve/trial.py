@@ -48,9 +48,6 @@ SHORT, LONG = Scale(8, 500, 1), Scale(20, 5000, 3)
 # A client asks for so many jobs over one connection.
 CHUNK = 100
 
-# So many events are kept at most. Half of them are there long before a fifth of the jobs is done.
-HISTORY = 8192
-
 # By so many KiB memory may be more in the last tenth than in the second: what the page keeps of attempts grows meanwhile, up to 600 of
 # them. At 200 bytes a job, if they were kept, it would be 15,000 more.
 MORE_KIB = 4096
@@ -64,7 +61,7 @@ LEAST = {"count_words": 1, "digest": 3, "hold": 1, "reverse": 3, "sort_lines": 1
 
 def settings(server, round_ms):
     """The settings of the farm, with its job server at this port."""
-    lines = ["version = 1", f'server = "{HOST}:{server}"', f"round_ms = {round_ms}", "lull_ms = 20", "job_timeout_ms = 30000", f"history = {HISTORY}"]
+    lines = ["version = 1", f'server = "{HOST}:{server}"', f"round_ms = {round_ms}", "lull_ms = 20", "job_timeout_ms = 30000"]
     lines += [f"[functions.{name}]\nleast = {least}" for name, least in LEAST.items()]
     machines = [(name, workers, LEAST) for name, workers in HEALTHY.items()]
     machines += [(name, BAD_WORKERS, [function]) for name, (_, function) in BAD.items()]
