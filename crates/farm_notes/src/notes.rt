@@ -7,8 +7,8 @@ ghost use Rattle.pool_supervisor.specs.Steps.{IsMadeOf};
 use crate::found::Found;
 use crate::tally::FunctionJobs;
 use farm_page::{
-    Backlogs, EndView, Evidence, Failures, FarmView, FunctionView, HostView, Outcome, QueueView,
-    Shortage, Workers,
+    Backlogs, EndView, Evidence, Failures, FarmView, FunctionView, HostView, Outcome, Shortage,
+    Workers,
 };
 use job_runner::EndCause;
 use plan_model::{Certified, FuncId, MachineId};
@@ -84,12 +84,6 @@ fn most_of(settings: &Settings, function: FuncId) -> Option<u32> {
         Some(most) if *most < settings.slots() => Some(*most),
         _ => None,
     }
-}
-
-/// What a page shows of a function's queue, if its waiting jobs are known.
-fn queue_view(waiting: Option<u32>, jobs: Option<FunctionJobs>) -> Option<QueueView> {
-    let running = jobs.map_or(0, |jobs| jobs.running);
-    waiting.map(|waiting| QueueView { waiting, running })
 }
 
 /// The evidence of what was found, if anything was. The only error is out of memory.
@@ -175,7 +169,8 @@ impl Kept {
         let (waiting, workers) = self.numbers(made.number, function);
         Ok(FunctionView {
             name: String::from_str(alloc, settings.function_name(function))?,
-            queue: queue_view(waiting, jobs),
+            waiting,
+            running: jobs.map(|jobs| jobs.running),
             workers,
             least: settings.least(function),
             most: most_of(settings, function),
@@ -236,13 +231,11 @@ impl Kept {
         Ok(hosts)
     }
 
-    /// What a page shows of the causes for which workers ended.
+    /// What a page shows of the causes for which workers end: of each, so that a count that rises was there as 0.
     fn ends(&self, alloc: Global) -> Result<Vec<EndView>, AllocError> {
         let mut ends = Vec::new(alloc);
         for (cause, count) in self.ends.each() {
-            if count > 0 {
-                ends.push(end_view(alloc, cause, count)?)?;
-            }
+            ends.push(end_view(alloc, cause, count)?)?;
         }
         Ok(ends)
     }

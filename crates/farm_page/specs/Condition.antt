@@ -1,6 +1,6 @@
 -- How a farm is, in one sentence.
 use Rattle.std.specs.Prelude.{ℕ, ◌-◌, ◌==◌, ◌^◌, List, ◌++◌, Bool, true, false, ◌&&◌, nat_le, nat_lt, Option, Some, None, String}
-use Rattle.std.specs.Prelude.{codes, find, if◌then◌else◌, is_none, is_some, length, min, string_bytes, sum_by, take}
+use Rattle.std.specs.Prelude.{codes, find, if◌then◌else◌, is_none, is_some, length, min, string_bytes, sum_by, take, unwrap_or}
 use Rattle.std.specs.Global.{Global}
 use Rattle.std.specs.Fmt.{decimal}
 use Rattle.std.specs.List.{flat_map}
@@ -29,7 +29,7 @@ is_unserved (NoRound why) = false
 -- the jobs that wait for a function without workers: none if it has one, or if that is not known
 abbrev pub without_workers : FunctionView → ℕ
 without_workers f =
-    if option_map_or (λ workers. workers == 0) f.workers false then option_map_or (λ queue. queue.waiting) f.queue 0
+    if option_map_or (λ workers. workers == 0) f.workers false then unwrap_or f.waiting 0
     else 0
 
 -- the jobs that wait for functions without workers, as far as a number of 64 bits counts them

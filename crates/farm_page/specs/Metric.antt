@@ -110,8 +110,8 @@ farm_value view moment metric.Workers = Some view.workers.all
 farm_value view moment _ = None
 
 abbrev pub function_value : FunctionView → Metric → Option ℕ
-function_value f metric.FunctionWaiting = option_map (λ queue. queue.waiting) f.queue
-function_value f metric.FunctionRunning = option_map (λ queue. queue.running) f.queue
+function_value f metric.FunctionWaiting = f.waiting
+function_value f metric.FunctionRunning = f.running
 function_value f metric.FunctionWorkers = f.workers
 function_value f metric.FunctionLeast = Some f.least
 function_value f metric.FunctionMost = f.most

@@ -76,7 +76,7 @@ workers_cell f = option_map_or (λ workers. cell (workers_mark workers f.least) 
 
 -- the jobs that wait for each of so many workers
 abbrev pub waiting_per : FunctionView → ℕ → Option ℕ
-waiting_per f workers = if workers == 0 then None else option_map (λ queue. div_ceil queue.waiting workers) f.queue
+waiting_per f workers = if workers == 0 then None else option_map (λ waiting. div_ceil waiting workers) f.waiting
 
 -- the jobs that wait for each worker, rounded up; the greatest number that a function has is the backlog
 abbrev pub waiting_per_worker : FunctionView → Option ℕ
@@ -112,8 +112,9 @@ host_row h =
     row_name (string_bytes h.name) ++ cell_if (host_value h HostAlive) Unknown ++ cell Plain h.all ++ bar_if h.alive h.all h.all
     ++ reached_cell h ++ codes "</tr>\n"
 
+-- a cause for which no worker ended has no row
 abbrev pub end_row : EndView → List ℕ
-end_row end = row_name (string_bytes end.cause) ++ cell Plain end.count ++ codes "</tr>\n"
+end_row end = if end.count == 0 then [] else (row_name (string_bytes end.cause) ++ cell Plain end.count ++ codes "</tr>\n")
 
 -- ---- jobs that were not completed
 

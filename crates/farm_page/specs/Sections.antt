@@ -41,7 +41,7 @@ lacks_workers f = option_map_or (λ workers. nat_lt workers f.least) f.workers f
 -- jobs wait, or there are fewer workers than there are to be, or jobs failed or were lost
 abbrev pub is_busy : FunctionView → Bool
 is_busy f =
-    option_map_or (λ queue. nat_lt 0 queue.waiting) f.queue false
+    option_map_or (λ waiting. nat_lt 0 waiting) f.waiting false
     || (lacks_workers f || option_map_or has_faults f.jobs false)
 
 abbrev pub is_of : Share → FunctionView → Bool

@@ -33,8 +33,8 @@ fn unreached(hosts: &[HostView]) -> Option<&HostView>
 fn without_workers(function: &FunctionView) -> u32
     ensures { result ≡ spec.without_workers function.now }
 {
-    match (function.workers, function.queue) {
-        (Some(0), Some(queue)) => queue.waiting,
+    match (function.workers, function.waiting) {
+        (Some(0), Some(waiting)) => waiting,
         _ => 0,
     }
 }

@@ -18,15 +18,13 @@ struct Point {
     down: u64,
 }
 
-/// The greatest backlog, and 1 if there is none above 0.
-fn top_of(backlogs: &Backlogs) -> u64
-    ensures { 1 ≤ result }
-{
-    let mut top = 0u64;
+/// The greatest backlog, and 0 if there is none.
+fn greatest_of(backlogs: &Backlogs) -> u64 {
+    let mut greatest = 0u64;
     for backlog in backlogs.points() {
-        top = top.max(backlog.unwrap_or(0));
+        greatest = greatest.max(backlog.unwrap_or(0));
     }
-    top.max(1)
+    greatest
 }
 
 /// How far from the top a backlog is drawn, of 1,000.
@@ -126,23 +124,23 @@ fn put_now(out: &mut Markup, backlogs: &Backlogs) -> Result<(), AllocError> {
 }
 
 /// Adds the scale: the backlog of now, and the greatest.
-fn put_scale(out: &mut Markup, backlogs: &Backlogs, top: u64) -> Result<(), AllocError> {
+fn put_scale(out: &mut Markup, backlogs: &Backlogs, greatest: u64) -> Result<(), AllocError> {
     out.put_tags("<figcaption><span><b>Backlog</b> now ")?;
     put_now(out, backlogs)?;
     out.put_tags("</span><span>at most ")?;
-    out.put_number(top)?;
+    out.put_number(greatest)?;
     out.put_tags("</span></figcaption>")
 }
 
 /// Adds the ground of the lines, which says in words what they show.
-fn put_ground(out: &mut Markup, backlogs: &Backlogs, top: u64) -> Result<(), AllocError> {
+fn put_ground(out: &mut Markup, backlogs: &Backlogs, greatest: u64) -> Result<(), AllocError> {
     out.put_tags(
         "<svg class=\"chart\" viewBox=\"0 0 600 1000\" preserveAspectRatio=\"none\" role=\"img\" \
         aria-label=\"Backlog of the last 600 attempts, now ",
     )?;
     put_now(out, backlogs)?;
     out.put_tags(", at most ")?;
-    out.put_number(top)?;
+    out.put_number(greatest)?;
     out.put_tags(
         "\"><path class=\"axis\" vector-effect=\"non-scaling-stroke\" d=\"M0,40H600M0,1000H600\"/>",
     )
@@ -150,12 +148,12 @@ fn put_ground(out: &mut Markup, backlogs: &Backlogs, top: u64) -> Result<(), All
 
 /// The drawing of the last backlogs, with its scale. The only error is out of memory.
 pub fn drawing(alloc: Global, backlogs: &Backlogs) -> Result<Markup, AllocError> {
-    let top = top_of(backlogs);
-    let lines = curve(alloc, backlogs, top)?;
+    let greatest = greatest_of(backlogs);
+    let lines = curve(alloc, backlogs, greatest.max(1))?;
     let mut out = Markup::new(alloc);
     out.put_tags("<section><figure>")?;
-    put_scale(&mut out, backlogs, top)?;
-    put_ground(&mut out, backlogs, top)?;
+    put_scale(&mut out, backlogs, greatest)?;
+    put_ground(&mut out, backlogs, greatest)?;
     out.put(&lines)?;
     out.put_tags(
         "</svg></figure><div class=\"ends\"><span>600 attempts ago</span><span>now</span></div></section>\n",

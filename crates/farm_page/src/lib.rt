@@ -52,5 +52,5 @@ pub use request::{Asked, Method, Place, Refusal, Site, place_asked};
 pub use style::POLICY;
 pub use view::{
     EndView, Evidence, FailureEnd, FailureView, FarmView, FunctionView, HostView, JobEnds, Outcome,
-    QueueView, Shortage, Workers,
+    Shortage, Workers,
 };

@@ -163,8 +163,8 @@ pub fn function_value(function: &FunctionView, metric: Metric) -> Option<u64>
     ensures { result ≡ spec.function_value function.now metric }
 {
     match metric {
-        Metric::FunctionWaiting => Some(u64::from(function.queue?.waiting)),
-        Metric::FunctionRunning => Some(u64::from(function.queue?.running)),
+        Metric::FunctionWaiting => Some(u64::from(function.waiting?)),
+        Metric::FunctionRunning => Some(u64::from(function.running?)),
         Metric::FunctionWorkers => Some(u64::from(function.workers?)),
         Metric::FunctionLeast => Some(u64::from(function.least)),
         Metric::FunctionMost => Some(u64::from(function.most?)),

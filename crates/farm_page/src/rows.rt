@@ -26,12 +26,12 @@ fn workers_mark(workers: u32, least: u32) -> Mark
 fn waiting_per_worker(function: &FunctionView) -> Option<u64>
     ensures { result ≡ spec.waiting_per_worker function.now }
 {
-    let queue = function.queue?;
+    let waiting = function.waiting?;
     let workers = function.workers?;
     if workers == 0 {
         return None;
     }
-    Some(u64::from(queue.waiting.div_ceil(workers)))
+    Some(u64::from(waiting.div_ceil(workers)))
 }
 
 /// Adds the number of a function's workers, or that it is not known.
@@ -142,10 +142,13 @@ pub fn put_failure(out: &mut Markup, failure: &FailureView) -> Result<(), AllocE
     out.put_tags("</tr>\n")
 }
 
-/// Adds the row of a cause.
+/// Adds the row of a cause, if a worker ended for it.
 pub fn put_end(out: &mut Markup, end: &EndView) -> Result<(), AllocError>
     ensures { OnOk result (out.new ≡ out.old ++ spec.end_row end.now) }
 {
+    if end.count == 0 {
+        return Ok(());
+    }
     put_row_name(out, end.cause.as_str())?;
     put_cell(out, Mark::Plain, end.count)?;
     out.put_tags("</tr>\n")

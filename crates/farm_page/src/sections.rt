@@ -53,7 +53,7 @@ fn lacks_workers(function: &FunctionView) -> bool
 fn is_busy(function: &FunctionView) -> bool
     ensures { result ≡ spec.is_busy function.now }
 {
-    function.queue.map_or(false, |queue| queue.waiting > 0)
+    function.waiting.map_or(false, |waiting| waiting > 0)
         || lacks_workers(function)
         || function.jobs.map_or(false, has_faults)
 }

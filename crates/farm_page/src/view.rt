@@ -37,15 +37,6 @@ pub struct Workers {
     pub all: u32,
 }
 
-/// The queue of a function.
-#[derive(Clone, Copy)]
-pub struct QueueView {
-    /// Jobs that wait for a worker, as the job server counts them.
-    pub waiting: u32,
-    /// Jobs that a worker of the farm has.
-    pub running: u32,
-}
-
 /// What became of the jobs of a function since the farm began.
 #[derive(Clone, Copy)]
 pub struct JobEnds {
@@ -62,8 +53,10 @@ pub struct JobEnds {
 pub struct FunctionView {
     /// Its name.
     pub name: String,
-    /// Its queue. None if the attempt had no status of the job server.
-    pub queue: Option<QueueView>,
+    /// Jobs that wait for a worker, as the job server counts them. None if the attempt had no status of the job server.
+    pub waiting: Option<u32>,
+    /// Jobs that a worker of the farm has. None if that is not counted.
+    pub running: Option<u32>,
     /// How many workers do it. None if the attempt had no plan of them.
     pub workers: Option<u32>,
     /// How many workers are to do it at least.
@@ -87,7 +80,7 @@ pub struct HostView {
     pub unreached: Option<String>,
 }
 
-/// A cause for which workers ended.
+/// A cause for which workers end.
 #[derive(Drop)]
 pub struct EndView {
     /// The cause's name.
@@ -167,7 +160,7 @@ pub struct FarmView {
     pub functions: Vec<FunctionView>,
     /// The hosts, in the order of the settings.
     pub hosts: Vec<HostView>,
-    /// Why workers ended.
+    /// Why workers ended, with the causes of no end.
     pub ends: Vec<EndView>,
     /// The last jobs that were not completed.
     pub failures: Failures,
