@@ -17,26 +17,28 @@ use Rattle.job_runner.specs.Course.{session_of}
 use Rattle.job_runner.specs.Loop.{duty_of}
 use Rattle.job_runner.specs.Run.{Link, Served, EndTold}
 use Rattle.job_runner.specs.Told.{Told, Telling, AreTold, IsMeant}
+use Rattle.worker_state.specs.OrderParts.{OrderParts}
 use Rattle.pool_supervisor.specs.Dials.{IsNew}
+use Rattle.pool_supervisor.specs.Published.{AreSeen}
 use Rattle.pool_supervisor.specs.Sessions.{Counts, no_counts, counts_of, counted, PastSession, past_session, turned_away, HasEnded, HadJobs, HadNamedJobs, IsPast, AllHad, AreSums, Covers}
 
 -- a session of a worker of the run, by what its run promises
 pub is_past : {L F : Type 0} (see : L → Link) (tells : F → F → AssignedJob → Option Told → Type 0) (fails : F → F → AssignedJob → NotDone → Type 0)
     (gives : WorkerName → F → Type 0) (denies : WorkerName → Type 0) (had_jobs : PastSession → Type 0)
-    (settings own : Settings) (worker : WorkerName) (end : SessionEnd) (old new : L)
+    (settings own : Settings) (worker : WorkerName) (end : SessionEnd) (seen : List OrderParts) (old new : L)
     → Covers had_jobs (HadJobs tells fails gives denies) → own ≡ settings → worker.slot < slots settings → IsNew (see old)
     → (denies worker × (new ≡ old) × (end ≡ turned_away))
     ⊎ ((read bytes : List ℕ) × (told : List Telling) × (book : Ledger) × (first last : F) × gives worker first × ((see new).input.given ≡ and_then (see old).input.given read)
     × ((see new).output.got ≡ and_then (see old).output.got bytes) × EndTold tells fails first last end.cause told
-    × Served (session_of (duty_of own worker) (see old).output.got read) told bytes (see old) (see new) book end)
+    × Served (session_of (duty_of own worker) (see old).output.got read) told bytes (see old) (see new) book end × AreSeen seen book.orders)
     → IsPast settings had_jobs worker end
-is_past see tells fails gives denies had_jobs settings own worker end old new covers same known fresh (inl away) =
+is_past see tells fails gives denies had_jobs settings own worker end seen old new covers same known fresh (inl away) =
     let session = past_session worker end None in (
       None,
       record { known = known; served = tt; away = away.2 },
       covers session (record { given = tt; denied = away.0 }),
     )
-is_past see tells fails gives denies had_jobs settings own worker end old new covers same known fresh (inr ran) =
+is_past see tells fails gives denies had_jobs settings own worker end seen old new covers same known fresh (inr ran) =
     let session = past_session worker end (Some ran.2) in (
       Some ran.2,
       record {

@@ -1,10 +1,11 @@
 -- The orders that are published.
 use Rattle.std.specs.Prelude.{◌≡◌, ◌⊎◌, ℕ, nat_lt, List, [], ◌∷◌, ◌++◌, length, if◌then◌else◌, is_some}
+use Rattle.std.specs.List.{AllByRecursion}
 use Rattle.worker_state.specs.OrderParts.{OrderParts}
 use Rattle.worker_state.specs.Slots.{is_live}
 use Rattle.worker_state.specs.declared.order.What.TheVariants.{Stop}
 use Rattle.order_board.specs.declared.view.Post.{Post}
-use Rattle.order_board.specs.Posts.{posts_of, latest}
+use Rattle.order_board.specs.Posts.{BeginsWith, posts_of, latest}
 use Rattle.pool_core.specs.declared.answer.Ran.{Ran}
 use Rattle.pool_core.specs.Machine.{State, slot_in}
 use Rattle.pool_core.specs.Laws.{order_at}
@@ -28,3 +29,7 @@ ArePosted orders before now = (slot : ℕ) → posts_of slot now ≡ posts_of sl
 -- What a reader that has seen these posts of its slot is told: the last of them, or that one as Stop.
 abbrev pub IsRead : List OrderParts → OrderParts → Type 0
 IsRead seen order = (order ≡ latest seen) ⊎ (order ≡ record (latest seen) { what = Stop })
+
+-- Each of the orders is what a reader is told that has seen a beginning of these posts of its slot.
+abbrev pub AreSeen : List OrderParts → List OrderParts → Type 0
+AreSeen seen orders = ∥ AllByRecursion (λ order. (earlier : List OrderParts) × BeginsWith seen earlier × IsRead earlier order) orders ∥₁

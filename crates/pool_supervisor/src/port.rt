@@ -4,7 +4,7 @@ ghost use Rattle.job_runner.specs.Book.{no_calls, after_order};
 ghost use Rattle.order_board.specs.Posts.{BeginsWith};
 ghost use Rattle.pool_supervisor.specs.JobCounts.{answered};
 ghost use Rattle.pool_supervisor.specs.PortCalls.{book_of, grab_refusal_of};
-ghost use Rattle.pool_supervisor.specs.Published.{IsRead};
+ghost use Rattle.pool_supervisor.specs.Published.{AreSeen, IsRead};
 
 use crate::calls::{Call, Calls, note};
 use crate::job_counts::JobCounts;
@@ -62,10 +62,12 @@ pub struct SharedPort<'a, N: RunId, C, R> {
     ghost grabs_counted: { grab_share.amount ≡ (book_of calls.value).grabs },
     ghost reports_counted: { report_share.amount ≡ (book_of calls.value).reports },
     ghost ends_counted: { answered jobs_done ≡ (book_of calls.value).reports },
+    ghost orders_seen: { AreSeen place.seat.seen (book_of calls.value).orders },
 }
 
 impl<'a, N: RunId, C: Watch, R: Wait> SharedPort<'a, N, C, R> {
     /// A port that was not called yet, over shares that stand at 0 and a place at the board.
+    #[tactic(auto, using(crate::proofs::Seen::none_seen))]
     pub fn new(
         rt: &'a R,
         shared: &'a Shared<Grabs<N>, Reports<N>>,
@@ -104,6 +106,7 @@ impl<'a, N: RunId, C: Watch, R: Wait> SharedPort<'a, N, C, R> {
         ensures grabbed { (result.0.parts ≡ 1) × (result.0.amount ≡ (⟦<SharedPort<'a, N, C, R> as PoolPort>⟧.book self.entry).grabs) }
         ensures reported { (result.1.parts ≡ 1)
             × (result.1.amount ≡ (⟦<SharedPort<'a, N, C, R> as PoolPort>⟧.book self.entry).reports) }
+        ensures seen { AreSeen result.2.seat.seen (⟦<SharedPort<'a, N, C, R> as PoolPort>⟧.book self.entry).orders }
     {
         let SharedPort {
             rt: _,
@@ -136,6 +139,7 @@ impl<'a, N: RunId, C: Watch, R: Wait> PoolPort for SharedPort<'a, N, C, R> {
 
     ghost book = { λ p. book_of p.calls.value };
 
+    #[tactic(auto, using(crate::proofs::Seen::seen_more))]
     fn order(&mut self, pass: &Pass) -> Order
         ensures book { book_of self.new.calls.value ≡ after_order (book_of self.old.calls.value) result }
         ensures read { IsRead self.new.place.seat.seen result }

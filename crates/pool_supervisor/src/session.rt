@@ -8,6 +8,7 @@ ghost use Rattle.job_runner.specs.Run.{EndTold, Served};
 ghost use Rattle.job_runner.specs.Told.{Telling};
 ghost use Rattle.pool_settings.specs.Slots.{slots};
 ghost use Rattle.pool_supervisor.specs.JobCounts.{answered};
+ghost use Rattle.pool_supervisor.specs.Published.{AreSeen};
 ghost use Rattle.pool_supervisor.specs.Sessions.{turned_away};
 
 use crate::job_counts::JobCounts;
@@ -145,7 +146,7 @@ fn run_jobs<N: RunId, L: Source + Sink, J: JobSource, C: Watch, R: Wait>(
         × Served (session_of (duty_of site.now.run.settings.now papers.worker.pass) (L.output link.old).got read) told bytes
         (record { input = L.input link.old; output = L.output link.old })
         (record { input = L.input link.new; output = L.output link.new })
-        book result.end }
+        book result.end × AreSeen result.place.seat.seen book.orders }
 {
     let Papers {
         worker: Enrolled { pass, place },
@@ -203,7 +204,7 @@ fn turn_away<N: RunId, J, C, R: Wait>(site: &Site<'_, N, J, C, R>, papers: Paper
 }
 
 /// A worker's session over the shared pool, to its end, with the jobs that the source gives it. It promises of what it reads and writes
-/// what [`serve_worker`] does. If the source gives it none, it ends as `Unserved` before it begins, and nothing is read or written. The
+/// what [`serve_worker`] does, and each order that it obeys is one that its place saw. If the source gives it none, it ends as `Unserved` before it begins, and nothing is read or written. The
 /// shares begin at 0 and come back at the counts of its end, so the pool has booked just what the session reports.
 pub fn run_worker<N: RunId, L: Source + Sink, J: JobSource, C: Watch, R: Wait>(
     site: &Site<'_, N, J, C, R>,
@@ -222,7 +223,7 @@ pub fn run_worker<N: RunId, L: Source + Sink, J: JobSource, C: Watch, R: Wait>(
         × Served (session_of (duty_of site.now.run.settings.now papers.worker.pass) (L.output link.old).got read) told bytes
         (record { input = L.input link.old; output = L.output link.old })
         (record { input = L.input link.new; output = L.output link.new })
-        book result.end) }
+        book result.end × AreSeen result.place.seat.seen book.orders) }
 {
     match site.lent.jobs.jobs_of(papers.worker.pass.name()) {
         Some(jobs) => run_jobs(site, link, papers, jobs),

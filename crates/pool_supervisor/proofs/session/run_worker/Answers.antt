@@ -16,6 +16,7 @@ returns-in-Some g c =
         ran.6,
         ran.7,
         ran.8,
+        ran.9,
       );
     }
 
