@@ -93,12 +93,16 @@ impl<'e, H: FarmHost> JobSource for FarmSource<'e, H> {
             self.host.tell(news_line(self.alloc, farm, machine, news));
         }
         if let Err(why) = opened {
+            let worker = WorkerName { slot, generation };
             self.host
                 .tell(no_connection_line(self.alloc, farm, worker, why));
             return None;
         }
-        self.last_jobs.begin(self.host, worker).ok()?;
-        self.hosts.has_started(self.host, machine, worker);
+        self.last_jobs
+            .begin(self.host, WorkerName { slot, generation })
+            .ok()?;
+        self.hosts
+            .has_started(self.host, machine, WorkerName { slot, generation });
         Some(FarmJobs {
             host: self.host,
             farm,

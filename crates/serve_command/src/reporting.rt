@@ -199,7 +199,8 @@ impl<'e, H: FarmHost> Watch for Reporting<'e, H> {
     /// worker just ends. So do all workers but one of a host that takes connections and serves no job: one by one they would take jobs
     /// from others, and give them back.
     fn may_go_on(&self, worker: WorkerName) -> bool {
-        let Some(machine) = self.farm.machine_of(worker.slot) else {
+        let slot = worker.slot;
+        let Some(machine) = self.farm.machine_of(slot) else {
             return false;
         };
         match self.hosts.before_job(self.host, machine, worker) {
@@ -210,7 +211,7 @@ impl<'e, H: FarmHost> Watch for Reporting<'e, H> {
         if self.host.is_to_end() {
             return false;
         }
-        let Some(name) = self.farm.host_of(self.alloc, worker.slot) else {
+        let Some(name) = self.farm.host_of(self.alloc, slot) else {
             return true;
         };
         let mut dials = self.host.dials(name, self.farm.call_times());
