@@ -25,11 +25,10 @@ pub record Counts : Type 0 where
 abbrev pub no_counts : Counts
 no_counts = record { grabbed = 0; reported = 0 }
 
--- how many run, for how many there is room, how many could not be started, and what those counted that have ended
+-- how many there are to join, for how many there is room, and what those counted that were joined
 pub record Sessions : Type 0 where
   pub running : ℕ
   pub room : ℕ
-  pub not_started : ℕ
   pub counts : Counts
 
 -- how a session ends that is given no jobs: before it begins

@@ -82,7 +82,7 @@ pub fn ask_for_load<L: Source + Sink + Drop, Y: Dial<L>>(
 ) -> Result<Load, Attempt>
     ensures { Asks result (Y.calls dial.old) (Y.calls dial.new) }
 {
-    let Some(link) = dial.dial() else {
+    let Some(link) = dial.dial_for_status() else {
         return Err(Attempt::NoLink);
     };
     let (answer, link) = ask(alloc, link);

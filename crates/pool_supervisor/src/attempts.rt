@@ -155,8 +155,20 @@ impl<
     C: Watch + Progress + Sync,
     R: Threads + Wait + Sync,
 > Supervisor<'e, N, L, Y, P, J, C, R> {
+    /// Goes on if no thread could be started for this slot: it stays empty. A run of so many attempts does not go on, but ends with this
+    /// error.
+    fn go_on_without(&self, slot: SlotId, error: AllocError) -> Result<(), AllocError> {
+        match self.site.run.until {
+            Until::Rounds(_) => Err(error),
+            Until::Ended => {
+                self.site.lent.watch.not_started(slot);
+                Ok(())
+            }
+        }
+    }
+
     /// Starts a session in the slot over this link if there is room and a worker; else the link is closed. The error is that a thread could
-    /// not be started.
+    /// not be started, in a run of so many attempts.
     fn start_over<'s>(
         &mut self,
         scope: &Scope<'s, &'e ()>,
@@ -191,12 +203,16 @@ impl<
         };
         let name = pass.name();
         let worker = Enrolled { pass, place };
-        site.start(scope, &mut self.crew, berth, link, worker)?;
-        site.lent.watch.joined(&JoinedWorker {
-            settings: site.run.settings,
-            worker: name,
-        });
-        Ok(())
+        match site.start(scope, &mut self.crew, berth, link, worker) {
+            Ok(()) => {
+                site.lent.watch.joined(&JoinedWorker {
+                    settings: site.run.settings,
+                    worker: name,
+                });
+                Ok(())
+            }
+            Err(error) => self.go_on_without(slot, error),
+        }
     }
 
     /// Dials for the slot if it is empty and may have a worker, and starts a session if there is a link, room and a worker. The error is
@@ -411,10 +427,7 @@ impl<
         } = self;
         let ended = crew.join_all(&site, &mut seats.source, &mut dial, rounds, lines);
         attempted?;
-        match ended {
-            Some(ended) => Ok((ended, dial)),
-            None => Err(AllocError),
-        }
+        Ok((ended, dial))
     }
 
     /// The run, with its sessions as threads of one scope. All that they are lent has one lifetime. What dials is handed back.

@@ -18,8 +18,9 @@ use crate::news::{EndedWorker, Progress};
 use crate::place::{Grabs, Place, Reports, RunId, RunRounds};
 use crate::port::Watch;
 use crate::run::RunEnd;
-use crate::session::{Enrolled, Papers, Returned, Site};
+use crate::session::{Enrolled, Papers, Returned, Site, Unused, give_up};
 use byte_io::{Sink, Source};
+use core::thread::{Anything, Stack};
 use order_board::SeatSource;
 use std::alloc::{AllocError, Global};
 use std::marker::Model;
@@ -27,7 +28,6 @@ use std::snapshot::Snapshot;
 use std::sync::atomic::{AtomicBool, Ordering};
 use std::sync::ledger::Share;
 use std::sync::{Arc, Wait};
-use std::thread;
 use std::thread::{JoinHandle, Scope, Threads};
 
 /// Into how many parts the ledgers of a run are cut: one for each session that runs, and one at least for the crew.
@@ -37,36 +37,55 @@ pub const PARTS: u64 = 1 << 40;
 /// is on the heap.
 const STACK: usize = 256 * 1024;
 
-/// A session that was started.
+/// What a session comes to: it was run to its end, and besides what its link was then; or it never began, since no thread could be started
+/// for it.
+type SessionOutcome<N, L> = Result<(EndedSession<N>, Snapshot<L>), Unused<N>>;
+
+/// A session that was started, or is over since it could not be.
 #[derive(Drop)]
-struct Started<N: RunId, L: Source + Sink> {
-    /// It hands back what its link was at its end, besides.
-    handle: JoinHandle<(EndedSession<N>, Snapshot<L>)>,
+enum Session<N: RunId, L: Source + Sink> {
+    /// It has a thread, which hands back what it comes to.
+    InThread(JoinHandle<SessionOutcome<N, L>>),
+    /// It came to this.
+    Over(SessionOutcome<N, L>),
+}
+
+/// What a session and its crew tell each other.
+#[derive(Drop)]
+struct Signals {
+    /// Set by the crew if there is no thread for the session, before it lets the session know.
+    is_refused: AtomicBool,
     /// Set by the session as the last that it does.
-    has_ended: Arc<AtomicBool>,
+    has_ended: AtomicBool,
+}
+
+/// A session that was not joined yet.
+#[derive(Drop)]
+struct Unjoined<N: RunId, L: Source + Sink> {
+    session: Session<N, L>,
+    signals: Arc<Signals>,
 }
 
 /// Room for one more session: what its start needs of memory but for the thread.
 #[derive(Drop)]
 pub struct Berth {
-    has_ended: Arc<AtomicBool>,
-    of_session: Arc<AtomicBool>,
+    signals: Arc<Signals>,
+    of_session: Arc<Signals>,
 }
 
 /// The sessions that run, and what those that ended handed back.
 ///
-/// Our shares and the running sessions' shares make up both ledgers, less two for each session that failed to start. Our shares
-/// equal the sums of what the sessions reported that were joined.
+/// Our shares and the running sessions' shares make up both ledgers. Our shares equal the sums of what the sessions reported that were
+/// joined.
 #[derive(Drop)]
 pub struct Crew<N: RunId, L: Source + Sink> {
-    running: Vec<Started<N, L>>,
+    running: Vec<Unjoined<N, L>>,
     grabs: Share<Grabs<N>>,
     reports: Share<Reports<N>>,
     grabbed: u64,
     reported: u64,
     jobs: JobCounts,
     ends: EndCounts,
-    not_started: u64,
 }
 
 impl<N: RunId, L: Source + Sink> Model for Crew<N, L> {
@@ -79,13 +98,12 @@ impl<N: RunId, L: Source + Sink> Model for Crew<N, L> {
     ghost view = { λ c. record {
       running = vec_len c.running;
       room = vec_capacity c.running;
-      not_started = c.not_started;
       counts = record { grabbed = c.grabbed; reported = c.reported };
     } };
 
     ghost invariant = { λ c.
-        (c.grabs.parts + vec_len c.running + c.not_started ≡ 2 ^ 40) × (c.grabs.amount ≡ c.grabbed)
-        × (c.reports.parts + vec_len c.running + c.not_started ≡ 2 ^ 40) × (c.reports.amount ≡ c.reported)
+        (c.grabs.parts + vec_len c.running ≡ 2 ^ 40) × (c.grabs.amount ≡ c.grabbed)
+        × (c.reports.parts + vec_len c.running ≡ 2 ^ 40) × (c.reports.amount ≡ c.reported)
         × (answered c.jobs ≡ c.reported) };
 }
 
@@ -104,7 +122,6 @@ impl<N: RunId, L: Source + Sink> Crew<N, L> {
             reported: 0,
             jobs: JobCounts::none(),
             ends: EndCounts::none(),
-            not_started: 0,
         }
     }
 
@@ -112,16 +129,20 @@ impl<N: RunId, L: Source + Sink> Crew<N, L> {
     pub fn berth(&mut self, alloc: Global) -> Result<Berth, AllocError>
         ensures room { OnOk result (self.new.running < self.new.room) }
         ensures counts { self.new.counts ≡ self.old.counts }
-        ensures parts { OnOk result (self.new.running + self.new.not_started + 2 ≤ 2 ^ 40) }
+        ensures parts { OnOk result (self.new.running + 2 ≤ 2 ^ 40) }
     {
-        if self.running.len() as u64 >= PARTS / 2 || self.not_started >= PARTS / 4 {
+        if self.running.len() as u64 >= PARTS / 2 {
             return Err(AllocError);
         }
         self.running.reserve(1)?;
-        let has_ended = Arc::new(alloc, AtomicBool::new(false))?;
-        let of_session = Arc::try_clone(&has_ended)?;
+        let signals = Signals {
+            is_refused: AtomicBool::new(false),
+            has_ended: AtomicBool::new(false),
+        };
+        let signals = Arc::new(alloc, signals)?;
+        let of_session = Arc::try_clone(&signals)?;
         Ok(Berth {
-            has_ended,
+            signals,
             of_session,
         })
     }
@@ -130,10 +151,11 @@ impl<N: RunId, L: Source + Sink> Crew<N, L> {
     fn has_ended(&self, at: usize) -> bool
         requires { at < self.now.running }
     {
-        self.running[at].has_ended.load(Ordering::SeqCst)
+        self.running[at].signals.has_ended.load(Ordering::SeqCst)
     }
 
-    /// Joins a session, adds up what it did, takes its seat back, and reports how it and its link ended.
+    /// Joins a session, adds up what it did, takes its seat back, and reports how it and its link ended. Of one for which no thread could
+    /// be started there is nothing to add or report.
     fn take_back<J, C: Progress, R: Threads + Wait, Y: Dial<L>>(
         &mut self,
         site: &Site<'_, N, J, C, R>,
@@ -155,13 +177,25 @@ impl<N: RunId, L: Source + Sink> Crew<N, L> {
             reported,
             jobs,
             ends,
-            ..
         } = self;
-        let Started {
-            handle,
-            has_ended: _,
+        let Unjoined {
+            session,
+            signals: _,
         } = running.swap_remove(at);
-        let (ended, link) = handle.join(site.lent.rt);
+        let outcome = match session {
+            Session::InThread(handle) => handle.join(site.lent.rt),
+            Session::Over(outcome) => outcome,
+        };
+        let (ended, link) = match outcome {
+            Ok(ended) => ended,
+            Err(unused) => {
+                grabs.merge(unused.grabbed);
+                reports.merge(unused.reported);
+                let Place { seat, of: _ } = unused.place;
+                site.run.board.give_back(seat, source);
+                return;
+            }
+        };
         let (worker, returned) = ended.into_parts();
         let Returned {
             end,
@@ -210,8 +244,7 @@ impl<N: RunId, L: Source + Sink> Crew<N, L> {
     }
 
     /// Joins all sessions, as each ends, and takes the totals: what the run came to, with these lines. Totals and chapters are of the
-    /// history of which these rounds were told, and the totals are the sums of what its sessions counted. None if a session could not be
-    /// started.
+    /// history of which these rounds were told, and the totals are the sums of what its sessions counted.
     #[tactic(auto, using(crate::proofs::Tries::same_joins))]
     pub fn join_all<J, C: Progress, R: Threads + Wait, Y: Dial<L>>(
         mut self,
@@ -220,20 +253,16 @@ impl<N: RunId, L: Source + Sink> Crew<N, L> {
         dial: &mut Y,
         rounds: RunRounds<N>,
         lines: Lines,
-    ) -> Option<RunEnd>
+    ) -> RunEnd
         requires board { source.old.board ≡ N.board }
-        ensures joins { IfSome result (λ ended. Joins N.settings N.had_jobs self.counts (counts_of ended.totals)
-            (Y.calls dial.old) (Y.calls dial.new)) }
-        ensures lines { IfSome result (λ ended. vec_len ended.lines ≡ vec_len lines.told) }
-        ensures told { IfSome result (λ ended. ended.lines.items ≡ lines.told.items) }
-        ensures counts { IfSome result (λ ended. CountAHistory N.settings ended.totals ended.chapters rounds) }
+        ensures joins { Joins N.settings N.had_jobs self.counts (counts_of result.totals) (Y.calls dial.old) (Y.calls dial.new) }
+        ensures lines { vec_len result.lines ≡ vec_len lines.told }
+        ensures told { result.lines.items ≡ lines.told.items }
+        ensures counts { CountAHistory N.settings result.totals result.chapters rounds }
     {
         while self.running.len() > 0 {
             let last = self.running.len() - 1;
             self.take_back(site, source, dial, last);
-        }
-        if self.not_started > 0 {
-            return None;
         }
         let Crew {
             running: _,
@@ -243,14 +272,13 @@ impl<N: RunId, L: Source + Sink> Crew<N, L> {
             reported,
             jobs,
             ends,
-            not_started: _,
         } = self;
         let rt = site.lent.rt;
         let mut held = site.shared.hold(rt);
         let totals = held.settle(rt, &mut grabs, &mut reports, rounds);
         let chapters = held.pool().chapters();
         let Lines { told, until: _ } = lines;
-        Some(RunEnd {
+        RunEnd {
             totals,
             grabbed,
             reported,
@@ -258,7 +286,7 @@ impl<N: RunId, L: Source + Sink> Crew<N, L> {
             ends,
             chapters,
             lines: told,
-        })
+        }
     }
 }
 
@@ -269,7 +297,8 @@ impl<'e, N: RunId, J: JobSource + Sync, C: Watch + Sync, R: Threads + Wait + Syn
     C,
     R,
 > {
-    /// Starts a session of the crew in a thread of its own. At `Err` no thread could be started, and the crew's sums are lost.
+    /// Starts a session of the crew in a thread of its own. At `Err` no thread could be started: then the worker is lost as out of memory,
+    /// and its link is closed.
     pub fn start<'s, L: Source + Sink + Send + Drop + 's>(
         self,
         scope: &Scope<'s, &'e ()>,
@@ -282,7 +311,7 @@ impl<'e, N: RunId, J: JobSource + Sync, C: Watch + Sync, R: Threads + Wait + Syn
         'e: 's,
         N: Send + Sync + 's,
         requires room { crew.old.running < crew.old.room }
-        requires parts { crew.old.running + crew.old.not_started + 2 ≤ 2 ^ 40 }
+        requires parts { crew.old.running + 2 ≤ 2 ^ 40 }
         requires slot { worker.pass.slot < slot_count self.run.settings.now }
         requires fresh { IsNew (seen_link L.input L.output link) }
         requires source { Covers N.had_jobs (HadJobs J.Jobs.tells J.Jobs.fails (J.gives self.lent.jobs.now) (J.denies self.lent.jobs.now)) }
@@ -293,7 +322,6 @@ impl<'e, N: RunId, J: JobSource + Sync, C: Watch + Sync, R: Threads + Wait + Syn
             running,
             grabs,
             reports,
-            not_started,
             ..
         } = crew;
         let papers = Papers {
@@ -302,32 +330,40 @@ impl<'e, N: RunId, J: JobSource + Sync, C: Watch + Sync, R: Threads + Wait + Syn
             reported: reports.split_off(1, 0),
         };
         let Berth {
-            has_ended,
+            signals,
             of_session,
         } = berth;
-        let work = move || -> (EndedSession<N>, Snapshot<L>)
+        let work = move || -> SessionOutcome<N, L>
             requires slot { papers.worker.pass.slot < slot_count site.run.settings.now }
             requires fresh { IsNew (seen_link L.input L.output link) }
             requires source { Covers N.had_jobs
                 (HadJobs J.Jobs.tells J.Jobs.fails (J.gives site.lent.jobs.now) (J.denies site.lent.jobs.now)) }
         {
-            let mut link = link;
-            let ended = EndedSession::of(&site, &mut link, papers);
-            let closed = Snapshot::of(&link);
+            let (mut link, papers) = (link, papers);
+            let outcome = if of_session.is_refused.load(Ordering::SeqCst) {
+                Err(give_up(&site, papers))
+            } else {
+                let ended = EndedSession::of(&site, &mut link, papers);
+                Ok((ended, Snapshot::of(&link)))
+            };
             drop(link);
-            of_session.store(true, Ordering::SeqCst);
-            (ended, closed)
+            of_session.has_ended.store(true, Ordering::SeqCst);
+            outcome
         };
-        match thread::Builder::new()
+        match Stack::new()
             .stack_size(STACK)
-            .spawn_scoped(scope, work)
+            .spawn_scoped_with(scope, Anything, work)
         {
             Ok(handle) => {
-                running.push_reserved(Started { handle, has_ended });
+                let session = Session::InThread(handle.forget_promise());
+                running.push_reserved(Unjoined { session, signals });
                 Ok(())
             }
-            Err(_) => {
-                *not_started += 1;
+            Err(refused) => {
+                signals.is_refused.store(true, Ordering::SeqCst);
+                let work = refused.value;
+                let session = Session::Over(work());
+                running.push_reserved(Unjoined { session, signals });
                 Err(AllocError)
             }
         }

@@ -21,6 +21,14 @@ pub trait Dial<L: Source + Sink> {
         ensures calls { Self.calls self.new ≡ then_called (Self.calls self.old) (dialled result ∷ []) }
         ensures fresh { IfSome result (λ link. IsNew (seen_link L.input L.output link)) };
 
+    /// A new link over which the server is asked for its status, or none if the server could not be reached.
+    fn dial_for_status(&mut self) -> Option<L>
+        ensures calls { Self.calls self.new ≡ then_called (Self.calls self.old) (dialled result ∷ []) }
+        ensures fresh { IfSome result (λ link. IsNew (seen_link L.input L.output link)) }
+    {
+        self.dial()
+    }
+
     /// A link was closed. This is what it was then: a link of the run's own after its use, and the link of a session once that is joined.
     /// A link over which no session came about is not reported.
     fn hung_up(&mut self, link: Snapshot<L>)

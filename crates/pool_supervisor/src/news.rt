@@ -71,6 +71,10 @@ pub trait Progress {
     /// There is a link for a worker of the slot, and the pool takes none, by this refusal.
     fn not_joined(&self, _slot: SlotId, _error: JoinError) {}
 
+    /// There is a link and a worker for the slot, and no thread could be started for them. The worker is lost, and the link is closed. Only
+    /// a run that ends when its watch says so goes on.
+    fn not_started(&self, _slot: SlotId) {}
+
     /// A worker's session has ended, and its thread was joined.
     fn ended(&self, _ended: &EndedWorker<'_>) {}
 

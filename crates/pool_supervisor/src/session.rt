@@ -103,6 +103,23 @@ pub struct Papers<N: RunId> {
     pub ghost none_reported: { reported.amount ≡ 0 },
 }
 
+/// What is left of the papers of a session that never began: its place at the board, and its shares, which are 0.
+#[derive(Drop)]
+pub struct Unused<N: RunId> {
+    /// Its place at the board.
+    pub place: Place<N>,
+    /// Its share of the book of grabs.
+    pub grabbed: Share<Grabs<N>>,
+    /// Its share of the book of reports.
+    pub reported: Share<Reports<N>>,
+    /// It has one part of each ledger.
+    pub ghost grab_part: { grabbed.parts ≡ 1 },
+    pub ghost report_part: { reported.parts ≡ 1 },
+    /// Nothing was grabbed or reported.
+    pub ghost none_grabbed: { grabbed.amount ≡ 0 },
+    pub ghost none_reported: { reported.amount ≡ 0 },
+}
+
 /// How many reads a session may make.
 const TURNS: u32 = u32::MAX;
 
@@ -197,6 +214,24 @@ fn turn_away<N: RunId, J, C, R: Wait>(site: &Site<'_, N, J, C, R>, papers: Paper
             reported: 0,
         },
         jobs: JobCounts::none(),
+        place,
+        grabbed,
+        reported,
+    }
+}
+
+/// Gives up a session for which there is no thread. Its worker is lost as out of memory, as one is that finds no memory later.
+pub fn give_up<N: RunId, J, C, R: Wait>(
+    site: &Site<'_, N, J, C, R>,
+    papers: Papers<N>,
+) -> Unused<N> {
+    let Papers {
+        worker: Enrolled { pass, place },
+        grabbed,
+        reported,
+    } = papers;
+    let _ = site.shared.hold(site.lent.rt).lose(pass, Cause::Memory);
+    Unused {
         place,
         grabbed,
         reported,

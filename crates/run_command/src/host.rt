@@ -2,9 +2,9 @@
 ghost use Rattle.std.specs.Prelude.{◌≡◌, IfOk, IfSome};
 ghost use Rattle.job_runner.specs.Run.{seen_link};
 ghost use Rattle.pool_supervisor.specs.Dials.{IsNew};
-ghost use Rattle.run_command.specs.Report as spec;
+ghost use Rattle.run_command.specs.Texts as spec;
 
-use crate::report_link::ReportLink;
+use crate::text_link::TextLink;
 use byte_io::{Device, LAST_TIMEOUT, Sink, Source};
 use pool_settings::Settings;
 use pool_supervisor::{Dial, Progress, Watch};
@@ -56,7 +56,7 @@ pub struct Route<'e, H> {
 
 impl<'e, H> Model for Route<'e, H> {
     ghost use Rattle.std.specs.Prelude.{string_bytes};
-    ghost use Rattle.run_command.specs.Report as meant;
+    ghost use Rattle.run_command.specs.Texts as meant;
 
     ghost Value = { meant.Route };
 
@@ -77,22 +77,34 @@ impl<'e, H: Host> Route<'e, H> {
     }
 }
 
-impl<'e, H: Host> Dial<ReportLink<'e, H::Link, H>> for Route<'e, H> {
+impl<'e, H: Host> Dial<TextLink<'e, H::Link, H>> for Route<'e, H> {
     ghost use Rattle.std.specs.Prelude.{◌≡◌, None};
 
     ghost calls = { λ _. None };
 
-    fn dial(&mut self) -> Option<ReportLink<'e, H::Link, H>>
-        ensures fresh { IfSome result (λ link. IsNew (seen_link ⟦<ReportLink<'e, H::Link, H> as Device>⟧.input
-            ⟦<ReportLink<'e, H::Link, H> as Device>⟧.output link)) }
+    fn dial(&mut self) -> Option<TextLink<'e, H::Link, H>>
+        ensures fresh { IfSome result (λ link. IsNew (seen_link ⟦<TextLink<'e, H::Link, H> as Device>⟧.input
+            ⟦<TextLink<'e, H::Link, H> as Device>⟧.output link)) }
         ensures limit { IfSome result (λ link. link.limit_ms ≡ self.old.text_ms) }
         ensures same { self.new ≡ self.old }
     {
         let link = self.host.reach(self.server.as_str(), self.lull_ms)?;
-        Some(ReportLink::new(link, self.host, self.text_ms))
+        Some(TextLink::new(link, self.host, self.text_ms))
     }
 
-    fn hung_up(&mut self, _link: Snapshot<ReportLink<'e, H::Link, H>>)
+    /// A link whose answer has to be read in as many milliseconds as a text may take.
+    fn dial_for_status(&mut self) -> Option<TextLink<'e, H::Link, H>>
+        ensures fresh { IfSome result (λ link. IsNew (seen_link ⟦<TextLink<'e, H::Link, H> as Device>⟧.input
+            ⟦<TextLink<'e, H::Link, H> as Device>⟧.output link)) }
+        ensures limit { IfSome result (λ link. link.limit_ms ≡ self.old.text_ms) }
+        ensures same { self.new ≡ self.old }
+    {
+        let mut link = self.dial()?;
+        link.limit_reading(self.host.now_ms());
+        Some(link)
+    }
+
+    fn hung_up(&mut self, _link: Snapshot<TextLink<'e, H::Link, H>>)
         ensures { self.new ≡ self.old }
     {}
 }

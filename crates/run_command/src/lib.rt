@@ -2,16 +2,16 @@
 #![tactic(auto)]
 
 mod host;
-mod report_link;
 mod running;
 mod system;
 mod text;
+mod text_link;
 mod watching;
 
 pub use host::{Host, Route, text_ms, write_ms};
 pub use pool_supervisor::{Attempt, Attempted, EndedWorker, JoinedWorker, Progress, RunEnd, Watch};
-pub use report_link::ReportLink;
 pub use running::{run_jobs, run_rounds, run_source};
 pub use stock_jobs::{StockJob, stock_jobs};
 pub use system::{System, time_in_seconds};
+pub use text_link::TextLink;
 pub use watching::{attempt_told, end_notes};

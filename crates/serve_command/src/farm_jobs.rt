@@ -1,13 +1,13 @@
 //! The jobs of a farm's workers, done by the services of their machines.
 
+use crate::books::Books;
 use crate::farm::Farm;
-use crate::file_room::FileRoom;
 use crate::host::FarmHost;
 use crate::hosts::{HostNews, Hosts, MachineSlot};
 use crate::job_lines::{failure_of, line_of, told_part};
-use crate::last_jobs::{AnsweredJob, LastJobs};
+use crate::last_jobs::AnsweredJob;
 use devices::DialError;
-use farm_notes::{JobEnd, Tally};
+use farm_notes::JobEnd;
 use gear_packets::Assignment;
 use http_jobs::{Reply, ServiceJobs, Unserved, dial_words};
 use job_runner::{End, Jobs, NotDone, Outcome};
@@ -24,16 +24,8 @@ pub struct FarmSource<'e, H> {
     pub host: &'e H,
     /// Where memory comes from.
     pub alloc: Global,
-    /// The farm.
-    pub farm: &'e Farm,
-    /// Which hosts are reached.
-    pub hosts: &'e Hosts,
-    /// What became of the jobs.
-    pub tally: &'e Tally,
-    /// The job that each worker did last.
-    pub last_jobs: &'e LastJobs,
-    /// Whether there are files for more workers.
-    pub files: &'e FileRoom,
+    /// The farm, and what is kept of it.
+    pub books: Books<'e>,
 }
 
 impl<'e, H: FarmHost> JobSource for FarmSource<'e, H> {
@@ -47,14 +39,18 @@ impl<'e, H: FarmHost> JobSource for FarmSource<'e, H> {
 
     ghost allows = { λ _ _ _. true };
 
-    ghost gives = { λ source worker given. (given.farm ≡ source.farm) × IsServiceOf source.farm.now worker given.jobs.service
+    ghost gives = { λ source worker given. (given.books.farm ≡ source.books.farm)
+        × IsServiceOf source.books.farm.now worker given.jobs.service
         × HasNew (option_map (seen_link H.Call.input H.Call.output) given.jobs.kept) };
 
     ghost denies = { λ _ _. ⊤ };
 
     fn may_start(&self, slot: SlotId) -> bool {
-        let farm = self.farm;
+        let farm = self.books.farm;
         if slot.number() >= farm.settings.slots() || self.host.is_to_end() {
+            return false;
+        }
+        if !self.books.threads.lets(self.host) {
             return false;
         }
         let machine = farm.settings.machine_of(slot);
@@ -63,18 +59,18 @@ impl<'e, H: FarmHost> JobSource for FarmSource<'e, H> {
             number: farm.settings.worker_number(slot),
             of: farm.settings.workers(machine),
         };
-        if !self.hosts.may_start(self.host, own) {
+        if !self.books.hosts.may_start(self.host, own) {
             return false;
         }
-        if let Some(most) = self.files.to_look_for(self.host) {
+        if let Some(most) = self.books.files.to_look_for(self.host) {
             let free = self.host.free_files(most);
-            self.files.were_found(self.host, most, free);
+            self.books.files.were_found(self.host, most, free);
         }
-        self.files.lets(self.host)
+        self.books.files.lets(self.host)
     }
 
     fn jobs_of(&self, worker: WorkerName) -> Option<FarmJobs<'e, H>> {
-        let farm = self.farm;
+        let farm = self.books.farm;
         let slot = worker.slot;
         let generation = worker.generation;
         if slot.number() >= farm.settings.slots() {
@@ -82,14 +78,14 @@ impl<'e, H: FarmHost> JobSource for FarmSource<'e, H> {
         }
         let machine = farm.settings.machine_of(slot);
         let Some((host, service)) = farm.place_of(self.alloc, worker) else {
-            self.files.has_opened(self.host);
+            self.books.files.has_opened(self.host);
             return None;
         };
         let dials = self.host.dials(host, farm.call_times());
         let mut jobs = ServiceJobs::new(service, dials, self.host.times(), 0);
         let opened = jobs.open();
-        self.files.has_opened(self.host);
-        if let Some(news) = self.hosts.was_dialled(self.host, machine, opened) {
+        self.books.files.has_opened(self.host);
+        if let Some(news) = self.books.hosts.was_dialled(self.host, machine, opened) {
             self.host.tell(news_line(self.alloc, farm, machine, news));
         }
         if let Err(why) = opened {
@@ -98,17 +94,16 @@ impl<'e, H: FarmHost> JobSource for FarmSource<'e, H> {
                 .tell(no_connection_line(self.alloc, farm, worker, why));
             return None;
         }
-        self.last_jobs
+        self.books
+            .last_jobs
             .begin(self.host, WorkerName { slot, generation })
             .ok()?;
-        self.hosts
+        self.books
+            .hosts
             .has_started(self.host, machine, WorkerName { slot, generation });
         Some(FarmJobs {
             host: self.host,
-            farm,
-            hosts: self.hosts,
-            tally: self.tally,
-            last_jobs: self.last_jobs,
+            books: self.books,
             machine,
             slot,
             generation,
@@ -126,10 +121,7 @@ impl<'e, H: FarmHost> JobSource for FarmSource<'e, H> {
 #[derive(Drop)]
 pub struct FarmJobs<'e, H: FarmHost> {
     host: &'e H,
-    farm: &'e Farm,
-    hosts: &'e Hosts,
-    tally: &'e Tally,
-    last_jobs: &'e LastJobs,
+    books: Books<'e>,
     machine: MachineId,
     slot: SlotId,
     generation: u32,
@@ -238,16 +230,16 @@ impl<'e, H: FarmHost> Jobs for FarmJobs<'e, H> {
     ghost use Rattle.http_jobs.specs.Serving.{IsDoneBy, IsNotDoneBy, visible};
     ghost use Rattle.serve_command.specs.Farm.{timeout_in};
 
-    ghost tells = { λ before after job told. (after.farm ≡ before.farm)
-        × IsDoneBy before.jobs.service (timeout_in before.farm.now job.function)
+    ghost tells = { λ before after job told. (after.books.farm ≡ before.books.farm)
+        × IsDoneBy before.jobs.service (timeout_in before.books.farm.now job.function)
         (visible H.Call.input H.Call.output H.Call.quiet before.jobs.kept (H.Dials.calls before.jobs.dial)
         (H.Times.shown before.jobs.clock))
         (visible H.Call.input H.Call.output H.Call.quiet after.jobs.kept (H.Dials.calls after.jobs.dial)
         (H.Times.shown after.jobs.clock))
         after.jobs.service after.jobs.timeout_ms job told };
 
-    ghost fails = { λ before after job error. (after.farm ≡ before.farm)
-        × IsNotDoneBy before.jobs.service (timeout_in before.farm.now job.function)
+    ghost fails = { λ before after job error. (after.books.farm ≡ before.books.farm)
+        × IsNotDoneBy before.jobs.service (timeout_in before.books.farm.now job.function)
         (visible H.Call.input H.Call.output H.Call.quiet before.jobs.kept (H.Dials.calls before.jobs.dial)
         (H.Times.shown before.jobs.clock))
         (visible H.Call.input H.Call.output H.Call.quiet after.jobs.kept (H.Dials.calls after.jobs.dial)
@@ -255,18 +247,18 @@ impl<'e, H: FarmHost> Jobs for FarmJobs<'e, H> {
         after.jobs.service after.jobs.timeout_ms job error };
 
     fn run(&mut self, alloc: Global, job: Assignment) -> Result<Option<Outcome>, NotDone> {
-        let farm = self.farm;
+        let farm = self.books.farm;
         let function = farm.settings.function_named(&job.function);
-        self.tally.begin(self.host, function);
-        let timeout_ms = self.farm.timeout_ms(&job.function);
+        self.books.tally.begin(self.host, function);
+        let timeout_ms = self.books.farm.timeout_ms(&job.function);
         self.jobs.set_timeout(timeout_ms as u64);
-        self.hosts.begin_job(self.host, self.machine);
+        self.books.hosts.begin_job(self.host, self.machine);
         let done = self.jobs.serve(alloc, &job);
-        self.hosts.end_job(self.host, self.machine);
-        let news = news_of(self.host, self.hosts, self.machine, &done);
+        self.books.hosts.end_job(self.host, self.machine);
+        let news = news_of(self.host, self.books.hosts, self.machine, &done);
         self.host
             .tell_if(host_line(alloc, farm, self.machine, news));
-        self.tally.end(self.host, function, end_of(&done));
+        self.books.tally.end(self.host, function, end_of(&done));
         let worker = WorkerName {
             slot: self.slot,
             generation: self.generation,
@@ -277,9 +269,9 @@ impl<'e, H: FarmHost> Jobs for FarmJobs<'e, H> {
             .ok()
             .flatten()
             .map(|failure| self.host.dated(failure.view));
-        self.tally.note(self.host, dated);
+        self.books.tally.note(self.host, dated);
         let answered = answered_of(alloc, job, function, &done);
-        drop(self.last_jobs.keep(self.host, worker, answered));
+        drop(self.books.last_jobs.keep(self.host, worker, answered));
         Ok(Reply::outcome_in(done?))
     }
 }

@@ -1,6 +1,7 @@
 //! The command `serve` as a call over the texts of settings and services and a host: a farm, whose hosts do its jobs.
 #![tactic(auto)]
 
+mod books;
 mod farm;
 mod farm_jobs;
 mod file_room;
@@ -13,7 +14,9 @@ mod line_queue;
 mod reporting;
 mod serving;
 mod system;
+mod thread_room;
 
+pub use books::Books;
 pub use farm::{Farm, FarmTexts};
 pub use farm_jobs::{FarmJobs, FarmSource};
 pub use file_room::{FileNews, FileRoom};
@@ -26,3 +29,4 @@ pub use page_server::{EndFlag, SharedPage, end_with_input, serve_page};
 pub use reporting::Outlook;
 pub use serving::{FarmEnd, run_farm, serve_farm};
 pub use system::{Edges, FarmSystem};
+pub use thread_room::{ThreadNews, ThreadRoom};

@@ -3,14 +3,13 @@
 ghost use Rattle.std.specs.Prelude.{◌≡◌};
 ghost use Rattle.serve_command.specs.Serving as spec;
 
-use crate::farm::Farm;
+use crate::books::Books;
 use crate::farm_jobs::host_line;
-use crate::file_room::FileRoom;
 use crate::host::FarmHost;
-use crate::hosts::{BeforeJob, Hosts, lets_go_on};
+use crate::hosts::{BeforeJob, lets_go_on};
 use crate::job_lines::{Uncompleted, line_of, lost_job};
-use crate::last_jobs::{AnsweredJob, LastJobs};
-use farm_notes::{Known, PageNotes, Tally};
+use crate::last_jobs::AnsweredJob;
+use farm_notes::{Known, PageNotes};
 use farm_page::FarmView;
 use http_jobs::try_dial;
 use plan_model::{Certified, SlotId};
@@ -84,56 +83,23 @@ impl Outlook {
     }
 }
 
-/// What is kept of a farm while it runs.
-#[derive(Clone, Copy)]
-pub struct Books<'e> {
-    /// The farm.
-    pub farm: &'e Farm,
-    /// Which hosts are reached.
-    pub hosts: &'e Hosts,
-    /// What became of the jobs.
-    pub tally: &'e Tally,
-    /// The job that each worker did last.
-    pub last_jobs: &'e LastJobs,
-    /// Whether there are files for more workers.
-    pub files: &'e FileRoom,
-    /// Whether the farm has a page.
-    pub has_page: bool,
-}
-
 /// The host of a farm's run: it rests until the farm has to end, and what happens is told in lines, and on a page if the farm has one.
 #[derive(Drop)]
 pub struct Reporting<'e, H> {
     host: &'e H,
     alloc: Global,
-    farm: &'e Farm,
-    hosts: &'e Hosts,
-    tally: &'e Tally,
-    last_jobs: &'e LastJobs,
-    files: &'e FileRoom,
+    books: Books<'e>,
     notes: Option<PageNotes>,
     outlook: Mutex<Outlook>,
 }
 
 impl<'e, H: Wait> Reporting<'e, H> {
-    /// A run's, before its first attempt.
-    pub fn new(host: &'e H, alloc: Global, books: Books<'e>) -> Reporting<'e, H> {
-        let Books {
-            farm,
-            hosts,
-            tally,
-            last_jobs,
-            files,
-            has_page,
-        } = books;
+    /// A run's, before its first attempt. The farm may have a page.
+    pub fn new(host: &'e H, alloc: Global, books: Books<'e>, has_page: bool) -> Reporting<'e, H> {
         Reporting {
             host,
             alloc,
-            farm,
-            hosts,
-            tally,
-            last_jobs,
-            files,
+            books,
             notes: has_page.then(|| PageNotes::new(alloc)),
             outlook: Mutex::new(Outlook::Nothing),
         }
@@ -147,9 +113,9 @@ impl<'e, H: Wait> Reporting<'e, H> {
     /// What the page shows after an attempt. None if there is no page, or no memory.
     fn view(&self, made: &Attempted<'_>) -> Option<FarmView> {
         let notes = self.notes.as_ref()?;
-        let unreached = self.hosts.unreached(self, self.alloc).ok()?;
-        let jobs = self.tally.counts(self).ok()?;
-        let failures = self.tally.failures(self).ok()?;
+        let unreached = self.books.hosts.unreached(self, self.alloc).ok()?;
+        let jobs = self.books.tally.counts(self).ok()?;
+        let failures = self.books.tally.failures(self).ok()?;
         let known = Known {
             unreached: &unreached,
             jobs: &jobs,
@@ -160,12 +126,12 @@ impl<'e, H: Wait> Reporting<'e, H> {
 
     /// The job that a worker left without an answer, if its service had answered it. It is counted as lost from now on.
     fn take_lost(&self, ended: &EndedWorker<'_>) -> Option<AnsweredJob> {
-        let last = self.last_jobs.end(self, ended.worker);
+        let last = self.books.last_jobs.end(self, ended.worker);
         if ended.end.grabbed == ended.end.reported {
             return None;
         }
         let job = last?;
-        self.tally.lose(self, job.counted, job.end);
+        self.books.tally.lose(self, job.counted, job.end);
         Some(job)
     }
 
@@ -200,10 +166,10 @@ impl<'e, H: FarmHost> Watch for Reporting<'e, H> {
     /// from others, and give them back.
     fn may_go_on(&self, worker: WorkerName) -> bool {
         let slot = worker.slot;
-        let Some(machine) = self.farm.machine_of(slot) else {
+        let Some(machine) = self.books.farm.machine_of(slot) else {
             return false;
         };
-        match self.hosts.before_job(self.host, machine, worker) {
+        match self.books.hosts.before_job(self.host, machine, worker) {
             BeforeJob::Ask => return true,
             BeforeJob::End => return false,
             BeforeJob::Dial => {}
@@ -211,14 +177,14 @@ impl<'e, H: FarmHost> Watch for Reporting<'e, H> {
         if self.host.is_to_end() {
             return false;
         }
-        let Some(name) = self.farm.host_of(self.alloc, slot) else {
+        let Some(name) = self.books.farm.host_of(self.alloc, slot) else {
             return true;
         };
-        let mut dials = self.host.dials(name, self.farm.call_times());
+        let mut dials = self.host.dials(name, self.books.farm.call_times());
         let dialled = try_dial(&mut dials);
-        let news = self.hosts.was_dialled(self.host, machine, dialled);
+        let news = self.books.hosts.was_dialled(self.host, machine, dialled);
         self.host
-            .tell_if(host_line(self.alloc, self.farm, machine, news));
+            .tell_if(host_line(self.alloc, self.books.farm, machine, news));
         lets_go_on(dialled)
     }
 }
@@ -226,8 +192,11 @@ impl<'e, H: FarmHost> Watch for Reporting<'e, H> {
 impl<'e, H: FarmHost> Progress for Reporting<'e, H> {
     fn attempted(&self, made: &Attempted<'_>) {
         self.note(made.attempt);
-        self.hosts.begin_attempt(self);
-        if let Some(news) = self.files.begin_attempt(self) {
+        self.books.hosts.begin_attempt(self);
+        if let Some(news) = self.books.files.begin_attempt(self) {
+            self.host.tell(String::from_str(self.alloc, news.line()));
+        }
+        if let Some(news) = self.books.threads.begin_attempt(self) {
             self.host.tell(String::from_str(self.alloc, news.line()));
         }
         self.host
@@ -245,8 +214,9 @@ impl<'e, H: FarmHost> Progress for Reporting<'e, H> {
 
     fn joined(&self, joined: &JoinedWorker<'_>) {
         let machine = joined.settings.machine_of(joined.worker.slot);
-        self.hosts.has_joined(self, machine);
-        self.files.has_started(self);
+        self.books.hosts.has_joined(self, machine);
+        self.books.files.has_started(self);
+        self.books.threads.has_started(self);
         self.host.tell(joined_line(self.alloc, joined));
     }
 
@@ -260,14 +230,18 @@ impl<'e, H: FarmHost> Progress for Reporting<'e, H> {
         }
     }
 
+    fn not_started(&self, _slot: SlotId) {
+        self.books.threads.has_refused(self);
+    }
+
     fn ended(&self, ended: &EndedWorker<'_>) {
         let machine = ended.settings.machine_of(ended.worker.slot);
-        self.hosts.has_ended(self, machine, ended.worker);
+        self.books.hosts.has_ended(self, machine, ended.worker);
         let lost = self.take_lost(ended);
         let lost = lost_of(self.alloc, ended, &lost);
         self.host.tell_if(line_of(self.alloc, &lost));
         let dated = lost.ok().flatten().map(|lost| self.host.dated(lost.view));
-        self.tally.note(self, dated);
+        self.books.tally.note(self, dated);
         self.host.tell(ended_line(self.alloc, ended));
         if let Some(notes) = &self.notes {
             notes.ended(self, ended.end.cause);

@@ -4,13 +4,15 @@ ghost use Rattle.std.specs.Prelude.{IfErr, IfOk};
 ghost use Rattle.serve_command.specs.Farm as farms;
 ghost use Rattle.serve_command.specs.Serving as spec;
 
+use crate::books::Books;
 use crate::farm::{Farm, FarmTexts};
 use crate::farm_jobs::FarmSource;
 use crate::file_room::FileRoom;
 use crate::host::FarmHost;
 use crate::hosts::Hosts;
 use crate::last_jobs::LastJobs;
-use crate::reporting::{Books, Outlook, Reporting};
+use crate::reporting::{Outlook, Reporting};
+use crate::thread_room::ThreadRoom;
 use farm_notes::Tally;
 use page_server::PageTimes;
 use plan_commands::{Exit, Fault};
@@ -69,27 +71,20 @@ fn run_until_end<'x, H: FarmHost>(
     let last_jobs = LastJobs::new(alloc, settings.slots())?;
     let peers = farm.services.page().map_or(0, |_| PEERS);
     let files = FileRoom::new(settings.slots(), peers);
-    let source = FarmSource {
-        host,
-        alloc,
-        farm,
-        hosts: &hosts,
-        tally: &tally,
-        last_jobs: &last_jobs,
-        files: &files,
-    };
-    if let Some(page) = farm.services.page() {
-        host.open_page(page, page_times(farm));
-    }
+    let threads = ThreadRoom::new();
     let books = Books {
         farm,
         hosts: &hosts,
         tally: &tally,
         last_jobs: &last_jobs,
         files: &files,
-        has_page: farm.services.page().is_some(),
+        threads: &threads,
     };
-    let watch = Reporting::new(host, alloc, books);
+    let source = FarmSource { host, alloc, books };
+    if let Some(page) = farm.services.page() {
+        host.open_page(page, page_times(farm));
+    }
+    let watch = Reporting::new(host, alloc, books, farm.services.page().is_some());
     let lent = Lent {
         rt: &watch,
         alloc,
@@ -107,8 +102,9 @@ fn run_until_end<'x, H: FarmHost>(
 /// machine, and attempts to plan, one after the other, until the host says that the farm has to end. Then each session is told to stop,
 /// all are joined, and what the run came to is told. Each attempt and each end of a worker is told to the host in a line when it comes.
 ///
-/// The fault is the first mistake of the settings, or else that of the services; nothing is dialled then. It is `Memory` if memory or a
-/// thread is refused, so that the run cannot go on; then its sessions are ended too.
+/// The fault is the first mistake of the settings, or else that of the services; nothing is dialled then. It is `Memory` if memory is
+/// refused, so that the run cannot go on; then its sessions are ended too. If no thread can be started for a worker, its slot stays empty
+/// for some attempts.
 pub fn run_farm<H: FarmHost>(
     host: &H,
     alloc: Global,

@@ -9,7 +9,7 @@ pub returns : goal.returns
 returns g c =
     let seen = seen_link g.L.Device.input g.L.Device.output in
     let before = g.Y.Dial.calls c.args.dial.now in
-    let between = g.Y.Dial.calls c.dial.new.self in
+    let between = g.Y.Dial.calls c.dial_for_status.new.self in
     let now = g.Y.Dial.calls c.hung_up.new.self in
     let last = seen c.ask-answer.result.1 in
     let up = subst (λ v. now ≡ then_called between (closed (seen v) ∷ [])) c.of-left.ensures c.hung_up.ensures.calls in

@@ -4,7 +4,9 @@ ghost use Rattle.std.specs.Prelude.{◌≡◌, ◌+◌, ◌-◌, ◌<◌, ◌≤
 ghost use Rattle.byte_io.specs.Deadline.{deadline_from, is_past};
 ghost use Rattle.byte_io.specs.Device.{failure_of, gone};
 ghost use Rattle.byte_io.specs.Sides.{and_then};
-ghost use Rattle.run_command.specs.Report as spec;
+ghost use Rattle.job_runner.specs.Run.{seen_link};
+ghost use Rattle.pool_supervisor.specs.Dials.{IsNew};
+ghost use Rattle.run_command.specs.Texts as spec;
 
 use byte_io::{Device, DeviceFault, Sink, Source, Took, deadline_from};
 use pool_supervisor::Watch;
@@ -13,9 +15,12 @@ use pool_supervisor::Watch;
 /// write. A write after the deadline fails, and writes nothing. A link alone bounds the time of each write: a server that takes a report by
 /// a few bytes at a time would hold a worker and its job for as long as it likes.
 ///
-/// Most texts are taken whole by their first write: then the clock is not read. While it does not show the time, no write is late.
+/// One for a single answer has a deadline for that too. A read after it fails, and reads nothing: a server that gives its status by a few
+/// bytes at a time would hold an attempt.
+///
+/// Most texts are taken whole by their first write: then the clock is not read. While it does not show the time, no write or read is late.
 #[derive(Drop)]
-pub struct ReportLink<'e, L, H> {
+pub struct TextLink<'e, L, H> {
     link: L,
     watch: &'e H,
     limit_ms: u64,
@@ -23,6 +28,12 @@ pub struct ReportLink<'e, L, H> {
     deadline: Option<u64>,
     /// How many writes came too late.
     late: u64,
+    /// Until when all has to be read, if it has to be.
+    read_until: Option<u64>,
+    /// How many reads came too late.
+    late_reads: u64,
+    /// Whether the last read found the end.
+    has_ended: bool,
 }
 
 /// The deadline after a write of so many bytes: none if the text was taken whole.
@@ -39,25 +50,29 @@ fn deadline_after(
     }
 }
 
-impl<'e, L: Source + Sink, H: Watch> ReportLink<'e, L, H> {
-    /// A link of which nothing was written or read here.
-    pub fn new(link: L, watch: &'e H, limit_ms: u32) -> ReportLink<'e, L, H>
-        ensures input { ⟦<ReportLink<'e, L, H> as Device>⟧.input result ≡ L.input link }
-        ensures output { ⟦<ReportLink<'e, L, H> as Device>⟧.output result ≡ L.output link }
+impl<'e, L: Source + Sink, H: Watch> TextLink<'e, L, H> {
+    /// A new link, for texts that each may take so many milliseconds.
+    pub fn new(link: L, watch: &'e H, limit_ms: u32) -> TextLink<'e, L, H>
+        requires fresh { IsNew (seen_link L.input L.output link) }
+        ensures input { ⟦<TextLink<'e, L, H> as Device>⟧.input result ≡ L.input link }
+        ensures output { ⟦<TextLink<'e, L, H> as Device>⟧.output result ≡ L.output link }
         ensures unwritten { result.deadline ≡ None }
         ensures limit { result.limit_ms ≡ limit_ms }
     {
-        ReportLink {
+        TextLink {
             link,
             watch,
             limit_ms: limit_ms as u64,
             deadline: None,
             late: 0,
+            read_until: None,
+            late_reads: 0,
+            has_ended: false,
         }
     }
 }
 
-impl<'e, L: Sink, H> ReportLink<'e, L, H> {
+impl<'e, L: Sink, H> TextLink<'e, L, H> {
     /// Writes the rest of a text, or a prefix of it, at this time, if it is not late.
     fn give_at(&mut self, bytes: &[u8], now: Option<u64>) -> Result<usize, DeviceFault>
         requires some { 0 < length bytes.now }
@@ -84,30 +99,56 @@ impl<'e, L: Sink, H> ReportLink<'e, L, H> {
     }
 }
 
-impl<'e, L, H> ReportLink<'e, L, H> {
+impl<'e, L, H> TextLink<'e, L, H> {
     /// Gives the rest of a text a deadline from this time on.
     fn begin_deadline(&mut self, now: Option<u64>)
         ensures deadline { self.new ≡ record self.old { deadline = deadline_from self.old.limit_ms now } }
     {
         self.deadline = deadline_from(self.limit_ms, now);
     }
+
+    /// Gives all that is read a deadline from this time on.
+    pub fn limit_reading(&mut self, now: Option<u64>)
+        ensures deadline { self.new ≡ record self.old { read_until = deadline_from self.old.limit_ms now } }
+    {
+        self.read_until = deadline_from(self.limit_ms, now);
+    }
 }
 
-impl<'e, L: Device, H> Device for ReportLink<'e, L, H> {
+impl<'e, L, H: Watch> TextLink<'e, L, H> {
+    /// Whether all had to be read by now.
+    fn is_read_late(&self) -> bool {
+        self.read_until.is_some() && byte_io::is_past(self.read_until, self.watch.now_ms())
+    }
+}
+
+impl<'e, L: Device, H> Device for TextLink<'e, L, H> {
     ghost use Rattle.std.specs.Prelude.{◌+◌};
 
-    ghost input = { λ s. L.input s.link };
+    ghost input = { λ s. record {
+      given = (L.input s.link).given;
+      lulls = (L.input s.link).lulls;
+      failures = (L.input s.link).failures + s.late_reads;
+      has_ended = s.has_ended;
+    } };
 
     ghost output = { λ s. record { got = (L.output s.link).got; failures = (L.output s.link).failures + s.late } };
 }
 
-impl<'e, L: Source, H> Source for ReportLink<'e, L, H> {
+impl<'e, L: Source, H: Watch> Source for TextLink<'e, L, H> {
     fn take(&mut self, buffer: &mut [u8]) -> Result<Took, DeviceFault> {
-        self.link.take(buffer)
+        self.has_ended = false;
+        if self.is_read_late() {
+            self.late_reads += 1;
+            return Err(DeviceFault);
+        }
+        let took = self.link.take(buffer);
+        self.has_ended = took == Ok(Took::Ended);
+        took
     }
 }
 
-impl<'e, L: Sink, H: Watch> Sink for ReportLink<'e, L, H> {
+impl<'e, L: Sink, H: Watch> Sink for TextLink<'e, L, H> {
     fn give(&mut self, bytes: &[u8]) -> Result<usize, DeviceFault> {
         if self.deadline.is_some() {
             let now = self.watch.now_ms();

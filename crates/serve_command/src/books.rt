@@ -1,0 +1,25 @@
+//! What is kept of a farm while it runs.
+
+use crate::farm::Farm;
+use crate::file_room::FileRoom;
+use crate::hosts::Hosts;
+use crate::last_jobs::LastJobs;
+use crate::thread_room::ThreadRoom;
+use farm_notes::Tally;
+
+/// What is kept of a farm while it runs.
+#[derive(Clone, Copy)]
+pub struct Books<'e> {
+    /// The farm.
+    pub farm: &'e Farm,
+    /// Which hosts are reached.
+    pub hosts: &'e Hosts,
+    /// What became of the jobs.
+    pub tally: &'e Tally,
+    /// The job that each worker did last.
+    pub last_jobs: &'e LastJobs,
+    /// Whether there are files for more workers.
+    pub files: &'e FileRoom,
+    /// Whether there are threads for more workers.
+    pub threads: &'e ThreadRoom,
+}

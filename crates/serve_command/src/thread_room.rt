@@ -1,0 +1,123 @@
+//! Whether threads can be started for more workers.
+
+ghost use Rattle.std.specs.Prelude.{◌≤◌};
+
+use std::sync::{Mutex, Wait};
+
+/// For how many attempts at most no worker starts after a thread was refused.
+const LONGEST_WAIT: u64 = 64;
+
+/// What is new of the threads.
+#[derive(Clone, Copy, Debug, PartialEq, Eq)]
+pub enum ThreadNews {
+    /// A thread was refused, and none was before.
+    Lacking,
+    /// A thread was started again.
+    Present,
+}
+
+impl ThreadNews {
+    /// Its line.
+    pub fn line(self) -> &'static str {
+        match self {
+            ThreadNews::Lacking => "lacksthreads",
+            ThreadNews::Present => "hasthreads",
+        }
+    }
+}
+
+/// A thread was refused, and none was started since.
+#[derive(Clone, Copy, Debug, PartialEq, Eq)]
+struct Refusal {
+    /// How many attempts pass from the refusal to the next try.
+    wait: u64,
+    /// The attempt of the next try.
+    due: u64,
+}
+
+/// What is known of the threads.
+#[derive(Drop)]
+struct Known {
+    /// The number of the attempt that is made now, from 1.
+    attempt: u64,
+    /// The last refusal, if no thread was started since.
+    refusal: Option<Refusal>,
+    /// Whether it was reported that threads are lacking.
+    are_lacking: bool,
+}
+
+/// The refusal after one more, in this attempt. Each try uses up a worker of its slot, which can have only so many: so the waits grow as
+/// 1, 2, 4 .. attempts, and 64 at most.
+fn refused_again(before: Option<Refusal>, attempt: u64) -> Refusal
+    ensures waits { result.wait ≤ 64 }
+{
+    let wait = match before {
+        None => 1,
+        Some(refusal) => refusal.wait.saturating_mul(2).min(LONGEST_WAIT),
+    };
+    Refusal {
+        wait,
+        due: attempt.saturating_add(wait),
+    }
+}
+
+impl Known {
+    /// What is new after the attempt.
+    fn news(&self) -> Option<ThreadNews> {
+        match (self.are_lacking, self.refusal) {
+            (false, Some(_)) => Some(ThreadNews::Lacking),
+            (true, None) => Some(ThreadNews::Present),
+            _ => None,
+        }
+    }
+}
+
+/// Whether threads can be started for more workers. That is only seen by starting one. After a refusal none is tried for the rest of that
+/// attempt, and then for as many attempts as twice the wait before, until one is started.
+#[derive(Drop)]
+pub struct ThreadRoom {
+    known: Mutex<Known>,
+}
+
+impl ThreadRoom {
+    /// That of a farm before its first attempt.
+    pub fn new() -> ThreadRoom {
+        ThreadRoom {
+            known: Mutex::new(Known {
+                attempt: 1,
+                refusal: None,
+                are_lacking: false,
+            }),
+        }
+    }
+
+    /// Whether a thread for one more worker may be tried.
+    pub fn lets<R: Wait>(&self, rt: &R) -> bool {
+        let held = self.known.lock(rt);
+        match held.refusal {
+            None => true,
+            Some(refusal) => refusal.due <= held.attempt,
+        }
+    }
+
+    /// A thread was started.
+    pub fn has_started<R: Wait>(&self, rt: &R) {
+        self.known.lock(rt).refusal = None;
+    }
+
+    /// A thread was refused.
+    pub fn has_refused<R: Wait>(&self, rt: &R) {
+        let mut held = self.known.lock(rt);
+        let attempt = held.attempt;
+        held.refusal = Some(refused_again(held.refusal, attempt));
+    }
+
+    /// The attempt is over, and the next begins. What is new of the threads after it.
+    pub fn begin_attempt<R: Wait>(&self, rt: &R) -> Option<ThreadNews> {
+        let mut held = self.known.lock(rt);
+        let news = held.news();
+        held.are_lacking = held.refusal.is_some();
+        held.attempt = held.attempt.saturating_add(1);
+        news
+    }
+}
