@@ -12,7 +12,7 @@ use Rattle.pool_supervisor.specs.declared.attempt.Attempt.{Attempt}
 use Rattle.pool_supervisor.specs.declared.attempt.Attempt.TheVariants as attempt
 use Rattle.pool_supervisor.specs.declared.attempt.PoolRefusal.TheVariants as refusal
 use Rattle.pool_supervisor.specs.Dials.{DialCall, failed, opened, closed, then_called, IsNew}
-use Rattle.pool_supervisor.specs.Steps.{Reads}
+use Rattle.pool_supervisor.specs.Steps.{IsRefusedSo, Reads}
 
 -- The link took the request for a status, and what it gave then means this load, or is why there is none.
 abbrev pub Answers : Result (List Line) StatusError → Link → Link → Type 0
@@ -69,12 +69,13 @@ is_planned (attempt.Status error) = false
 is_planned (attempt.Refused (refusal.Load error)) = false
 is_planned other = true
 
--- The line of an attempt follows from its calls for the load: why there was none, that the pool did not take it, or what came after it.
+-- The line of an attempt follows from its calls for the load: why there was none, that the pool did not take it, or what came after it. If
+-- it says that the pool refused a step of the round, the pool did.
 abbrev pub Follows : Settings → List DialCall → Attempt → Type 0
 Follows settings asked attempt.NoLink = AsksFor (Err attempt.NoLink) asked
 Follows settings asked (attempt.Status error) = AsksFor (Err (attempt.Status error)) asked
 Follows settings asked (attempt.Refused (refusal.Load error)) = GivesLoad settings (Err error) asked
-Follows settings asked other = GivesLoad settings (Ok tt) asked
+Follows settings asked other = GivesLoad settings (Ok tt) asked × IsRefusedSo settings other
 
 -- such calls were made
 pub record Tells (settings : Settings) (line : Attempt) (before now : Option (List DialCall)) : Type 0 where

@@ -1,5 +1,5 @@
 -- A run, from its first attempt to the end of its last session.
-use Rattle.std.specs.Prelude.{◌≡◌, ℕ, List, length, Option, ⊤}
+use Rattle.std.specs.Prelude.{◌≡◌, ℕ, List, [], length, Option}
 use Rattle.order_board.specs.declared.view.Post.{Post}
 use Rattle.pool_settings.specs.Settings.{Settings}
 use Rattle.pool_core.specs.declared.answer.Ran.{Ran}
@@ -18,10 +18,10 @@ abbrev pub most_kept : Until → ℕ
 most_kept (Rounds rounds) = rounds
 most_kept Ended = 0
 
--- what is kept of the lines: all of them, if so many attempts were to be made
+-- what is kept of the lines: all of them if so many attempts were to be made, and else none
 abbrev pub Keeps : Until → List Attempt → List Attempt → Type 0
 Keeps (Rounds rounds) lines kept = (kept ≡ lines) × (length lines ≡ rounds)
-Keeps Ended lines kept = ⊤
+Keeps Ended lines kept = kept ≡ []
 
 -- One history of a pool of these settings has all: the totals count its events, so many of its chapters ended, and the lines report its
 -- rounds, each as what it came to, in order, and no other round.

@@ -2,6 +2,7 @@
 ghost use Rattle.std.specs.Prelude.{◌≡◌, ◌+◌, ◌-◌, ◌<◌, ◌≤◌, ◌^◌, ◌∷◌, [], List, not, IfOk, OnOk, vec_len, vec_capacity};
 ghost use Rattle.pool_settings.specs.Slots.{slots as slot_count};
 ghost use Rattle.job_runner.specs.Run.{seen_link};
+ghost use Rattle.order_board.specs.declared.view.Post.{Post};
 ghost use Rattle.pool_supervisor.specs.Asking.{Tells};
 ghost use Rattle.pool_supervisor.specs.Dials.{IsNew};
 ghost use Rattle.pool_supervisor.specs.Rounds.{AreNoted, Notes, PostAndStop, Posts, PostSince, StopsAll};
@@ -386,13 +387,15 @@ impl<
         N: 's,
         L: 's,
         requires noted { AreNoted lines.old.told.items self.old.rounds }
+        requires until { self.old.site.run.until ≡ lines.old.until }
+        ensures stops { (before : List Post) × StopsAll N.settings before self.new.seats.publisher.posts }
         ensures attempts { OnOk result ((all : List Attempt) × Keeps lines.old.until all lines.new.told.items
             × PostAndStop N.settings lines.old.told.items all self.old.seats.publisher.posts self.new.seats.publisher.posts
             × Attempts N.settings N.allows N.had_jobs lines.old.told.items all self.old.crew.counts self.new.crew.counts
             (Y.calls self.old.dial) (Y.calls self.new.dial)
             × AreNoted all self.new.rounds) }
     {
-        let attempted = match lines.until {
+        let attempted = match self.site.run.until {
             Until::Rounds(rounds) => self.attempt_all(scope, rounds, lines),
             Until::Ended => self.attempt_until_ended(scope),
         };
@@ -412,6 +415,7 @@ impl<
         L: 's,
         requires noted { AreNoted lines.told.items self.rounds }
         requires none_joined { self.crew.counts ≡ no_counts }
+        requires until { self.site.run.until ≡ lines.until }
         ensures runs { IfOk result (λ ended. IsRun N.settings N.allows N.had_jobs lines.until lines.told.items ended.0.lines.items
             ended.0.totals ended.0.chapters self.entry.seats.publisher.posts (Y.calls self.entry.dial) (Y.calls ended.1)) }
     {
@@ -434,6 +438,7 @@ impl<
     pub fn run(self, lines: Lines) -> Result<(RunEnd, Y), AllocError>
         requires noted { AreNoted lines.told.items self.rounds }
         requires none_joined { self.crew.counts ≡ no_counts }
+        requires until { self.site.run.until ≡ lines.until }
         ensures runs { IfOk result (λ ended. IsRun N.settings N.allows N.had_jobs lines.until lines.told.items ended.0.lines.items
             ended.0.totals ended.0.chapters self.entry.seats.publisher.posts (Y.calls self.entry.dial) (Y.calls ended.1)) }
     {
@@ -443,6 +448,7 @@ impl<
             |scope| -> Result<(RunEnd, Y), AllocError>
                 requires noted { AreNoted lines.told.items self.rounds }
                 requires none_joined { self.crew.counts ≡ no_counts }
+                requires until { self.site.run.until ≡ lines.until }
                 ensures runs { IfOk result (λ ended. IsRun N.settings N.allows N.had_jobs lines.until lines.told.items ended.0.lines.items
                     ended.0.totals ended.0.chapters self.entry.seats.publisher.posts (Y.calls self.entry.dial) (Y.calls ended.1)) }
             { self.supervise(scope, lines) },

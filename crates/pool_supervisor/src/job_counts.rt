@@ -1,5 +1,5 @@
 //! What became of the jobs of sessions, counted.
-ghost use Rattle.std.specs.Prelude.{◌≡◌, ◌+◌, ◌<◌, ◌^◌};
+ghost use Rattle.std.specs.Prelude.{◌≡◌, ◌+◌, ◌-◌, ◌<◌, ◌^◌, min};
 ghost use Rattle.pool_supervisor.specs.JobCounts.{with_end, answered};
 
 use worker_state::EndKind;
@@ -19,7 +19,8 @@ pub struct JobCounts {
 impl JobCounts {
     /// No jobs.
     pub fn none() -> JobCounts
-        ensures { answered result ≡ 0 }
+        ensures answered { answered result ≡ 0 }
+        ensures given_back { result.given_back ≡ 0 }
     {
         JobCounts {
             completed: 0,
@@ -44,6 +45,7 @@ impl JobCounts {
     pub fn add_given_back(&mut self)
         ensures completed { self.new.completed ≡ self.old.completed }
         ensures failed { self.new.failed ≡ self.old.failed }
+        ensures given_back { self.new.given_back ≡ min (self.old.given_back + 1) (2 ^ 64 - 1) }
     {
         self.given_back = self.given_back.saturating_add(1);
     }
@@ -53,6 +55,7 @@ impl JobCounts {
         requires room { answered self.old + answered other < 2 ^ 64 }
         ensures completed { self.new.completed ≡ self.old.completed + other.completed }
         ensures failed { self.new.failed ≡ self.old.failed + other.failed }
+        ensures given_back { self.new.given_back ≡ min (self.old.given_back + other.given_back) (2 ^ 64 - 1) }
     {
         self.completed += other.completed;
         self.failed += other.failed;

@@ -2,7 +2,7 @@
 ghost use Rattle.std.specs.Prelude.{◌≡◌, Ok, true, false, IfSome, IfNone, IfOk, IfErr, OnOk};
 ghost use Rattle.pool_supervisor.specs.Asking.{Given, IsNotTaken, Takes, Tells, is_planned};
 ghost use Rattle.pool_supervisor.specs.Rounds.{Notes, Posts, is_round};
-ghost use Rattle.pool_supervisor.specs.Steps.{AnswersPool, AnswersView, IsMadeOf, IsViewOf};
+ghost use Rattle.pool_supervisor.specs.Steps.{AnswersPool, AnswersView, IsMadeOf, IsNotAdopted, IsNotViewed, IsRefusedSo, IsViewOf};
 
 use crate::asking::ask_for_load;
 use crate::attempt::{Attempt, PoolRefusal};
@@ -29,6 +29,7 @@ fn view_pool<N: RunId, J, C, R: Wait>(
 ) -> Result<(Input, Option<Plan>), ViewError>
     ensures input { IfOk result (λ viewed. IsMadeOf N.settings viewed.0) }
     ensures view { IfOk result (IsViewOf N.settings) }
+    ensures refused { IfErr result (IsNotViewed N.settings) }
 {
     let held = site.shared.hold(site.lent.rt);
     held.facts();
@@ -93,6 +94,8 @@ impl<
         ensures stale { IfNone result ((self.new.seats.publisher ≡ self.old.seats.publisher) × (self.new.rounds ≡ self.old.rounds)) }
         ensures planned { IfSome result (λ line. is_planned line ≡ true) }
         ensures answers { IfSome result (λ line. is_round line ≡ true → AnswersPool N.settings line) }
+        ensures refused { IfSome result (IsRefusedSo N.settings) }
+        ensures changed { IfNone result (IsNotAdopted N.settings AdoptError.Stale) }
         ensures dial { self.new.dial ≡ self.old.dial }
         ensures crew { self.new.crew ≡ self.old.crew }
     {
@@ -108,6 +111,7 @@ impl<
         let longest = longest_queue(&certified);
         let rt = site.lent.rt;
         let mut held = site.shared.hold(rt);
+        held.facts();
         let publisher = &mut self.seats.publisher;
         match site
             .run
@@ -128,6 +132,7 @@ impl<
         ensures notes { Notes result self.old.rounds self.new.rounds }
         ensures planned { is_planned result ≡ true }
         ensures answers { is_round result ≡ true → AnswersPool N.settings result }
+        ensures refused { IsRefusedSo N.settings result }
         ensures dial { self.new.dial ≡ self.old.dial }
         ensures crew { self.new.crew ≡ self.old.crew }
     {

@@ -254,6 +254,7 @@ pub fn run_until_ended<
         (HadJobs S.Jobs.tells S.Jobs.fails (S.gives lent.entry.jobs.now) (S.denies lent.entry.jobs.now)) [] lines
         e.0.totals (Y.calls dial) (Y.calls e.1)
         × AreOfOneHistory settings e.0.totals e.0.chapters lines) }
+    ensures none_kept { IfOk result (λ e. e.0.lines.items ≡ []) }
 {
     let tools: Tools<'_, L, Y, P> = Tools {
         settings: &settings,

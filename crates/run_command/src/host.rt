@@ -41,6 +41,14 @@ pub fn text_ms(settings: &Settings) -> u32
     settings.job_timeout_ms().max(write_ms(settings))
 }
 
+/// How many milliseconds the answer to a request for the status may take at most: ten seconds, or as many as one write may take, if that is
+/// more.
+pub fn status_ms(settings: &Settings) -> u32
+    ensures limit { result ≡ spec.status_ms settings.now }
+{
+    write_ms(settings).max(10_000)
+}
+
 /// Makes links from a host to one server. On each link each text has a deadline.
 #[derive(Drop)]
 pub struct Route<'e, H> {
@@ -52,6 +60,8 @@ pub struct Route<'e, H> {
     lull_ms: u32,
     /// In how many milliseconds a text has to be taken.
     text_ms: u32,
+    /// In how many milliseconds a status has to be read.
+    status_ms: u32,
 }
 
 impl<'e, H> Model for Route<'e, H> {
@@ -60,7 +70,12 @@ impl<'e, H> Model for Route<'e, H> {
 
     ghost Value = { meant.Route };
 
-    ghost view = { λ r. record { server = string_bytes r.server; lull_ms = r.lull_ms; text_ms = r.text_ms } };
+    ghost view = { λ r. record {
+      server = string_bytes r.server;
+      lull_ms = r.lull_ms;
+      text_ms = r.text_ms;
+      status_ms = r.status_ms;
+    } };
 }
 
 impl<'e, H: Host> Route<'e, H> {
@@ -73,6 +88,7 @@ impl<'e, H: Host> Route<'e, H> {
             server: String::from_str(alloc, settings.server())?,
             lull_ms: settings.lull_ms(),
             text_ms: text_ms(settings),
+            status_ms: status_ms(settings),
         })
     }
 }
@@ -86,13 +102,14 @@ impl<'e, H: Host> Dial<TextLink<'e, H::Link, H>> for Route<'e, H> {
         ensures fresh { IfSome result (λ link. IsNew (seen_link ⟦<TextLink<'e, H::Link, H> as Device>⟧.input
             ⟦<TextLink<'e, H::Link, H> as Device>⟧.output link)) }
         ensures limit { IfSome result (λ link. link.limit_ms ≡ self.old.text_ms) }
+        ensures unlimited { IfSome result (λ link. link.read_until ≡ None) }
         ensures same { self.new ≡ self.old }
     {
         let link = self.host.reach(self.server.as_str(), self.lull_ms)?;
         Some(TextLink::new(link, self.host, self.text_ms))
     }
 
-    /// A link whose answer has to be read in as many milliseconds as a text may take.
+    /// A link whose answer has to be read in time.
     fn dial_for_status(&mut self) -> Option<TextLink<'e, H::Link, H>>
         ensures fresh { IfSome result (λ link. IsNew (seen_link ⟦<TextLink<'e, H::Link, H> as Device>⟧.input
             ⟦<TextLink<'e, H::Link, H> as Device>⟧.output link)) }
@@ -100,7 +117,7 @@ impl<'e, H: Host> Dial<TextLink<'e, H::Link, H>> for Route<'e, H> {
         ensures same { self.new ≡ self.old }
     {
         let mut link = self.dial()?;
-        link.limit_reading(self.host.now_ms());
+        link.limit_reading(self.status_ms, self.host.now_ms());
         Some(link)
     }
 

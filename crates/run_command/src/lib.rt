@@ -8,7 +8,7 @@ mod text;
 mod text_link;
 mod watching;
 
-pub use host::{Host, Route, text_ms, write_ms};
+pub use host::{Host, Route, status_ms, text_ms, write_ms};
 pub use pool_supervisor::{Attempt, Attempted, EndedWorker, JoinedWorker, Progress, RunEnd, Watch};
 pub use running::{run_jobs, run_rounds, run_source};
 pub use stock_jobs::{StockJob, stock_jobs};

@@ -15,8 +15,8 @@ use pool_supervisor::Watch;
 /// write. A write after the deadline fails, and writes nothing. A link alone bounds the time of each write: a server that takes a report by
 /// a few bytes at a time would hold a worker and its job for as long as it likes.
 ///
-/// One for a single answer has a deadline for that too. A read after it fails, and reads nothing: a server that gives its status by a few
-/// bytes at a time would hold an attempt.
+/// One for a single answer can have a deadline for that too. A read after it, or once the run has to end, fails and reads nothing: a server
+/// that gives its status by a few bytes at a time would hold an attempt.
 ///
 /// Most texts are taken whole by their first write: then the clock is not read. While it does not show the time, no write or read is late.
 #[derive(Drop)]
@@ -28,7 +28,7 @@ pub struct TextLink<'e, L, H> {
     deadline: Option<u64>,
     /// How many writes came too late.
     late: u64,
-    /// Until when all has to be read, if it has to be.
+    /// Until when all has to be read. None if there is no hurry.
     read_until: Option<u64>,
     /// How many reads came too late.
     late_reads: u64,
@@ -54,9 +54,9 @@ impl<'e, L: Source + Sink, H: Watch> TextLink<'e, L, H> {
     /// A new link, for texts that each may take so many milliseconds.
     pub fn new(link: L, watch: &'e H, limit_ms: u32) -> TextLink<'e, L, H>
         requires fresh { IsNew (seen_link L.input L.output link) }
-        ensures input { ⟦<TextLink<'e, L, H> as Device>⟧.input result ≡ L.input link }
-        ensures output { ⟦<TextLink<'e, L, H> as Device>⟧.output result ≡ L.output link }
+        ensures fresh { IsNew (seen_link ⟦<TextLink<'e, L, H> as Device>⟧.input ⟦<TextLink<'e, L, H> as Device>⟧.output result) }
         ensures unwritten { result.deadline ≡ None }
+        ensures unlimited { result.read_until ≡ None }
         ensures limit { result.limit_ms ≡ limit_ms }
     {
         TextLink {
@@ -107,18 +107,19 @@ impl<'e, L, H> TextLink<'e, L, H> {
         self.deadline = deadline_from(self.limit_ms, now);
     }
 
-    /// Gives all that is read a deadline from this time on.
-    pub fn limit_reading(&mut self, now: Option<u64>)
-        ensures deadline { self.new ≡ record self.old { read_until = deadline_from self.old.limit_ms now } }
+    /// Lets all that is read take so many milliseconds from this time on.
+    pub fn limit_reading(&mut self, milliseconds: u32, now: Option<u64>)
+        ensures deadline { self.new ≡ record self.old { read_until = deadline_from milliseconds now } }
     {
-        self.read_until = deadline_from(self.limit_ms, now);
+        self.read_until = deadline_from(milliseconds as u64, now);
     }
 }
 
 impl<'e, L, H: Watch> TextLink<'e, L, H> {
-    /// Whether all had to be read by now.
+    /// Whether all had to be read by now, or nobody waits for it any more.
     fn is_read_late(&self) -> bool {
-        self.read_until.is_some() && byte_io::is_past(self.read_until, self.watch.now_ms())
+        self.read_until.is_some()
+            && (self.watch.has_to_end() || byte_io::is_past(self.read_until, self.watch.now_ms()))
     }
 }
 
