@@ -83,6 +83,8 @@ impl<'e, L: Sink, H> TextLink<'e, L, H> {
         ensures deadline { is_past self.old.deadline now ≡ false
             → self.new.deadline ≡ spec.deadline_after result (length bytes.now) self.old.deadline }
         ensures limit { self.new.limit_ms ≡ self.old.limit_ms }
+        ensures reading { (self.new.read_until ≡ self.old.read_until) × (self.new.late_reads ≡ self.old.late_reads)
+            × (self.new.has_ended ≡ self.old.has_ended) }
         ensures within { IfOk result (λ n. (1 ≤ n) × (n ≤ length bytes.now)) }
         ensures bytes { (L.output self.new.link).got ≡ and_then (L.output self.old.link).got (gone bytes.now result) }
         ensures fails { (L.output self.new.link).failures + self.new.late
