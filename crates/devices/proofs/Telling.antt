@@ -1,8 +1,8 @@
 -- Readers and writers that tell their bytes.
 use Rattle.std.proofs.Common.{◌≡◌, ◌≤◌, ◌+◌, ℕ, List, [], ◌++◌, length, take, Some, None, IfSome, Ok, Err, ap, sym, ◌∙◌, arith}
 use Rattle.std.specs.Prelude.{Option, Result, option_map}
-use Rattle.std.specs.Io.KnownBytes.{Appends, Consumes, ReadConsumes, WriteAppends}
-use Rattle.std.proofs.lemmas.List.{append_assoc, length-take, take_all}
+use Rattle.std.specs.Io.KnownBytes.{Appends, Consumes, Keeps, ReadConsumes, WriteAppends}
+use Rattle.std.proofs.lemmas.List.{append-nil, append_assoc, length-take, take_all}
 use Rattle.devices.specs.Folder.{IsTextOf, known_of}
 
 -- what a writer holds after a write is what it held first and more
@@ -33,3 +33,24 @@ pub all_within : (had : Option (List ℕ)) (most : ℕ) (cut : ℕ) (got : List 
 all_within None most cut got one_above within is_prefix = tt
 all_within (Some all) most cut got one_above within is_prefix =
     is_prefix ∙ take_all cut all (let same = ap length is_prefix ∙ length-take cut all in omega arith)
+
+-- what a writer holds after a write is what it held before writes that took nothing, and more
+pub kept_then_taken : (first old new : Option (List ℕ)) (bytes : List ℕ) → Keeps first old → Appends old new bytes → Appends first new bytes
+kept_then_taken None old new bytes kept wrote = tt
+kept_then_taken (Some xs) None new bytes lost wrote = absurd lost
+kept_then_taken (Some xs) (Some ys) None bytes kept lost = absurd lost
+kept_then_taken (Some xs) (Some ys) (Some zs) bytes kept wrote = wrote ∙ ap (λ before. before ++ bytes) kept
+
+pub kept_twice : (first old new : Option (List ℕ)) → Keeps first old → Keeps old new → Keeps first new
+kept_twice None old new kept again = tt
+kept_twice (Some xs) None new lost again = absurd lost
+kept_twice (Some xs) (Some ys) None kept lost = absurd lost
+kept_twice (Some xs) (Some ys) (Some zs) kept again = again ∙ kept
+
+-- a write that took no byte
+pub kept_then_none : (first old new : Option (List ℕ)) (n : ℕ) (bytes : List ℕ) → n ≡ 0 → Keeps first old → Appends old new (take n bytes) → Keeps first new
+kept_then_none None old new n bytes none kept wrote = tt
+kept_then_none (Some xs) None new n bytes none lost wrote = absurd lost
+kept_then_none (Some xs) (Some ys) None n bytes none kept lost = absurd lost
+kept_then_none (Some xs) (Some ys) (Some zs) n bytes none kept wrote =
+    wrote ∙ ap (λ (k : ℕ). ys ++ take k bytes) none ∙ append-nil ys ∙ kept

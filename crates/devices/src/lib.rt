@@ -9,6 +9,7 @@ mod reads;
 mod results;
 mod streams;
 mod tcp;
+mod writes;
 
 pub use dial_error::DialError;
 pub use error::InputError;

@@ -5,6 +5,7 @@ ghost use Rattle.devices.specs.Streams.{first_input, first_output};
 
 use crate::reads::Reads;
 use crate::results::TimeLimit;
+use crate::writes::write_some;
 use byte_io::{Device, DeviceFault, Sink, Source, Took};
 use std::io::{Read, Write};
 use std::marker::Model;
@@ -106,12 +107,10 @@ impl<W: Write + Drop> Device for OutputSink<W> {
 
 impl<W: Write + Drop> Sink for OutputSink<W> {
     fn give(&mut self, bytes: &[u8]) -> Result<usize, DeviceFault> {
-        match self.writer.write(bytes) {
-            Ok(0) | Err(_) => {
-                self.failures += 1;
-                Err(DeviceFault)
-            }
-            Ok(count) => Ok(count),
+        let given = write_some(&mut self.writer, bytes);
+        if given.is_err() {
+            self.failures += 1;
         }
+        given
     }
 }

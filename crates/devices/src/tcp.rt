@@ -6,9 +6,10 @@ ghost use Rattle.byte_io.specs.Sides.{no_input, no_output};
 use crate::dial_error::DialError;
 use crate::reads::Reads;
 use crate::results::TimeLimit;
+use crate::writes::write_some;
 use byte_io::{Device, DeviceFault, LAST_TIMEOUT, Sink, Source, Took};
 use std::io;
-use std::io::{ErrorKind, Read, Write};
+use std::io::{ErrorKind, Read};
 use std::net::{Net, TcpStream, ToSocketAddrs};
 use std::time::Duration;
 
@@ -130,12 +131,10 @@ impl Source for TcpLink {
 
 impl Sink for TcpLink {
     fn give(&mut self, bytes: &[u8]) -> Result<usize, DeviceFault> {
-        match self.stream.write(bytes) {
-            Ok(0) | Err(_) => {
-                self.give_failures += 1;
-                Err(DeviceFault)
-            }
-            Ok(count) => Ok(count),
+        let given = write_some(&mut self.stream, bytes);
+        if given.is_err() {
+            self.give_failures += 1;
         }
+        given
     }
 }
