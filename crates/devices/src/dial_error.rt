@@ -8,6 +8,9 @@ use thiserror::Error;
 /// The system's number for a process that may open no more files, and the one for a system that may not (`EMFILE` and `ENFILE`).
 const TOO_MANY_FILES: [i32; 2] = [24, 23];
 
+/// The system's number for a machine that has no buffer for a connection (`ENOBUFS`).
+const NO_BUFFER: i32 = 105;
+
 /// Why a server is not reached.
 #[derive(Clone, Copy, Debug, PartialEq, Eq, Error)]
 pub enum DialError {
@@ -26,6 +29,9 @@ pub enum DialError {
     /// No more files may be open, in this process or on this machine.
     #[error("too many files are open")]
     TooManyFiles,
+    /// This machine has no port left for a connection to that address, or no buffer. The connections that it closed lately hold ports.
+    #[error("this machine has no port or buffer left")]
+    NoPort,
     /// There was no memory.
     #[error("out of memory")]
     Memory,
@@ -70,8 +76,10 @@ impl DialError {
             | ErrorKind::HostUnreachable
             | ErrorKind::NetworkUnreachable
             | ErrorKind::NetworkDown => DialError::NoAnswer,
+            ErrorKind::AddrNotAvailable => DialError::NoPort,
             ErrorKind::OutOfMemory => DialError::Memory,
             _ if lacks_files(error) => DialError::TooManyFiles,
+            _ if error.raw_os_error() == Some(NO_BUFFER) => DialError::NoPort,
             _ => DialError::Failed,
         }
     }

@@ -78,6 +78,7 @@ pub fn dial_words(why: DialError) -> &'static str {
         DialError::Refused => "the service refused it",
         DialError::NoAnswer => "the service did not answer",
         DialError::TooManyFiles => "too many files are open",
+        DialError::NoPort => "this machine has no port or buffer left",
         DialError::Memory => "out of memory",
         DialError::Failed => "the system gave another error",
     }
