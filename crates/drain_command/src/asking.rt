@@ -6,7 +6,7 @@ ghost use Rattle.drain_command.specs.Drain as spec;
 
 use crate::caller::Caller;
 use byte_io::{Sink, Source, deadline_from, is_past};
-use http_jobs::{Answer, Bounds, Clock, Dial, NotDone, Post, Received, Unserved, ask};
+use http_jobs::{Answer, Bounds, Clock, Dial, Look, NotDone, Post, Received, Unserved, ask};
 use http1::Header;
 use plan_commands::{Fault, PageError};
 use std::alloc::Global;
@@ -68,7 +68,7 @@ fn totals_of(came: Result<Received, NotDone>) -> Result<Vec<u8>, Fault>
 }
 
 /// Sends the request over a new connection, and takes what comes back.
-fn ask_over<L: Source + Sink, C: Clock>(
+fn ask_over<L: Source + Sink + Look, C: Clock>(
     alloc: Global,
     link: &mut L,
     clock: &mut C,
@@ -99,7 +99,7 @@ fn ask_over<L: Source + Sink, C: Clock>(
 }
 
 /// Asks once, over a connection of its own.
-fn ask_once<L: Source + Sink + Drop, D: Dial<L>, C: Clock>(
+fn ask_once<L: Source + Sink + Look + Drop, D: Dial<L>, C: Clock>(
     alloc: Global,
     dial: &mut D,
     clock: &mut C,
@@ -144,7 +144,7 @@ fn came_to(came: Result<Vec<u8>, Fault>, was_there: bool) -> Result<Vec<u8>, Fau
 /// A page that closes a connection without a whole answer is asked again, over a new connection, for longer than it serves a peer. The
 /// fault is `Unreached` if the first connection was not opened, `Unanswered` if none brought a whole answer, `Refused` if it answered with
 /// another status than 200, or `Memory`.
-pub fn ask_page<H: Caller, L: Source + Sink + Drop, D: Dial<L>, C: Clock>(
+pub fn ask_page<H: Caller, L: Source + Sink + Look + Drop, D: Dial<L>, C: Clock>(
     host: &H,
     alloc: Global,
     dial: &mut D,

@@ -1,12 +1,12 @@
 //! What a drain is lent by the machine that it is made on.
 
 use byte_io::{Sink, Source};
-use http_jobs::{CallTimes, Clock, Dial};
+use http_jobs::{CallTimes, Clock, Dial, Look};
 
 /// What a drain is lent by the machine that it is made on: connections to a page, a clock, and pauses.
 pub trait Caller {
     /// A connection to a page.
-    type Link: Source + Sink + Drop;
+    type Link: Source + Sink + Look + Drop;
 
     /// What opens connections to one page.
     type Dials: Dial<Self::Link> + Drop;

@@ -15,6 +15,7 @@ ghost use Rattle.http_jobs.specs.Response.{head_limits};
 
 use crate::clock::{Clock, is_late};
 use crate::fault::{NotDone, Unserved};
+use crate::look::Look;
 use crate::posts::{Post, encode_post};
 use crate::reader::{Fill, ResponseReader, Stage};
 use crate::sending::send_request;
@@ -122,7 +123,7 @@ fn receive<L: Source, C: Clock>(
 ///
 /// Its error says why none came: `Unserved`, with the reason, also for the statuses 408, 429, 502, 503 and 504, or `Memory`. Then a prefix
 /// of the request went out, and the connection is of no more use.
-pub fn ask<L: Source + Sink, C: Clock>(
+pub fn ask<L: Source + Sink + Look, C: Clock>(
     alloc: Global,
     link: &mut L,
     clock: &mut C,

@@ -14,6 +14,7 @@ ghost use Rattle.http_jobs.specs.Response.{head_limits};
 use crate::answers::{Bounds, Received, ask};
 use crate::clock::Clock;
 use crate::fault::NotDone;
+use crate::look::Look;
 use crate::outcome::{Reply, oversized, reply_to};
 use crate::posts::Post;
 use crate::request::{headers, most_body, target};
@@ -50,7 +51,7 @@ fn done_of(alloc: Global, received: Received) -> Result<Done, AllocError>
 }
 
 /// Does a job by one request and one response. By the deadline, in milliseconds of the clock, the response has to be whole.
-pub fn exchange<L: Source + Sink, C: Clock>(
+pub fn exchange<L: Source + Sink + Look, C: Clock>(
     alloc: Global,
     link: &mut L,
     clock: &mut C,

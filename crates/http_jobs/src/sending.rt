@@ -7,13 +7,26 @@ ghost use Rattle.http_jobs.specs.Reasons.{NotSent};
 
 use crate::clock::{Clock, is_late};
 use crate::fault::{NotDone, Unserved};
+use crate::look::Look;
 use crate::posts::EncodedRequest;
-use byte_io::Sink;
+use byte_io::{Sink, is_past};
 
-/// Writes all the bytes, in as many writes as the sink needs. Before each write it looks at the clock, and after one that failed: if the
-/// deadline has come by then, the error is `Late`. If a write fails or the deadline has come, a prefix of them has gone out, and nothing is
-/// written after it.
-pub fn send<L: Sink, C: Clock>(
+/// Lets the next write wait until the deadline, and no longer. Without a deadline, or if the time is not known, writes wait as long as
+/// before.
+fn limit_write<L: Look>(link: &mut L, deadline: Option<u64>, now: Option<u64>)
+    ensures input { L.input link.new ≡ L.input link.old }
+    ensures output { L.output link.new ≡ L.output link.old }
+{
+    if let (Some(deadline), Some(now)) = (deadline, now) {
+        // Zero would be no limit.
+        link.limit_writes(deadline.saturating_sub(now).max(1));
+    }
+}
+
+/// Writes all the bytes, in as many writes as the sink needs. Before each write it looks at the clock, and lets it wait until the deadline.
+/// After one that failed it looks again: if the deadline has come by then, the error is `Late`. If a write fails or the deadline has come, a
+/// prefix of them has gone out, and nothing is written after it.
+pub fn send<L: Sink + Look, C: Clock>(
     link: &mut L,
     clock: &mut C,
     deadline: Option<u64>,
@@ -28,13 +41,15 @@ pub fn send<L: Sink, C: Clock>(
 {
     let mut count = 0;
     while count < bytes.len() {
-        if is_late(clock, deadline) {
+        let now = clock.now_ms();
+        if is_past(deadline, now) {
             return Err(NotDone::Unserved(Unserved::Late));
         }
+        limit_write(link, deadline, now);
         match link.give(&bytes[count..]) {
             Ok(n) => count += n,
             Err(_) => {
-                // Such as a write that waited as long as its job may take.
+                // Such as a write that waited for all the time that was left.
                 if is_late(clock, deadline) {
                     return Err(NotDone::Unserved(Unserved::Late));
                 }
@@ -47,7 +62,7 @@ pub fn send<L: Sink, C: Clock>(
 
 /// Writes a request, in as many writes as the sink needs. Before each write it looks at the clock. If a write fails or the deadline has
 /// come, a prefix of it has gone out, and nothing is written after it.
-pub fn send_request<L: Sink, C: Clock>(
+pub fn send_request<L: Sink + Look, C: Clock>(
     link: &mut L,
     clock: &mut C,
     deadline: Option<u64>,

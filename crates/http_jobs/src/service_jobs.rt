@@ -1,6 +1,6 @@
 //! The jobs of a service, over one connection that is kept.
 
-ghost use Rattle.std.specs.Prelude.{◌≡◌, ◌++◌, ◌+◌, ◌∷◌, [], ℕ, List, Option, Bool, IfSome, IfOk, IfErr, Ok, Some, None, true};
+ghost use Rattle.std.specs.Prelude.{◌≡◌, ◌++◌, ◌+◌, ◌∷◌, [], ℕ, List, Option, Bool, IfOk, IfErr, Ok, Some, None, true};
 ghost use Rattle.gear_packets.specs.Reading.{job_of};
 ghost use Rattle.http_jobs.specs.Response.{reply_of};
 ghost use Rattle.std.specs.Option.{option_map};
@@ -13,35 +13,16 @@ ghost use Rattle.http_jobs.specs.Clock.{shown_then};
 use crate::clock::Clock;
 use crate::exchanging::exchange;
 use crate::fault::NotDone;
+use crate::look::Look;
 use crate::outcome::Reply;
 use crate::request::has_no_path;
 use crate::service::Service;
-use byte_io::{Device, Sink, Source, deadline_from};
+use byte_io::{Sink, Source, deadline_from};
 use devices::DialError;
 use gear_packets::Assignment;
 use job_runner::{Jobs, Outcome};
 use std::alloc::Global;
 use std::snapshot::Snapshot;
-
-/// A connection that can be looked at without waiting, and whose writes wait no longer than they may.
-pub trait Look: Device {
-    ghost use Rattle.std.specs.Prelude.{Bool, Option};
-
-    /// Whether it is open, and nothing has come that was not read. None if it does not show that.
-    ghost quiet: { Self → Option Bool };
-
-    /// Whether it is open, and nothing has come that was not read. It does not wait, and takes nothing.
-    fn is_quiet(&mut self) -> bool
-        ensures quiet { IfSome (Self.quiet self.old) (λ quiet. result ≡ quiet) }
-        ensures input { Self.input self.new ≡ Self.input self.old }
-        ensures output { Self.output self.new ≡ Self.output self.old };
-
-    /// Lets each write from now on take so many milliseconds. A connection whose writes never wait need not know.
-    fn limit_writes(&mut self, _milliseconds: u64)
-        ensures input { Self.input self.new ≡ Self.input self.old }
-        ensures output { Self.output self.new ≡ Self.output self.old }
-    {}
-}
 
 /// What opens connections to a service, and gets word of those that were closed.
 ///
@@ -71,6 +52,16 @@ fn hang_up<L: Source + Sink + Drop, D: Dial<L>>(dial: &mut D, link: L)
     let left = Snapshot::of(&link);
     drop(link);
     dial.hung_up(left);
+}
+
+/// Lets a write take as long as its job, if the time is not known. Else each write is limited by the deadline.
+fn limit_untimed<L: Look>(link: &mut L, deadline: Option<u64>, timeout_ms: u64)
+    ensures input { L.input link.new ≡ L.input link.old }
+    ensures output { L.output link.new ≡ L.output link.old }
+{
+    if deadline.is_none() {
+        link.limit_writes(timeout_ms);
+    }
 }
 
 /// Opens a connection, and closes it. The error says why none was opened.
@@ -206,7 +197,7 @@ impl<L: Source + Sink + Look + Drop, D: Dial<L>, C: Clock> ServiceJobs<L, D, C> 
     /// Does a job. None if its function has no path of its own: then nothing is sent.
     ///
     /// It is sent once at most: over the kept connection, or over a new one if there is none, or if that has ended or holds a byte that
-    /// nobody asked for. A write may take as long as the job. Unserved says that no answer came, and why.
+    /// nobody asked for. Unserved says that no answer came, and why.
     pub fn serve(&mut self, alloc: Global, job: &Assignment) -> Result<Option<Reply>, NotDone>
         ensures served { IfOk result (λ reply. Tells self.old.service self.old.timeout_ms
             (visible L.input L.output L.quiet self.old.kept (D.calls self.old.dial) (C.shown self.old.clock))
@@ -224,7 +215,7 @@ impl<L: Source + Sink + Look + Drop, D: Dial<L>, C: Clock> ServiceJobs<L, D, C> 
         }
         let deadline = self.deadline();
         let mut link = self.connect(deadline)?;
-        link.limit_writes(self.timeout_ms);
+        limit_untimed(&mut link, deadline, self.timeout_ms);
         match exchange(
             alloc,
             &mut link,

@@ -4,7 +4,8 @@ ghost use Rattle.job_runner.specs.Run.{seen_link};
 ghost use Rattle.http_jobs.specs.Serving.{IsNew};
 
 use crate::clock::Clock;
-use crate::service_jobs::{Dial, Look};
+use crate::look::Look;
+use crate::service_jobs::Dial;
 use byte_io::Device;
 use devices::{DialError, TcpLink};
 use std::net::{Net, SocketAddr, TcpStream, ToSocketAddrs};
@@ -56,7 +57,7 @@ impl Look for TcpLink {
 pub struct CallTimes {
     /// The opening of one, all addresses of the host together, without the time in which its name is looked up.
     pub connect_ms: u32,
-    /// One read. A write may take 65 times as long, or as long as was set since (`Look::limit_writes`).
+    /// One read. A write may take 65 times as long, or until the deadline of its job.
     pub read_ms: u32,
 }
 

@@ -33,8 +33,8 @@ returns-in-Ok-clause-served g c =
           first = opens.0;
           last = left.0;
           opens = subst (λ k. Opens (visible input output g.L.Look.quiet k (g.D.Dial.calls old.dial) (g.C.Clock.shown old.clock)) opens.0 (seen_link input output c.in_ok-link.link)) c.deadline-deadline.ensures.kept opens.2;
-          given = ex.1.0 ∙ ap (λ (i : Input). and_then i.given ex.0.read) c.limit_writes.ensures.input;
-          got = c.in-Ok.ensures.request ∙ ap (λ (o : Output). and_then o.got (request_of c.connect.new.self.service job)) c.limit_writes.ensures.output
+          given = ex.1.0 ∙ ap (λ (i : Input). and_then i.given ex.0.read) c.limit_untimed.ensures.input;
+          got = c.in-Ok.ensures.request ∙ ap (λ (o : Output). and_then o.got (request_of c.connect.new.self.service job)) c.limit_untimed.ensures.output
               ∙ ap (λ (s : Service). and_then (output c.in_ok-link.link).got (request_of s job)) same;
           leaves = left.2;
           calls = left.1 ∙ ap (λ (o : Calls). then_called o left.0) (opens.1 ∙ ap (λ d. then_called (g.D.Dial.calls d) opens.0) c.deadline-deadline.ensures.dial) ∙ called_twice (g.D.Dial.calls old.dial) opens.0 left.0;
@@ -68,8 +68,8 @@ returns-in-Err-clause-failed g c =
         first = opens.0;
         last = left.0;
         opens = subst (λ k. Opens (visible input output g.L.Look.quiet k (g.D.Dial.calls old.dial) (g.C.Clock.shown old.clock)) opens.0 (seen_link input output c.in_ok-link.link)) c.deadline-deadline.ensures.kept opens.2;
-        given = ex.1.0 ∙ ap (λ (i : Input). and_then i.given ex.0.read) c.limit_writes.ensures.input;
-        got = prefix.1 ∙ ap (λ (o : Output). and_then o.got (take prefix.0 (request_of c.connect.new.self.service job))) c.limit_writes.ensures.output
+        given = ex.1.0 ∙ ap (λ (i : Input). and_then i.given ex.0.read) c.limit_untimed.ensures.input;
+        got = prefix.1 ∙ ap (λ (o : Output). and_then o.got (take prefix.0 (request_of c.connect.new.self.service job))) c.limit_untimed.ensures.output
             ∙ ap (λ (s : Service). and_then (output c.in_ok-link.link).got (take prefix.0 (request_of s job))) same;
         leaves = left.2;
         calls = left.1 ∙ ap (λ (o : Calls). then_called o left.0) (opens.1 ∙ ap (λ d. then_called (g.D.Dial.calls d) opens.0) c.deadline-deadline.ensures.dial) ∙ called_twice (g.D.Dial.calls old.dial) opens.0 left.0;
@@ -77,5 +77,5 @@ returns-in-Err-clause-failed g c =
             ∙ ap (λ (o : Shown). shown_then o ex.0.times) start.1 ∙ shown_twice (g.C.Clock.shown old.clock) (start.0 ∷ []) ex.0.times;
       };
       explained = subst (λ (d : Option ℕ). Explains d ex.0 (seen_link input output c.in_ok-link.link) (seen_link input output c.exchange.new.link) c.in-Err.e) start.2
-          (subst (λ (before : Link). Explains c.deadline-deadline.result ex.0 before (seen_link input output c.exchange.new.link) c.in-Err.e) (same_link _ _ _ _ c.limit_writes.ensures.input c.limit_writes.ensures.output) ex.3);
+          (subst (λ (before : Link). Explains c.deadline-deadline.result ex.0 before (seen_link input output c.exchange.new.link) c.in-Err.e) (same_link _ _ _ _ c.limit_untimed.ensures.input c.limit_untimed.ensures.output) ex.3);
     })
