@@ -13,7 +13,7 @@ use Rattle.pool_settings.specs.Settings.{Settings}
 use Rattle.service_settings.specs.Reading as beside
 use Rattle.service_settings.specs.Services.{Services}
 use Rattle.settings_command.specs.Meaning.{meaning}
-use Rattle.settings_command.specs.Remarks.{AreLimitRemarks}
+use Rattle.settings_command.specs.Remarks.{AreServeRemarks}
 use Rattle.settings_command.specs.ServicesMeaning.{services_meaning}
 
 -- what was read of both files: the tree of each, and what it means
@@ -30,10 +30,10 @@ pub record AreFilesOf (settings_text services_text : List ℕ) (files : Files) :
   pub services_read : tree_of services_text ≡ Some files.services_tree
   pub services_meant : beside.reading files.settings services_text ≡ Ok files.services
 
--- The text is what the settings mean, what a farm of them cannot do whatever its jobs are, and what the services mean.
+-- The text is what the settings mean, what a farm of them cannot do under `serve`, and what the services mean.
 abbrev pub IsFarmMeaning : Files → List ℕ → Type 0
 IsFarmMeaning files text =
-    (remarks : List ℕ) × AreLimitRemarks files.settings remarks
+    (remarks : List ℕ) × AreServeRemarks files.settings remarks
     × (text ≡ meaning files.settings_tree files.settings ++ remarks ++ services_meaning files.services_tree files.settings files.services)
 
 abbrev pub IsFarmText : List ℕ → List ℕ → List ℕ → Type 0

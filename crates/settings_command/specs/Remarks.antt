@@ -63,14 +63,14 @@ abbrev pub short_remark : Settings → Option (List ℕ) → List ℕ
 short_remark settings None = []
 short_remark settings (Some set) = short_line settings set
 
--- ---- a history that one job of each worker may fill
+-- ---- a history that one job of each worker may fill in `run`
 
 -- The events of an attempt to plan in which each worker joins and takes one job: the load, the round, and for each worker that it joins
 -- and takes the job, and the three for which room is kept from then on.
 abbrev pub attempt_events : Settings → ℕ
 attempt_events settings = 2 + 5 * slots settings
 
--- The room that an attempt finds at the least: a run ends the chapter of a history of which more than half is used.
+-- The room that an attempt finds at the least: `run` ends the chapter of a history of which more than half is used.
 abbrev pub attempt_room : Settings → ℕ
 attempt_room settings = settings.history - settings.history / 2
 
@@ -83,6 +83,22 @@ abbrev pub history_remark : Settings → List ℕ
 history_remark settings =
     if nat_lt (attempt_room settings) (attempt_events settings)
     then history_line settings.history (attempt_room settings) (attempt_events settings) else []
+
+-- ---- a history without room for an attempt of `serve` while each worker has a job
+
+-- What such an attempt takes: the load, the round, and for each worker the three events for which room is kept. It finds the history empty,
+-- since `serve` ends the chapter first.
+abbrev pub cut_events : Settings → ℕ
+cut_events settings = 2 + 3 * slots settings
+
+abbrev pub cut_history_line : ℕ → ℕ → List ℕ
+cut_history_line history events =
+    codes "remark history " ++ decimal history ++ codes " has no room for an attempt while each worker has a job: that takes "
+    ++ ended (decimal events)
+
+abbrev pub cut_history_remark : Settings → List ℕ
+cut_history_remark settings =
+    if nat_lt settings.history (cut_events settings) then cut_history_line settings.history (cut_events settings) else []
 
 -- ---- functions that `run` has no job for
 
@@ -101,19 +117,26 @@ jobless_remark settings = if length (jobless_names settings) == 0 then [] else j
 
 -- ---- all of them
 
--- The remarks whatever the jobs are, by kind and then by name, where the set shows that no plan meets the least numbers, if one does.
+-- The remarks however the farm is run, by kind and then by name. The set shows that no plan meets the least numbers, if there is one.
 abbrev pub limit_remarks : Settings → Option (List ℕ) → List ℕ
 limit_remarks settings short =
     flat_map (workerless_remark settings) (machines settings) ++ flat_map (few_remark settings) (functions settings)
-    ++ flat_map (crossed_remark settings) (functions settings) ++ short_remark settings short ++ history_remark settings
+    ++ flat_map (crossed_remark settings) (functions settings) ++ short_remark settings short
 
--- with that on the jobs of `run`
-abbrev pub farm_remarks : Settings → Option (List ℕ) → List ℕ
-farm_remarks settings short = limit_remarks settings short ++ jobless_remark settings
+-- with those on `run`
+abbrev pub run_remarks : Settings → Option (List ℕ) → List ℕ
+run_remarks settings short = limit_remarks settings short ++ history_remark settings ++ jobless_remark settings
+
+-- with that on `serve`
+abbrev pub serve_remarks : Settings → Option (List ℕ) → List ℕ
+serve_remarks settings short = limit_remarks settings short ++ cut_history_remark settings
 
 -- The text is these remarks, with no set or one of which that is shown.
 abbrev pub AreLimitRemarks : Settings → List ℕ → Type 0
 AreLimitRemarks settings text = (short : Option (List ℕ)) × IsShown settings short × (text ≡ limit_remarks settings short)
 
-abbrev pub AreFarmRemarks : Settings → List ℕ → Type 0
-AreFarmRemarks settings text = (short : Option (List ℕ)) × IsShown settings short × (text ≡ farm_remarks settings short)
+abbrev pub AreRunRemarks : Settings → List ℕ → Type 0
+AreRunRemarks settings text = (short : Option (List ℕ)) × IsShown settings short × (text ≡ run_remarks settings short)
+
+abbrev pub AreServeRemarks : Settings → List ℕ → Type 0
+AreServeRemarks settings text = (short : Option (List ℕ)) × IsShown settings short × (text ≡ serve_remarks settings short)

@@ -16,11 +16,11 @@ use Rattle.pool_settings.specs.declared.fault.SettingsFault.{SettingsFault}
 use Rattle.pool_settings.specs.declared.fault.SettingsFault.TheVariants as first
 use Rattle.settings_command.specs.Meaning.{meaning}
 use Rattle.settings_command.specs.Place.{line_of_place}
-use Rattle.settings_command.specs.Remarks.{AreFarmRemarks}
+use Rattle.settings_command.specs.Remarks.{AreRunRemarks}
 
--- The text is what the settings mean, of which the file gives the keys of this tree, and after it what a farm of them cannot do.
+-- The text is what the settings mean, of which the file gives the keys of this tree, and then what a farm of them cannot do under `run`.
 abbrev pub IsMeaning : Members → Settings → List ℕ → Type 0
-IsMeaning tree settings text = (remarks : List ℕ) × AreFarmRemarks settings remarks × (text ≡ meaning tree settings ++ remarks)
+IsMeaning tree settings text = (remarks : List ℕ) × AreRunRemarks settings remarks × (text ≡ meaning tree settings ++ remarks)
 
 -- What the settings mean is written, with the remarks on their farm. Or memory is refused, and nothing is written.
 abbrev pub Means : Members → Settings → Output → Output → Exit → Type 0

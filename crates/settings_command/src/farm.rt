@@ -12,7 +12,7 @@ use std::alloc::{AllocError, Global};
 /// A greatest number that no number of workers is above.
 const NO_MOST: u32 = u32::MAX;
 
-/// The planning problem of the settings where all workers live, nothing waits, and only the least numbers ask something.
+/// The planning problem of the settings if all workers live, nothing waits, and only the least numbers ask something.
 pub fn farm_of(alloc: Global, settings: &Settings) -> Result<Input, AllocError>
     ensures { IfOk result (λ farm. farm ≡ spec.farm settings.now) }
 {

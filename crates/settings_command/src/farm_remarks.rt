@@ -7,6 +7,7 @@ ghost use Rattle.settings_command.specs.Meaning.{functions, machines};
 ghost use Rattle.settings_command.specs.Remarks as spec;
 
 use crate::farm::{farm_of, short_set};
+use crate::history::{push_cut_history, push_history};
 use crate::jobless::push_jobless;
 use plan_model::{FuncId, FuncSet, Input, MachineId, count_neighbours};
 use pool_settings::Settings;
@@ -217,34 +218,6 @@ fn push_if_short(
     }
 }
 
-fn push_history_line(
-    out: &mut String,
-    history: u32,
-    room: u32,
-    events: u32,
-) -> Result<(), AllocError>
-    ensures { OnOk result (string_bytes out.new ≡ string_bytes out.old ++ spec.history_line history room events) }
-{
-    write!(
-        out,
-        "remark history {history} may leave {room} events between two attempts, and one job of each worker takes {events}\n"
-    )
-}
-
-/// A history that one job of each worker may fill.
-fn push_history(out: &mut String, settings: &Settings) -> Result<(), AllocError>
-    ensures { OnOk result (string_bytes out.new ≡ string_bytes out.old ++ spec.history_remark settings.now) }
-{
-    let history = settings.history();
-    let room = history - history / 2;
-    let events = 2 + 5 * settings.slots();
-    if room < events {
-        push_history_line(out, history, room, events)
-    } else {
-        Ok(())
-    }
-}
-
 /// The remarks on the farm alone, by kind.
 fn push_limits(
     out: &mut String,
@@ -259,14 +232,13 @@ fn push_limits(
     push_workerless(out, settings)?;
     push_few(out, settings, workers)?;
     push_crossed(out, settings)?;
-    push_if_short(out, settings, workers, short)?;
-    push_history(out, settings)
+    push_if_short(out, settings, workers, short)
 }
 
-/// What a farm of these settings cannot do, whatever its jobs are, a line each: the machines without workers, the functions that need more
-/// workers than may do them, those whose least number is above their greatest, the functions whose least numbers no plan meets together,
-/// and a history that one job of each worker may fill between two attempts to plan. The only error is out of memory.
-pub fn push_limit_remarks(out: &mut String, settings: &Settings) -> Result<(), AllocError>
+/// What a farm of these settings cannot do, however it is run, a line each: the machines without workers, the functions that need more
+/// workers than may do them, those whose least number is above their greatest, and the functions whose least numbers no plan meets
+/// together. The only error is out of memory.
+fn push_limit_remarks(out: &mut String, settings: &Settings) -> Result<(), AllocError>
     ensures { OnOk result ((text : List ℕ) × spec.AreLimitRemarks settings.now text
         × (string_bytes out.new ≡ string_bytes out.old ++ text)) }
 {
@@ -277,12 +249,25 @@ pub fn push_limit_remarks(out: &mut String, settings: &Settings) -> Result<(), A
     Ok(())
 }
 
-/// What a farm of these settings cannot do: the same, and the functions that `run` has no job for. The only error is out of memory.
-pub fn push_farm_remarks(out: &mut String, settings: &Settings) -> Result<(), AllocError>
-    ensures { OnOk result ((text : List ℕ) × spec.AreFarmRemarks settings.now text
+/// What a farm of these settings cannot do under `run`: the same, a history that one job of each worker may fill between two attempts to
+/// plan, and the functions that `run` has no job for. The only error is out of memory.
+pub fn push_run_remarks(out: &mut String, settings: &Settings) -> Result<(), AllocError>
+    ensures { OnOk result ((text : List ℕ) × spec.AreRunRemarks settings.now text
         × (string_bytes out.new ≡ string_bytes out.old ++ text)) }
 {
     push_limit_remarks(out, settings)?;
+    push_history(out, settings)?;
     push_jobless(out, settings)?;
+    Ok(())
+}
+
+/// What a farm of these settings cannot do under `serve`: the same without what is of `run`, and a history without room for an attempt to
+/// plan while each worker has a job. The only error is out of memory.
+pub fn push_serve_remarks(out: &mut String, settings: &Settings) -> Result<(), AllocError>
+    ensures { OnOk result ((text : List ℕ) × spec.AreServeRemarks settings.now text
+        × (string_bytes out.new ≡ string_bytes out.old ++ text)) }
+{
+    push_limit_remarks(out, settings)?;
+    push_cut_history(out, settings)?;
     Ok(())
 }

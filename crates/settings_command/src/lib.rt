@@ -4,6 +4,7 @@
 
 mod farm;
 mod farm_remarks;
+mod history;
 mod jobless;
 mod meaning;
 mod place;

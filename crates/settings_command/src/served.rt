@@ -4,7 +4,7 @@ ghost use Rattle.std.specs.Prelude.{◌≡◌, ◌-◌, ◌^◌, ◌<◌, IfErr,
 ghost use Rattle.settings_command.specs.FarmTold as spec;
 ghost use Rattle.toml.specs.View.{table_view};
 
-use crate::farm_remarks::push_limit_remarks;
+use crate::farm_remarks::push_serve_remarks;
 use crate::meaning::meaning_text;
 use crate::services_meaning::push_services;
 use byte_io::Sink;
@@ -15,7 +15,7 @@ use pool_settings::{Settings, SettingsFile};
 use service_settings::{Services, ServicesFile};
 use std::alloc::{AllocError, Global};
 
-/// What the settings and the services mean, and between them what a farm of the settings cannot do.
+/// What the settings and the services mean, and between them what a farm of the settings cannot do under `serve`.
 fn whole_text(
     alloc: Global,
     settings: &Settings,
@@ -33,7 +33,7 @@ fn whole_text(
     }) (string_bytes text)) }
 {
     let mut text = meaning_text(alloc, settings, file)?;
-    push_limit_remarks(&mut text, settings)?;
+    push_serve_remarks(&mut text, settings)?;
     push_services(&mut text, settings, services, services_file)?;
     Ok(text)
 }
@@ -52,10 +52,10 @@ fn described(alloc: Global, settings_text: &[u8], services_text: &[u8]) -> Resul
 }
 
 /// Reads settings and services as every command does, and writes what they mean, one fact a line: the settings as
-/// [`crate::settings_text`] has them, but for the remark on the jobs of `run`; and then the version, `connect_ms`, the URL of each machine,
-/// the time of each function and the page. The exit status is 0 if both are taken. The fault is the first mistake of the settings, and if
-/// they are taken that of the services; then nothing is written, nor if memory was refused. After a `WriteFault`, which comes only if the
-/// sink failed, a prefix of the text was written and not all of it.
+/// [`crate::settings_text`] has them, but with the remark on `serve` for those on `run`; and then the version, `connect_ms`, the URL of
+/// each machine, the time of each function and the page. The exit status is 0 if both are taken. The fault is the first mistake of the
+/// settings, and if they are taken that of the services; then nothing is written, nor if memory was refused. After a `WriteFault`, which
+/// comes only if the sink failed, a prefix of the text was written and not all of it.
 pub fn farm_text<S: Sink>(
     alloc: Global,
     settings_text: &[u8],

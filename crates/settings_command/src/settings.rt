@@ -7,7 +7,7 @@ ghost use Rattle.settings_command.specs.Place.{line_of_place};
 ghost use Rattle.settings_command.specs.Told as spec;
 ghost use Rattle.toml.specs.View.{table_view};
 
-use crate::farm_remarks::push_farm_remarks;
+use crate::farm_remarks::push_run_remarks;
 use crate::meaning::meaning_text;
 use crate::place::place_text;
 use byte_io::Sink;
@@ -15,12 +15,12 @@ use plan_commands::{Exit, Fault, Mistake, deliver};
 use pool_settings::{Place, Settings, SettingsError, SettingsFault, SettingsFile};
 use std::alloc::{AllocError, Global};
 
-/// What settings mean, and what a farm of them cannot do.
+/// What settings mean, and what a farm of them cannot do under `run`.
 fn whole_text(alloc: Global, settings: &Settings, file: &SettingsFile) -> Result<String, AllocError>
     ensures { IfOk result (λ text. spec.IsMeaning (table_view file.now.tree) settings.now (string_bytes text)) }
 {
     let mut text = meaning_text(alloc, settings, file)?;
-    push_farm_remarks(&mut text, settings)?;
+    push_run_remarks(&mut text, settings)?;
     Ok(text)
 }
 

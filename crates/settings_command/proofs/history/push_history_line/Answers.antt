@@ -1,5 +1,5 @@
 use Rattle.std.proofs.Common.{append_assoc, rules}
-use Rattle.settings_command.proofs.farm_remarks.push_history_line.Goals as goal
+use Rattle.settings_command.proofs.history.push_history_line.Goals as goal
 
 pub returns : goal.returns
 returns c = search (rules, append_assoc)
