@@ -1,7 +1,8 @@
 -- What is kept of the answers to attempts.
-use Rattle.std.specs.Prelude.{ℕ, ◌==◌, Bool, true, false, Option, Some, None, ⊤}
+use Rattle.std.specs.Prelude.{ℕ, ◌==◌, Bool, true, false, Option, Some, None, ⊤, option_map}
 use Rattle.farm_notes.specs.Evidence.{IsOfAShownAnswer, IsSameEvidence}
 use Rattle.farm_notes.specs.declared.found.Found.{Found}
+use Rattle.farm_page.specs.declared.view.AttemptView.{AttemptView}
 use Rattle.farm_page.specs.declared.view.Evidence.{Evidence}
 use Rattle.pool_supervisor.specs.declared.attempt.Attempt.{Attempt}
 use Rattle.pool_supervisor.specs.declared.attempt.Attempt.TheVariants as attempt
@@ -15,6 +16,25 @@ is_round attempt.NoLink = false
 is_round (attempt.Status error) = false
 is_round (attempt.Refused refusal) = false
 is_round attempt.Memory = false
+
+-- the backlog of a plan that serves all that wait
+abbrev pub backlog_of : Attempt → Option ℕ
+backlog_of (attempt.Backlog round backlog) = Some backlog
+backlog_of (attempt.Unserved round waiting) = None
+backlog_of (attempt.NoPlan round) = None
+backlog_of attempt.NoLink = None
+backlog_of (attempt.Status error) = None
+backlog_of (attempt.Refused refusal) = None
+backlog_of attempt.Memory = None
+
+-- the jobs that wait, if they were found in a round
+abbrev pub waiting_of : Bool → Option Found → Option ℕ
+waiting_of true found = option_map (λ found. found.waiting_jobs) found
+waiting_of false found = None
+
+-- what is drawn of an attempt in which this was found
+abbrev pub attempt_view : Attempt → Option Found → AttemptView
+attempt_view made found = record { backlog = backlog_of made; waiting = waiting_of (is_round made) found }
 
 -- what was found, as that of an attempt of this number
 abbrev pub numbered : ℕ → Found → Found

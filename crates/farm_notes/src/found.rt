@@ -1,6 +1,6 @@
 //! What a page shows of an answer.
 
-ghost use Rattle.std.specs.Prelude.{◌≡◌, IfOk};
+ghost use Rattle.std.specs.Prelude.{◌≡◌, ◌≤◌, IfOk, length, sum};
 ghost use Rattle.farm_notes.specs.Evidence as spec;
 ghost use Rattle.farm_notes.specs.Notes.{is_of, numbered};
 ghost use Rattle.pool_supervisor.specs.Steps.{IsMadeOf};
@@ -20,10 +20,24 @@ pub struct Found {
     pub shortage: Option<Shortage>,
     /// By function, how many jobs wait.
     pub waiting: Vec<u32>,
+    /// How many jobs wait for all functions together.
+    pub waiting_jobs: u64,
     /// By function, how many workers the plan gives it.
     pub workers: Vec<u32>,
     /// By machine, how many of its workers are alive.
     pub alive: Vec<u32>,
+}
+
+/// How many jobs wait for all functions together.
+fn sum_of(waiting: &[u32]) -> u64
+    requires few { length waiting.now ≤ 1024 }
+    ensures { result ≡ sum waiting.now }
+{
+    let mut jobs = 0u64;
+    for count in waiting {
+        jobs += u64::from(*count);
+    }
+    jobs
 }
 
 /// How many workers a plan gives each of so many functions.
@@ -89,8 +103,10 @@ impl Found {
         requires of_these { IsMadeOf settings.now certified.now.input }
         ensures evidence { IfOk result (λ found. spec.IsEvidenceOf settings.now certified.now found.evidence) }
         ensures waiting { IfOk result (λ found. found.waiting.items ≡ certified.now.input.waiting) }
+        ensures waiting_jobs { IfOk result (λ found. found.waiting_jobs ≡ sum certified.now.input.waiting) }
     {
         let input = certified.input();
+        input.facts();
         let (shortage, workers) = match certified.answer() {
             Answer::Planned {
                 plan,
@@ -121,6 +137,7 @@ impl Found {
             evidence: KeptEvidence::of(alloc, settings, certified)?,
             shortage,
             waiting: Vec::from_slice(alloc, input.waiting())?,
+            waiting_jobs: sum_of(input.waiting()),
             workers,
             alive: alive_by_machine(alloc, input)?,
         })
@@ -141,6 +158,7 @@ impl Found {
             evidence: self.evidence.numbered(attempt),
             shortage: self.shortage,
             waiting: self.waiting,
+            waiting_jobs: self.waiting_jobs,
             workers: self.workers,
             alive: self.alive,
         }

@@ -1,14 +1,15 @@
 //! What the page of a farm is made of, kept from attempt to attempt.
 
-ghost use Rattle.std.specs.Prelude.{◌≡◌, ◌<◌, IfOk, None, length};
+ghost use Rattle.std.specs.Prelude.{◌≡◌, ◌<◌, ◌++◌, [], ◌∷◌, IfOk, None, OnErr, OnOk, length};
 ghost use Rattle.farm_notes.specs.Notes as spec;
+ghost use Rattle.farm_page.specs.Kept.{last_of};
 ghost use Rattle.pool_supervisor.specs.Steps.{IsMadeOf};
 
 use crate::found::Found;
 use crate::tally::FunctionJobs;
 use farm_page::{
-    Backlogs, EndView, Evidence, Failures, FarmView, FunctionView, HostView, Outcome, Shortage,
-    Workers,
+    AttemptView, Attempts, EndView, Evidence, Failures, FarmView, FunctionView, HostView, Outcome,
+    Shortage, Workers,
 };
 use job_runner::EndCause;
 use plan_model::{Certified, FuncId, MachineId};
@@ -36,8 +37,8 @@ struct Kept {
     found: Option<Found>,
     /// What was found in the last attempt that led to a round.
     last: Option<Found>,
-    /// The backlogs of the attempts.
-    backlogs: Backlogs,
+    /// The last attempts.
+    attempts: Attempts,
     /// Why workers ended.
     ends: EndCounts,
 }
@@ -59,10 +60,26 @@ fn is_round(attempt: &Attempt) -> bool
 }
 
 /// The backlog of an attempt, if it has one that can be drawn.
-fn backlog_of(attempt: &Attempt) -> Option<u64> {
+fn backlog_of(attempt: &Attempt) -> Option<u64>
+    ensures { result ≡ spec.backlog_of attempt.now }
+{
     match attempt {
         Attempt::Backlog { backlog, .. } => Some(*backlog),
         _ => None,
+    }
+}
+
+/// What a page draws of an attempt in which this was found. Jobs wait also if there is no plan, or none that serves all of them.
+fn attempt_view(attempt: &Attempt, found: &Option<Found>) -> AttemptView
+    ensures { result ≡ spec.attempt_view attempt.now found.now }
+{
+    let waiting = match found {
+        Some(found) if is_round(attempt) => Some(found.waiting_jobs),
+        _ => None,
+    };
+    AttemptView {
+        backlog: backlog_of(attempt),
+        waiting,
     }
 }
 
@@ -123,14 +140,18 @@ impl Kept {
         ensures last { self.new.last
             ≡ spec.last_found (spec.is_round made.now.attempt.now) made.now.number self.old.found self.old.last }
         ensures found { self.new.found ≡ None }
+        ensures drawn { OnOk result (self.new.attempts
+            ≡ last_of 600 (self.old.attempts ++ spec.attempt_view made.now.attempt.now self.old.found ∷ [])) }
+        ensures kept { OnErr result (self.new.attempts ≡ self.old.attempts) }
     {
         let found = self.found.take();
+        let drawn = attempt_view(made.attempt, &found);
         if is_round(made.attempt) {
             if let Some(found) = found {
                 self.last = Some(found.numbered(made.number));
             }
         }
-        self.backlogs.add(backlog_of(made.attempt))
+        self.attempts.add(drawn)
     }
 
     /// How many jobs wait for a function, and how many workers it has, if this was found in the attempt of this number.
@@ -250,6 +271,7 @@ impl Kept {
         ensures evidence { IfOk result (λ view. spec.ShowsEvidence self.now.last view.evidence) }
         ensures answers { IfOk result (λ view. spec.ShowsAShownAnswer view.evidence) }
         ensures attempt { IfOk result (λ view. view.attempt ≡ made.now.number) }
+        ensures drawn { IfOk result (λ view. view.attempts ≡ self.now.attempts) }
     {
         let settings = made.settings;
         let evidence = evidence_shown(alloc, &self.last)?;
@@ -272,7 +294,7 @@ impl Kept {
             ends: self.ends(alloc)?,
             failures: known.failures.copy()?,
             evidence,
-            backlogs: self.backlogs.copy()?,
+            attempts: self.attempts.copy()?,
         })
     }
 }
@@ -284,7 +306,7 @@ impl PageNotes {
             kept: Mutex::new(Kept {
                 found: None,
                 last: None,
-                backlogs: Backlogs::new(alloc),
+                attempts: Attempts::new(alloc),
                 ends: EndCounts::none(),
             }),
         }

@@ -1,15 +1,52 @@
-//! The drawing of the last backlogs.
+//! The drawings of the last attempts.
 
 ghost use Rattle.std.specs.Prelude.{◌≤◌};
 
-use crate::backlogs::{Backlogs, DRAWN};
+use crate::attempts::{Attempts, DRAWN};
 use crate::markup::Markup;
+use crate::view::AttemptView;
 use std::alloc::{AllocError, Global};
 
-/// How high the drawing of the greatest backlog is, of 1,000.
+/// How high the greatest number is drawn, of 1,000.
 const HEIGHT: u128 = 960;
 
-/// A backlog in a drawing.
+/// What a drawing shows of each attempt.
+#[derive(Clone, Copy)]
+enum Quantity {
+    /// Its backlog.
+    Backlog,
+    /// The jobs that wait.
+    Waiting,
+}
+
+impl Quantity {
+    /// That of an attempt, if it has it.
+    fn of(self, attempt: &AttemptView) -> Option<u64> {
+        match self {
+            Quantity::Backlog => attempt.backlog,
+            Quantity::Waiting => attempt.waiting,
+        }
+    }
+
+    /// That of the last attempt, if it has it.
+    fn of_last(self, attempts: &Attempts) -> Option<u64> {
+        match attempts.each().back() {
+            Some(attempt) => self.of(attempt),
+            None => None,
+        }
+    }
+
+    /// The greatest of the attempts, and 0 if there is none.
+    fn greatest(self, attempts: &Attempts) -> u64 {
+        let mut greatest = 0u64;
+        for attempt in attempts.each() {
+            greatest = greatest.max(self.of(attempt).unwrap_or(0));
+        }
+        greatest
+    }
+}
+
+/// A number in a drawing.
 #[derive(Clone, Copy)]
 struct Point {
     /// Its place from the left.
@@ -18,20 +55,11 @@ struct Point {
     down: u64,
 }
 
-/// The greatest backlog, and 0 if there is none.
-fn greatest_of(backlogs: &Backlogs) -> u64 {
-    let mut greatest = 0u64;
-    for backlog in backlogs.points() {
-        greatest = greatest.max(backlog.unwrap_or(0));
-    }
-    greatest
-}
-
-/// How far from the top a backlog is drawn, of 1,000.
-fn down(backlog: u64, top: u64) -> u64
+/// How far from the top a number is drawn, of 1,000.
+fn down(number: u64, top: u64) -> u64
     requires { 1 ≤ top }
 {
-    let part = HEIGHT * u128::from(backlog) / u128::from(top);
+    let part = HEIGHT * u128::from(number) / u128::from(top);
     1_000u64.saturating_sub(u64::try_from(part).unwrap_or(1_000))
 }
 
@@ -43,7 +71,7 @@ fn put_corner(out: &mut Markup, corner: Point) -> Result<(), AllocError> {
     out.put_tags(" ")
 }
 
-/// Adds a step of the line: from the place of a backlog to the next.
+/// Adds a step of the line: from the place of a number to the next.
 fn put_step(out: &mut Markup, point: Point) -> Result<(), AllocError> {
     let next = Point {
         at: point.at.saturating_add(1),
@@ -53,14 +81,14 @@ fn put_step(out: &mut Markup, point: Point) -> Result<(), AllocError> {
     put_corner(out, next)
 }
 
-/// Adds the ground of an attempt without a backlog.
+/// Adds the ground of an attempt without a number.
 fn put_gap(out: &mut Markup, at: u64) -> Result<(), AllocError> {
     out.put_tags("<rect class=\"gap\" y=\"0\" width=\"1\" height=\"1000\" x=\"")?;
     out.put_number(at)?;
     out.put_tags("\"/>")
 }
 
-/// A line that is drawn as far as its backlogs follow each other.
+/// A line that is drawn as far as its numbers follow each other.
 #[derive(Drop)]
 struct Line {
     out: Markup,
@@ -68,7 +96,7 @@ struct Line {
 }
 
 impl Line {
-    /// Adds a backlog to the line.
+    /// Adds a number to the line.
     fn put(&mut self, point: Point) -> Result<(), AllocError> {
         if !self.is_open {
             self.out.put_tags(
@@ -89,20 +117,25 @@ impl Line {
     }
 }
 
-/// The lines of the backlogs, and the grounds of the attempts without one. The last is at the right. The only error is out of memory.
-fn curve(alloc: Global, backlogs: &Backlogs, top: u64) -> Result<Markup, AllocError>
+/// The lines of what is drawn, and the grounds of the attempts without it. The last is at the right. The only error is out of memory.
+fn curve(
+    alloc: Global,
+    attempts: &Attempts,
+    quantity: Quantity,
+    top: u64,
+) -> Result<Markup, AllocError>
     requires { 1 ≤ top }
 {
     let mut line = Line {
         out: Markup::new(alloc),
         is_open: false,
     };
-    let mut at = DRAWN.saturating_sub(backlogs.points().len()) as u64;
-    for backlog in backlogs.points() {
-        match backlog {
-            Some(backlog) => line.put(Point {
+    let mut at = DRAWN.saturating_sub(attempts.each().len()) as u64;
+    for attempt in attempts.each() {
+        match quantity.of(attempt) {
+            Some(number) => line.put(Point {
                 at,
-                down: down(*backlog, top),
+                down: down(number, top),
             })?,
             None => {
                 line.end()?;
@@ -115,48 +148,87 @@ fn curve(alloc: Global, backlogs: &Backlogs, top: u64) -> Result<Markup, AllocEr
     Ok(line.out)
 }
 
-/// Adds the backlog of now, or that there is none.
-fn put_now(out: &mut Markup, backlogs: &Backlogs) -> Result<(), AllocError> {
-    match backlogs.points().back() {
-        Some(Some(backlog)) => out.put_number(*backlog),
-        _ => out.put_tags("none"),
+/// What is told of a drawing in words.
+#[derive(Clone, Copy)]
+struct Scale {
+    quantity: Quantity,
+    /// That of now, if there is one.
+    now: Option<u64>,
+    greatest: u64,
+}
+
+impl Scale {
+    /// That of these attempts.
+    fn of(quantity: Quantity, attempts: &Attempts) -> Scale {
+        Scale {
+            quantity,
+            now: quantity.of_last(attempts),
+            greatest: quantity.greatest(attempts),
+        }
+    }
+
+    /// Adds the number of now, or that there is none.
+    fn put_now(&self, out: &mut Markup) -> Result<(), AllocError> {
+        match self.now {
+            Some(number) => out.put_number(number),
+            None => out.put_tags("none"),
+        }
+    }
+
+    /// Adds what stands above the drawing: its name, the number of now, and the greatest, which its upper axis marks.
+    fn put_caption(&self, out: &mut Markup) -> Result<(), AllocError> {
+        match self.quantity {
+            Quantity::Backlog => out.put_tags("<figcaption><span><b>Backlog</b> now ")?,
+            Quantity::Waiting => out.put_tags("<figcaption><span><b>Waiting jobs</b> now ")?,
+        }
+        self.put_now(out)?;
+        out.put_tags("</span><span>at most ")?;
+        out.put_number(self.greatest)?;
+        out.put_tags("</span></figcaption>")
+    }
+
+    /// Adds the ground of the lines, which says in words what they show.
+    fn put_ground(&self, out: &mut Markup) -> Result<(), AllocError> {
+        out.put_tags(
+            "<svg class=\"chart\" viewBox=\"0 0 600 1000\" preserveAspectRatio=\"none\" role=\"img\" aria-label=\"",
+        )?;
+        match self.quantity {
+            Quantity::Backlog => out.put_tags("Backlog of the last 600 attempts, now ")?,
+            Quantity::Waiting => out.put_tags("Waiting jobs of the last 600 attempts, now ")?,
+        }
+        self.put_now(out)?;
+        out.put_tags(", at most ")?;
+        out.put_number(self.greatest)?;
+        out.put_tags(
+            "\"><path class=\"axis\" vector-effect=\"non-scaling-stroke\" d=\"M0,40H600M0,1000H600\"/>",
+        )
     }
 }
 
-/// Adds the scale: the backlog of now, and the greatest.
-fn put_scale(out: &mut Markup, backlogs: &Backlogs, greatest: u64) -> Result<(), AllocError> {
-    out.put_tags("<figcaption><span><b>Backlog</b> now ")?;
-    put_now(out, backlogs)?;
-    out.put_tags("</span><span>at most ")?;
-    out.put_number(greatest)?;
-    out.put_tags("</span></figcaption>")
-}
-
-/// Adds the ground of the lines, which says in words what they show.
-fn put_ground(out: &mut Markup, backlogs: &Backlogs, greatest: u64) -> Result<(), AllocError> {
-    out.put_tags(
-        "<svg class=\"chart\" viewBox=\"0 0 600 1000\" preserveAspectRatio=\"none\" role=\"img\" \
-        aria-label=\"Backlog of the last 600 attempts, now ",
-    )?;
-    put_now(out, backlogs)?;
-    out.put_tags(", at most ")?;
-    out.put_number(greatest)?;
-    out.put_tags(
-        "\"><path class=\"axis\" vector-effect=\"non-scaling-stroke\" d=\"M0,40H600M0,1000H600\"/>",
-    )
-}
-
-/// The drawing of the last backlogs, with its scale. The only error is out of memory.
-pub fn drawing(alloc: Global, backlogs: &Backlogs) -> Result<Markup, AllocError> {
-    let greatest = greatest_of(backlogs);
-    let lines = curve(alloc, backlogs, greatest.max(1))?;
+/// One drawing, with its scale. The only error is out of memory.
+fn drawing(alloc: Global, attempts: &Attempts, quantity: Quantity) -> Result<Markup, AllocError> {
+    let scale = Scale::of(quantity, attempts);
+    let lines = curve(alloc, attempts, quantity, scale.greatest.max(1))?;
     let mut out = Markup::new(alloc);
-    out.put_tags("<section><figure>")?;
-    put_scale(&mut out, backlogs, greatest)?;
-    put_ground(&mut out, backlogs, greatest)?;
+    out.put_tags("<figure>")?;
+    scale.put_caption(&mut out)?;
+    scale.put_ground(&mut out)?;
     out.put(&lines)?;
+    out.put_tags("</svg></figure>")?;
+    Ok(out)
+}
+
+/// The drawings of the last attempts, one below the other, with one axis of time: the backlogs, and the jobs that wait. Their numbers are
+/// of other magnitudes, so each has a scale of its own. The only error is out of memory.
+pub fn drawings(alloc: Global, attempts: &Attempts) -> Result<Markup, AllocError> {
+    let backlogs = drawing(alloc, attempts, Quantity::Backlog)?;
+    let waiting = drawing(alloc, attempts, Quantity::Waiting)?;
+    let mut out = Markup::new(alloc);
+    out.put_tags("<section>")?;
+    out.put(&backlogs)?;
+    out.put(&waiting)?;
     out.put_tags(
-        "</svg></figure><div class=\"ends\"><span>600 attempts ago</span><span>now</span></div></section>\n",
+        "<div class=\"ends\"><span>600 attempts ago</span><span>now</span></div></section>\n",
     )?;
     Ok(out)
 }

@@ -16,7 +16,7 @@
 #![tactic(auto)]
 
 mod answer;
-mod backlogs;
+mod attempts;
 mod cells;
 mod condition;
 mod drawing;
@@ -37,7 +37,7 @@ mod view;
 mod writing;
 
 pub use answer::{Allowed, Answer, Content, Status};
-pub use backlogs::{Backlogs, DRAWN};
+pub use attempts::{Attempts, DRAWN};
 pub use condition::{Condition, condition_of, sentence, shortage_words};
 pub use evidence::{evidence_text, lost_text};
 pub use failures::Failures;
@@ -51,6 +51,6 @@ pub use replying::{Reply, Seen, reply_to};
 pub use request::{Asked, Method, Place, Refusal, Site, place_asked};
 pub use style::POLICY;
 pub use view::{
-    EndView, Evidence, FailureEnd, FailureView, FarmView, FunctionView, HostView, JobEnds, Outcome,
-    Shortage, Workers,
+    AttemptView, EndView, Evidence, FailureEnd, FailureView, FarmView, FunctionView, HostView,
+    JobEnds, Outcome, Shortage, Workers,
 };

@@ -6,7 +6,7 @@ ghost use Rattle.farm_page.specs.Markup.{IsPageOf, opening};
 ghost use Rattle.farm_page.specs.Sections.{Holds, body_tag, end_rows, failures_part, function_rows, headline, host_rows, server_words};
 
 use crate::condition::{Condition, shortage_words};
-use crate::drawing::drawing;
+use crate::drawing::drawings;
 use crate::health::{Moment, condition_at, sentence_at};
 use crate::markup::Markup;
 use crate::sections::{
@@ -114,7 +114,7 @@ fn put_attempt(out: &mut Markup, view: &FarmView) -> Result<(), AllocError> {
     out.put_tags(". ")
 }
 
-/// What is between the sentence and the drawing. The only error is out of memory.
+/// What is between the sentence and the drawings. The only error is out of memory.
 fn state(alloc: Global, view: &FarmView, refresh: Refresh) -> Result<Markup, AllocError> {
     let mut out = Markup::new(alloc);
     put_shortage(alloc, &mut out, view)?;
@@ -169,7 +169,7 @@ fn rest_of(
     let mut out = head(alloc, view, moment, words.as_str())?;
     let headline = headline(alloc, words.as_str())?;
     let state = state(alloc, view, refresh)?;
-    let drawing = drawing(alloc, &view.backlogs)?;
+    let drawing = drawings(alloc, &view.attempts)?;
     let tables = tables(alloc, view)?;
     out.put(&headline)?;
     out.put(&state)?;
@@ -179,9 +179,10 @@ fn rest_of(
     Ok(out)
 }
 
-/// The page of a farm at a moment, in HTML: how the farm is then in one sentence, what shows it, the last backlogs as a drawing, and the
-/// tables of the functions, the hosts, the causes for which workers ended, and the last jobs that were not completed. It has no script, and
-/// no file from elsewhere. Whatever names it shows, each `<` in it begins a tag of the program's own. The only error is out of memory.
+/// The page of a farm at a moment, in HTML: how the farm is then in one sentence, what shows it, the backlogs and the waiting jobs of the
+/// last attempts as two drawings, and the tables of the functions, the hosts, the causes for which workers ended, and the last jobs that
+/// were not completed. It has no script, and no file from elsewhere. Whatever names it shows, each `<` in it begins a tag of the program's
+/// own. The only error is out of memory.
 pub fn page_text(
     alloc: Global,
     view: &FarmView,

@@ -34,7 +34,7 @@ td.bad{color:var(--bad);font-weight:600}td.warn{color:var(--warn);font-weight:60
 summary{color:var(--quiet);padding-top:8px}";
 
 /// The drawings.
-pub const DRAWINGS: &str = "figure{margin:0}\
+pub const DRAWINGS: &str = "figure{margin:0}figure+figure{margin-top:14px}\
 figcaption,.ends{display:flex;justify-content:space-between;gap:12px;color:var(--quiet);font-size:13px}\
 figcaption b{color:var(--text);font-weight:600}svg{display:block;width:100%}.chart{height:92px;margin-top:4px}\
 .bar{width:84px;height:8px;display:inline-block}.axis{stroke:var(--line)}\
@@ -44,5 +44,5 @@ figcaption b{color:var(--text);font-weight:600}svg{display:block;width:100%}.cha
 
 /// What a browser may load for an answer: the style, by its hash, and an icon of no bytes.
 pub const POLICY: &str =
-    "default-src 'none'; style-src 'sha256-kvhtcJWUXIbwBkhQDZR/jAnEjoe8Gm7Q+bAY2V7h8+0='; img-src data:; base-uri 'none'; \
+    "default-src 'none'; style-src 'sha256-A1GOOxxXESrYZQChhotdYT416XyszKRz5hKu/grKR44='; img-src data:; base-uri 'none'; \
 form-action 'none'; frame-ancestors 'none'";

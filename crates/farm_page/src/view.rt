@@ -3,7 +3,7 @@
 ghost use Rattle.std.specs.Prelude.{◌≡◌};
 ghost use Rattle.farm_page.specs.View.{has_plan};
 
-use crate::backlogs::Backlogs;
+use crate::attempts::Attempts;
 use crate::failures::Failures;
 
 /// What an attempt to plan came to.
@@ -26,6 +26,16 @@ impl Outcome {
     {
         matches!(self, Outcome::Backlog(_) | Outcome::Unserved(_))
     }
+}
+
+/// What a page draws of an attempt.
+#[derive(Clone, Copy)]
+pub struct AttemptView {
+    /// So many jobs wait for each worker of a function at most. None if it has no plan, or one under which jobs wait for a function that
+    /// none does.
+    pub backlog: Option<u64>,
+    /// So many jobs wait, for all functions of the settings together. None if it does not know.
+    pub waiting: Option<u64>,
 }
 
 /// How many workers there are.
@@ -166,6 +176,6 @@ pub struct FarmView {
     pub failures: Failures,
     /// The evidence of the last attempt that had any.
     pub evidence: Option<Evidence>,
-    /// The backlogs of the last attempts, this one's last.
-    pub backlogs: Backlogs,
+    /// The last attempts, this one last.
+    pub attempts: Attempts,
 }

@@ -12,7 +12,7 @@ use crate::places::Distance;
 use crate::shared_page::{PageTimes, SharedPage};
 use bytes::{BufMut, Bytes};
 use farm_page::{
-    Asked, Backlogs, Failures, FarmView, Moment, Outcome, Reply, Seen, Site, Workers, reply_to,
+    Asked, Attempts, Failures, FarmView, Moment, Outcome, Reply, Seen, Site, Workers, reply_to,
 };
 use http::{Request, StatusCode};
 use http_server::{Response, Service};
@@ -56,7 +56,7 @@ fn before_attempts(alloc: Global) -> Result<FarmView, AllocError> {
         ends: Vec::new(alloc),
         failures: Failures::new(alloc),
         evidence: None,
-        backlogs: Backlogs::new(alloc),
+        attempts: Attempts::new(alloc),
     })
 }
 
