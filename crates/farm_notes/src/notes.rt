@@ -144,8 +144,8 @@ impl Kept {
             ≡ last_of 600 (self.old.attempts ++ spec.attempt_view made.now.attempt.now self.old.found ∷ [])) }
         ensures kept { OnErr result (self.new.attempts ≡ self.old.attempts) }
     {
+        let drawn = attempt_view(made.attempt, &self.found);
         let found = self.found.take();
-        let drawn = attempt_view(made.attempt, &found);
         if is_round(made.attempt) {
             if let Some(found) = found {
                 self.last = Some(found.numbered(made.number));
