@@ -1,5 +1,5 @@
 -- A run of a farm, and how it ends.
-use Rattle.std.specs.Prelude.{◌≡◌, ◌⊎◌, ℕ, List, []}
+use Rattle.std.specs.Prelude.{◌≡◌, ◌⊎◌, ◌+◌, ◌*◌, ◌^◌, ◌-◌, ℕ, List, [], min}
 use Rattle.plan_commands.specs.Fault.{answered, refused}
 use Rattle.plan_commands.specs.declared.ending.Exit.{Exit}
 use Rattle.plan_commands.specs.declared.fault.Fault.{Fault}
@@ -8,8 +8,10 @@ use Rattle.pool_supervisor.specs.Rounds.{TellRun}
 use Rattle.pool_supervisor.specs.Runs.{AreOfOneHistory}
 use Rattle.pool_supervisor.specs.Sessions.{PastSession, AreSums}
 use Rattle.pool_supervisor.specs.declared.attempt.Attempt.{Attempt}
+use Rattle.pool_supervisor.specs.declared.attempt.Attempt.TheVariants as attempt
 use Rattle.pool_supervisor.specs.declared.run.RunEnd.{RunEnd}
-use Rattle.serve_command.specs.Farm.{IsOf, IsRefused}
+use Rattle.run_command.specs.Texts.{text_ms, write_ms}
+use Rattle.serve_command.specs.Farm.{Farm, IsOf, IsRefused}
 use Rattle.serve_command.specs.declared.reporting.Outlook.{Outlook}
 use Rattle.serve_command.specs.declared.reporting.Outlook.TheVariants as outlook
 use Rattle.service_settings.specs.Services.{Services}
@@ -20,6 +22,12 @@ abbrev pub IsFarmRun : Settings → RunEnd → Type 0
 IsFarmRun settings ended =
     (lines : List Attempt) × TellRun settings [] lines [] × AreOfOneHistory settings ended.totals ended.chapters lines
     × (sessions : List PastSession) × AreSums settings sessions ended.totals.grabbed ended.totals.reported
+
+-- How many milliseconds workers may take to end, and 2^32 - 1 at most: to open a connection, to do a job, and to write an answer, for which
+-- there is the time of an answer and three writes.
+abbrev pub end_ms : Farm → ℕ
+end_ms farm =
+    min (farm.services.connect_ms + farm.settings.job_timeout_ms + text_ms farm.settings + 3 * write_ms farm.settings) (2 ^ 32 - 1)
 
 -- The texts mean a farm, and a run of it came to this.
 abbrev pub IsFarmRunBy : List ℕ → List ℕ → RunEnd → Type 0
@@ -41,6 +49,13 @@ after_plan outlook.NoPlan = outlook.LacksAPlan
 after_plan outlook.Plans = outlook.Plans
 after_plan outlook.LacksAPlan = outlook.LacksAPlan
 after_plan outlook.SlotUsed = outlook.SlotUsed
+
+-- what they came to after one more attempt, which may have led to no round
+abbrev pub after_attempt : Outlook → Attempt → Outlook
+after_attempt seen (attempt.NoPlan round) = after_no_plan seen
+after_attempt seen (attempt.Backlog round jobs) = after_plan seen
+after_attempt seen (attempt.Unserved round waiting) = after_plan seen
+after_attempt seen other = seen
 
 -- 0 if each round had a plan, 1 if only some had one, 5 if no attempt led to a plan, 6 if a slot can have no more workers
 abbrev pub status_of : Outlook → ℕ

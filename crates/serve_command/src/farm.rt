@@ -107,6 +107,7 @@ impl Farm {
     /// How long calls of a connection to a service may take.
     pub fn call_times(&self) -> CallTimes
         ensures connect { result.connect_ms ≡ self.now.services.connect_ms }
+        ensures read { result.read_ms ≡ 100 }
     {
         CallTimes {
             connect_ms: self.services.connect_ms(),

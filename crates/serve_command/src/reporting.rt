@@ -40,7 +40,9 @@ pub enum Outlook {
 
 impl Outlook {
     /// After one more attempt.
-    fn after(self, attempt: &Attempt) -> Outlook {
+    fn after(self, attempt: &Attempt) -> Outlook
+        ensures { result ≡ spec.after_attempt self attempt.now }
+    {
         match attempt {
             Attempt::NoPlan { .. } => self.after_no_plan(),
             Attempt::Backlog { .. } | Attempt::Unserved { .. } => self.after_plan(),

@@ -1,6 +1,6 @@
 //! The command `serve`: from the texts of a farm to the end of its run.
 
-ghost use Rattle.std.specs.Prelude.{IfErr, IfOk};
+ghost use Rattle.std.specs.Prelude.{◌≡◌, ◌+◌, ◌^◌, ◌-◌, min, IfErr, IfOk};
 ghost use Rattle.serve_command.specs.Farm as farms;
 ghost use Rattle.serve_command.specs.Serving as spec;
 
@@ -35,20 +35,24 @@ pub struct FarmEnd {
     pub outlook: Outlook,
 }
 
-/// How many milliseconds workers may take to end: to open a connection, to do a job, and to write its answer and what comes after it. A job
-/// may end as late as its time after its deadline, since a write that its service does not read may take so long. The first write of an
-/// answer, the last one, and that of what comes after it each may take as long as a write may.
-fn end_ms(farm: &Farm) -> u32 {
+/// How many milliseconds workers may take to end: to open a connection, to do a job, and to write its answer and what comes after it. The
+/// first write of an answer, the last one, and that of what comes after it each may take as long as a write may.
+fn end_ms(farm: &Farm) -> u32
+    ensures { result ≡ spec.end_ms farm.now }
+{
     let settings = &farm.settings;
     farm.services
         .connect_ms()
-        .saturating_add(settings.job_timeout_ms().saturating_mul(2))
+        .saturating_add(settings.job_timeout_ms())
         .saturating_add(text_ms(settings))
         .saturating_add(write_ms(settings).saturating_mul(3))
 }
 
 /// The times that the page of a farm goes by.
-fn page_times(farm: &Farm) -> PageTimes {
+fn page_times(farm: &Farm) -> PageTimes
+    ensures round { result.round_ms ≡ farm.now.settings.round_ms }
+    ensures drain { result.drain_ms ≡ min (spec.end_ms farm.now + 60000) (2 ^ 32 - 1) }
+{
     PageTimes {
         round_ms: farm.settings.round_ms(),
         drain_ms: end_ms(farm).saturating_add(DRAIN_MS),
