@@ -1,11 +1,24 @@
 -- When a host is left alone.
-use Rattle.std.specs.Prelude.{Bool, true, false, if◌then◌else◌, Option, Some, None, Result, Ok, Err}
+use Rattle.std.specs.Prelude.{ℕ, ◌+◌, ◌-◌, ◌^◌, min, Bool, true, false, ◌||◌, ◌&&◌, ◌==◌, if◌then◌else◌, List, [], ◌∷◌, length}
+use Rattle.std.specs.Prelude.{nat_eq, nat_le, nat_lt}
+use Rattle.std.specs.Prelude.{Option, Some, None, Result, Ok, Err}
+use Rattle.std.specs.Cmp.Lexicographic.{pointwise}
+use Rattle.std.specs.List.{list_any}
 use Rattle.devices.specs.declared.dial_error.DialError.{DialError}
-use Rattle.devices.specs.declared.dial_error.DialError.TheVariants.{TooManyFiles, Memory}
+use Rattle.devices.specs.declared.dial_error.DialError.TheVariants.{TooManyFiles, Memory, NoAddress, NoAnswer}
+use Rattle.http_jobs.specs.declared.fault.NotDone.{NotDone}
+use Rattle.http_jobs.specs.declared.fault.NotDone.TheVariants as not_done
+use Rattle.http_jobs.specs.declared.fault.Unserved.TheVariants as unserved
+use Rattle.http_jobs.specs.declared.outcome.Reply.{Reply}
+use Rattle.serve_command.specs.declared.host_sign.HostSign.{HostSign}
+use Rattle.serve_command.specs.declared.host_sign.HostSign.TheVariants as sign
 use Rattle.serve_command.specs.declared.hosts.BeforeJob.{BeforeJob}
-use Rattle.serve_command.specs.declared.hosts.BeforeJob.TheVariants.{Ask, Dial, End}
+use Rattle.serve_command.specs.declared.hosts.BeforeJob.TheVariants.{Ask, Dial, Look, End}
+use Rattle.serve_command.specs.declared.hosts.HostEntry.{HostEntry}
 use Rattle.serve_command.specs.declared.hosts.HostState.{HostState}
 use Rattle.serve_command.specs.declared.hosts.HostState.TheVariants as state
+use Rattle.serve_command.specs.declared.hosts.LeftJobs.{LeftJobs}
+use Rattle.serve_command.specs.declared.hosts.LeftJobs.TheVariants as left
 use Rattle.serve_command.specs.declared.hosts.Reason.{Reason}
 use Rattle.serve_command.specs.declared.hosts.Reason.TheVariants.{Unreachable, Unserved}
 use Rattle.worker_state.specs.declared.slot.WorkerName.{WorkerName}
@@ -16,10 +29,21 @@ is_local TooManyFiles = true
 is_local Memory = true
 is_local other = false
 
--- A worker that dialled its host again may go on: the host was reached, or nothing was learnt of it.
-abbrev pub lets_go_on : Result (Unit {0}) DialError → Bool
-lets_go_on (Ok _) = true
-lets_go_on (Err why) = is_local why
+-- Such a dial before a job says nothing of the host if it failed so. A look says nothing of it either if the host's name was not found: the
+-- host counts as reached, and the connections that are kept to it need no name.
+abbrev pub says_nothing : BeforeJob → DialError → Bool
+says_nothing Look NoAddress = true
+says_nothing does why = is_local why
+
+-- what such a dial before a job says of the host, if it says anything
+abbrev pub said_of_host : BeforeJob → Result (Unit {0}) DialError → Option (Result (Unit {0}) DialError)
+said_of_host does (Ok reached) = Some (Ok reached)
+said_of_host does (Err why) = if says_nothing does why then None else Some (Err why)
+
+-- A worker that dialled its host goes on, unless the dial said that it was not reached.
+abbrev pub lets_go_on : Option (Result (Unit {0}) DialError) → Bool
+lets_go_on (Some (Err why)) = false
+lets_go_on other = true
 
 -- why a host is left alone, if it is
 abbrev pub reason_of : HostState → Option Reason
@@ -31,9 +55,9 @@ abbrev pub trier_of : HostState → Option WorkerName
 trier_of (state.Present presence) = None
 trier_of (state.Away absence) = absence.trier
 
--- it asks, after a dial if nothing was heard of its host for long
+-- it asks, after a look if nothing was heard of its host for long
 abbrev pub asking : Bool → BeforeJob
-asking is_silent = if is_silent then Dial else Ask
+asking is_silent = if is_silent then Look else Ask
 
 -- What a worker does before it asks for one more job, by why its host is left alone, whether it is the one that tries the host, and whether
 -- nothing was heard of the host for long. One that was not reached is dialled; and of one whose jobs are not served all other workers end.
@@ -41,6 +65,15 @@ abbrev pub before_job : Option Reason → Bool → Bool → BeforeJob
 before_job (Some Unreachable) is_trier is_silent = Dial
 before_job (Some Unserved) is_trier is_silent = if is_trier then asking is_silent else End
 before_job None is_trier is_silent = asking is_silent
+
+-- it is left alone, and from this attempt on one worker may try it
+abbrev pub is_due : HostState → ℕ → Bool
+is_due (state.Present presence) attempt = false
+is_due (state.Away absence) attempt = nat_le absence.due attempt
+
+-- it has no job to do, and nothing was heard of it for four attempts
+abbrev pub is_silent : HostEntry → ℕ → Bool
+is_silent host attempt = (host.jobs == 0) && nat_le (min (host.heard + 4) (2 ^ 64 - 1)) attempt
 
 -- why it is left alone once a connection was opened, by what it was before
 abbrev pub after_opening : Option Reason → Option Reason
@@ -52,3 +85,33 @@ after_opening before = before
 abbrev pub after_dial : Option Reason → Result (Unit {0}) DialError → Option Reason
 after_dial before (Err why) = if is_local why then before else Some Unreachable
 after_dial before (Ok _) = after_opening before
+
+-- the two are handles of one job
+abbrev pub is_same_job : List ℕ → List ℕ → Bool
+is_same_job one other = pointwise nat_eq one other
+
+-- the handles of these jobs
+abbrev pub jobs_in : LeftJobs → List (List ℕ)
+jobs_in left.Nothing = []
+jobs_in (left.One first) = first ∷ []
+jobs_in (left.Two first second) = first ∷ second ∷ []
+
+-- Why it is left alone after it left this job unserved, by why it was before, and by the jobs that it had left since the last one that it
+-- served. A third one marks it, and none of them again.
+abbrev pub after_left : Option Reason → List (List ℕ) → List ℕ → Option Reason
+after_left (Some why) jobs job = Some why
+after_left None jobs job = if list_any (is_same_job job) jobs || nat_lt (length jobs) 2 then None else Some Unserved
+
+-- What a dial for a job that failed so tells of the host. If the job had less time than a dial, that may have cut the dial off.
+abbrev pub sign_of_dial : Bool → DialError → HostSign
+sign_of_dial true NoAnswer = sign.Unserved
+sign_of_dial is_hurried why = sign.Unreached why
+
+-- What a job with so much time tells of its host, to which a dial may take so long: that it serves jobs, left one unserved or was not
+-- reached, or nothing, if no service was asked or memory was refused.
+abbrev pub sign_of : ℕ → ℕ → Result (Option Reply) NotDone → HostSign
+sign_of timeout_ms connect_ms (Ok (Some reply)) = sign.Served
+sign_of timeout_ms connect_ms (Ok None) = sign.Nothing
+sign_of timeout_ms connect_ms (Err not_done.Memory) = sign.Nothing
+sign_of timeout_ms connect_ms (Err (not_done.Unserved (unserved.Unreachable why))) = sign_of_dial (nat_lt timeout_ms connect_ms) why
+sign_of timeout_ms connect_ms (Err (not_done.Unserved other)) = sign.Unserved

@@ -3,13 +3,14 @@
 use crate::books::Books;
 use crate::farm::Farm;
 use crate::host::FarmHost;
+use crate::host_sign::{HostSign, sign_of};
 use crate::hosts::{HostNews, Hosts, MachineSlot};
 use crate::job_lines::{failure_of, line_of, told_part};
 use crate::last_jobs::AnsweredJob;
 use devices::DialError;
 use farm_notes::JobEnd;
-use gear_packets::Assignment;
-use http_jobs::{Reply, ServiceJobs, Unserved, dial_words};
+use gear_packets::{Assignment, Handle};
+use http_jobs::{Reply, ServiceJobs, dial_words};
 use job_runner::{End, Jobs, NotDone, Outcome};
 use plan_model::{FuncId, MachineId, SlotId};
 use pool_supervisor::JobSource;
@@ -128,22 +129,19 @@ pub struct FarmJobs<'e, H: FarmHost> {
     jobs: ServiceJobs<H::Call, H::Dials, H::Times>,
 }
 
-/// What is new of the machine's host after a job. Out of memory says nothing of it.
+/// What is new of the machine's host after this job, which told so much of it.
 fn news_of<R: Wait>(
     rt: &R,
     hosts: &Hosts,
     machine: MachineId,
-    done: &Result<Option<Reply>, http_jobs::NotDone>,
+    job: &Handle,
+    sign: HostSign,
 ) -> Option<HostNews> {
-    match done {
-        Ok(Some(_)) => hosts.was_asked(rt, machine, true),
-        // No service was asked.
-        Ok(None) => None,
-        Err(http_jobs::NotDone::Unserved(Unserved::Unreachable(why))) => {
-            hosts.was_dialled(rt, machine, Err(*why))
-        }
-        Err(http_jobs::NotDone::Unserved(_)) => hosts.was_asked(rt, machine, false),
-        Err(http_jobs::NotDone::Memory) => None,
+    match sign {
+        HostSign::Served => hosts.has_served(rt, machine),
+        HostSign::Unserved => hosts.has_left(rt, machine, job),
+        HostSign::Unreached(why) => hosts.was_dialled(rt, machine, Err(why)),
+        HostSign::Nothing => None,
     }
 }
 
@@ -255,7 +253,8 @@ impl<'e, H: FarmHost> Jobs for FarmJobs<'e, H> {
         self.books.hosts.begin_job(self.host, self.machine);
         let done = self.jobs.serve(alloc, &job);
         self.books.hosts.end_job(self.host, self.machine);
-        let news = news_of(self.host, self.books.hosts, self.machine, &done);
+        let sign = sign_of(&done, timeout_ms, farm.services.connect_ms());
+        let news = news_of(self.host, self.books.hosts, self.machine, &job.handle, sign);
         self.host
             .tell_if(host_line(alloc, farm, self.machine, news));
         self.books.tally.end(self.host, function, end_of(&done));

@@ -38,6 +38,7 @@ impl FileNews {
 /// peers of the page.
 fn workers_for(free: u32, opening: u32, peers: u32) -> u32
     ensures leaves { 0 < result → 2 * result + opening + peers + 8 ≤ free }
+    ensures no_more_fit { free < 2 * result + opening + peers + 10 }
 {
     let left = free.saturating_sub(LEFT_FREE).saturating_sub(peers);
     left.saturating_sub(opening) / OF_WORKER

@@ -1,12 +1,16 @@
 //! Which hosts of a farm are reached, and when one that is not is tried again.
 
-ghost use Rattle.std.specs.Prelude.{◌≡◌, ◌↔◌, IfErr, Some, true};
+ghost use Rattle.std.specs.Prelude.{◌≡◌, ◌↔◌, ◌≤◌, ◌<◌, ◌+◌, ◌*◌, ◌^◌, ◌-◌, ◌++◌, ◌∷◌, [], Bool, IfErr, IfSome, None, Some};
+ghost use Rattle.std.specs.Prelude.{is_some, length, min, nat_lt, true};
+ghost use Rattle.std.specs.List.{list_any};
 ghost use Rattle.serve_command.specs.Hosts as spec;
 ghost use Rattle.serve_command.specs.declared.hosts.Reason.TheVariants.{Unserved};
 
 use devices::DialError;
+use gear_packets::Handle;
 use plan_model::MachineId;
 use std::alloc::{AllocError, Global};
+use std::mem;
 use std::sync::{Mutex, Wait};
 use worker_state::WorkerName;
 
@@ -19,15 +23,12 @@ const LONGEST_WAIT: u64 = 64;
 /// From how many attempts on after the last word of a host one of its workers dials it.
 const LONGEST_SILENCE: u64 = 4;
 
-/// How many jobs, one after the other, a host may leave unserved before it is left alone.
-const MOST_UNSERVED: u32 = 3;
-
 /// Why a host is left alone.
 #[derive(Clone, Copy, Debug, PartialEq, Eq)]
 pub enum Reason {
     /// A dial failed, and not since files or memory were lacking here.
     Unreachable,
-    /// Three jobs, one after the other, were not served.
+    /// Three different jobs, one after the other, were not served.
     Unserved,
 }
 
@@ -55,8 +56,10 @@ pub enum HostNews {
 pub enum BeforeJob {
     /// Nothing: it asks.
     Ask,
-    /// It dials its host, and asks if that is reached, or if nothing is learnt of it.
+    /// It dials its host, to which a dial failed before, and asks if that is reached, or if nothing is learnt of it.
     Dial,
+    /// It dials its host, of which nothing was heard for long, to see whether it is still there. It asks as after a dial.
+    Look,
     /// It ends.
     End,
 }
@@ -77,7 +80,10 @@ struct Absence {
 impl Absence {
     /// After a worker joined in this attempt. If it came to try the host, the next wait is longer: 1, 2, 4 .. attempts, and 64 at most.
     fn after_join(self, attempt: u64) -> Absence
-        ensures { result.why ≡ self.why }
+        ensures why { result.why ≡ self.why }
+        ensures tries { self.due ≤ attempt
+            → (result.wait ≡ min (self.wait * 2) 64) × (result.due ≡ min (attempt + result.wait) (2 ^ 64 - 1)) }
+        ensures waits { attempt < self.due → result ≡ self }
     {
         let mut after = self;
         if self.due <= attempt {
@@ -92,8 +98,6 @@ impl Absence {
 /// A host that is not left alone: all its workers may start.
 #[derive(Clone, Copy, Debug, PartialEq, Eq)]
 struct Presence {
-    /// How many jobs it left unserved since the last one that it served.
-    unserved: u32,
     /// How many attempts pass before it is tried, once it is left alone. Only a job that is served makes them fewer.
     wait: u64,
 }
@@ -101,10 +105,7 @@ struct Presence {
 impl Presence {
     /// That of a host that served its last job.
     fn new() -> Presence {
-        Presence {
-            unserved: 0,
-            wait: FIRST_WAIT,
-        }
+        Presence { wait: FIRST_WAIT }
     }
 }
 
@@ -135,13 +136,77 @@ fn is_local(why: DialError) -> bool
     matches!(why, DialError::TooManyFiles | DialError::Memory)
 }
 
-/// Whether a worker may ask for one more job after it dialled its host again: if that was reached, or if nothing was learnt of it.
-pub fn lets_go_on(dialled: Result<(), DialError>) -> bool
-    ensures { result ≡ spec.lets_go_on dialled }
+/// Whether such a dial before a job says nothing of the host if it failed so. A look says nothing of it if the host's name was not found:
+/// the host counts as reached, and the connections that are kept to it need no name.
+fn says_nothing(does: BeforeJob, why: DialError) -> bool
+    ensures { result ≡ spec.says_nothing does why }
+{
+    match (does, why) {
+        (BeforeJob::Look, DialError::NoAddress) => true,
+        _ => is_local(why),
+    }
+}
+
+/// What such a dial before a job says of the host, if it says anything.
+pub fn said_of_host(
+    does: BeforeJob,
+    dialled: Result<(), DialError>,
+) -> Option<Result<(), DialError>>
+    ensures { result ≡ spec.said_of_host does dialled }
 {
     match dialled {
-        Ok(()) => true,
-        Err(why) => is_local(why),
+        Err(why) if says_nothing(does, why) => None,
+        said => Some(said),
+    }
+}
+
+/// Whether a worker may ask for one more job after a dial said this of its host: if that was reached, or if nothing was learnt of it.
+pub fn lets_go_on(said: Option<Result<(), DialError>>) -> bool
+    ensures { result ≡ spec.lets_go_on said }
+{
+    !matches!(said, Some(Err(_)))
+}
+
+/// Whether the two are handles of one job.
+fn is_same_job(one: &Handle, other: &Handle) -> bool
+    ensures { result ≡ spec.is_same_job one.now other.now }
+{
+    one.bytes() == other.bytes()
+}
+
+/// The jobs that a host left unserved, each once, since it last served one, or since it was last left alone. A third one marks it.
+#[derive(Drop)]
+enum LeftJobs {
+    /// There is none.
+    Nothing,
+    /// There is this one.
+    One(Handle),
+    /// There are these two.
+    Two(Handle, Handle),
+}
+
+impl LeftJobs {
+    /// Whether this job is among them.
+    fn have(&self, job: &Handle) -> bool
+        ensures { result ≡ list_any (spec.is_same_job job.now) (spec.jobs_in self.now) }
+    {
+        match self {
+            LeftJobs::Nothing => false,
+            LeftJobs::One(first) => is_same_job(job, first),
+            LeftJobs::Two(first, second) => is_same_job(job, first) || is_same_job(job, second),
+        }
+    }
+
+    /// With one more. None if that is the third.
+    fn with(self, job: &Handle) -> Option<LeftJobs>
+        ensures one_more { IfSome result (λ left. spec.jobs_in left ≡ spec.jobs_in self ++ job.now ∷ []) }
+        ensures two_at_most { is_some result ≡ nat_lt (length (spec.jobs_in self)) 2 }
+    {
+        match self {
+            LeftJobs::Nothing => Some(LeftJobs::One(job.copy())),
+            LeftJobs::One(first) => Some(LeftJobs::Two(first, job.copy())),
+            LeftJobs::Two(_, _) => None,
+        }
     }
 }
 
@@ -189,22 +254,7 @@ impl HostState {
                     wait,
                     ..
                 },
-            ) => HostState::Present(Presence { unserved: 0, wait }),
-            state => state,
-        }
-    }
-
-    /// After a job that was served, or was not.
-    fn after_job(self, is_served: bool, attempt: u64) -> HostState {
-        match self {
-            _ if is_served => HostState::Present(Presence::new()),
-            HostState::Present(presence) if presence.unserved < MOST_UNSERVED - 1 => {
-                HostState::Present(Presence {
-                    unserved: presence.unserved + 1,
-                    ..presence
-                })
-            }
-            HostState::Present(_) => self.away(Reason::Unserved, attempt),
+            ) => HostState::Present(Presence { wait }),
             state => state,
         }
     }
@@ -225,7 +275,9 @@ impl HostState {
     }
 
     /// Whether a worker that joins now comes to try it.
-    fn is_tried_in(self, attempt: u64) -> bool {
+    fn is_tried_in(self, attempt: u64) -> bool
+        ensures { result ≡ spec.is_due self attempt }
+    {
         match self {
             HostState::Present(_) => false,
             HostState::Away(absence) => absence.due <= attempt,
@@ -288,7 +340,7 @@ impl HostState {
         match self.reason() {
             Some(Reason::Unreachable) => BeforeJob::Dial,
             Some(Reason::Unserved) if !is_trier => BeforeJob::End,
-            _ if is_silent => BeforeJob::Dial,
+            _ if is_silent => BeforeJob::Look,
             _ => BeforeJob::Ask,
         }
     }
@@ -314,11 +366,13 @@ fn news_of(before: Option<Reason>, now: Option<Reason>) -> Option<HostNews> {
 }
 
 /// A host of a farm.
-#[derive(Clone, Copy)]
+#[derive(Drop)]
 struct HostEntry {
     /// How it is.
     state: HostState,
-    /// The attempt of the last word of it: it took a connection or served a job. Or in which a worker was last let dial it to see.
+    /// The jobs that it left unserved.
+    left: LeftJobs,
+    /// The attempt of the last word of it: it took a connection or served a job. Or in which a worker last took a look at it.
     heard: u64,
     /// How many jobs it has to do now.
     jobs: u32,
@@ -327,6 +381,17 @@ struct HostEntry {
 }
 
 impl HostEntry {
+    /// One of which nothing is known.
+    fn new() -> HostEntry {
+        HostEntry {
+            state: HostState::Present(Presence::new()),
+            left: LeftJobs::Nothing,
+            heard: 1,
+            jobs: 0,
+            tries: 0,
+        }
+    }
+
     /// Whether a worker of this slot may start in this attempt. Tries go round the slots, since each can have only so many workers. If the
     /// slot whose turn it is has a worker, any may have the try an attempt later.
     fn may_start(&self, slot: MachineSlot, attempt: u64) -> bool {
@@ -345,37 +410,70 @@ impl HostEntry {
         self.state = self.state.after_join(attempt);
     }
 
-    /// What a worker does before it asks for one more job in this attempt. Of those that find a host silent one dials it. One that has a
-    /// job to do is not silent: a service that does one job after the other would leave such dials waiting, until its queue is full.
-    fn before_job(&mut self, worker: WorkerName, attempt: u64) -> BeforeJob {
+    /// What a worker does before it asks for one more job in this attempt. Of those that find a host silent one takes a look. One that has
+    /// a job to do is not silent: a service that does one job after the other would leave such dials waiting, until its queue is full.
+    fn before_job(&mut self, worker: WorkerName, attempt: u64) -> BeforeJob
+        ensures does { (is_trier : Bool) × ((is_trier ≡ true) ↔ (spec.trier_of self.old.state ≡ Some worker))
+            × (result ≡ spec.before_job (spec.reason_of self.old.state) is_trier (spec.is_silent self.old attempt)) }
+        ensures state { self.new.state ≡ self.old.state }
+    {
         let is_silent = self.jobs == 0 && self.heard.saturating_add(LONGEST_SILENCE) <= attempt;
         let does = self
             .state
             .before_job(self.state.is_tried_by(worker), is_silent);
-        if does == BeforeJob::Dial {
+        if does == BeforeJob::Look {
             self.heard = attempt;
         }
         does
     }
 
+    /// What is new of it, by why it was left alone before. If anything is, the jobs that it left unserved count no more.
+    fn news_since(&mut self, before: Option<Reason>) -> Option<HostNews>
+        ensures { self.new.state ≡ self.old.state }
+    {
+        let news = news_of(before, self.state.reason());
+        if news.is_some() {
+            self.left = LeftJobs::Nothing;
+        }
+        news
+    }
+
     /// After a connection was opened, or could not be. What is new of it.
-    fn was_dialled(&mut self, dialled: Result<(), DialError>, attempt: u64) -> Option<HostNews> {
+    fn was_dialled(&mut self, dialled: Result<(), DialError>, attempt: u64) -> Option<HostNews>
+        ensures { spec.reason_of self.new.state ≡ spec.after_dial (spec.reason_of self.old.state) dialled }
+    {
         let before = self.state.reason();
         self.state = self.state.after_dial(dialled, attempt);
         if dialled.is_ok() {
             self.heard = attempt;
         }
-        news_of(before, self.state.reason())
+        self.news_since(before)
     }
 
-    /// After a job that was served, or was not. What is new of it.
-    fn was_asked(&mut self, is_served: bool, attempt: u64) -> Option<HostNews> {
+    /// After it served a job. What is new of it.
+    fn has_served(&mut self, attempt: u64) -> Option<HostNews>
+        ensures { spec.reason_of self.new.state ≡ None }
+    {
         let before = self.state.reason();
-        self.state = self.state.after_job(is_served, attempt);
-        if is_served {
-            self.heard = attempt;
+        self.state = HostState::Present(Presence::new());
+        self.heard = attempt;
+        self.left = LeftJobs::Nothing;
+        news_of(before, None)
+    }
+
+    /// After it left a job unserved. What is new of it. The job server hands out the same job again, maybe to this host: that makes one.
+    fn has_left(&mut self, job: &Handle, attempt: u64) -> Option<HostNews>
+        ensures { spec.reason_of self.new.state ≡ spec.after_left (spec.reason_of self.old.state) (spec.jobs_in self.old.left) job.now }
+    {
+        let before = self.state.reason();
+        if before.is_some() || self.left.have(job) {
+            return None;
         }
-        news_of(before, self.state.reason())
+        match mem::replace(&mut self.left, LeftJobs::Nothing).with(job) {
+            Some(left) => self.left = left,
+            None => self.state = self.state.away(Reason::Unserved, attempt),
+        }
+        self.news_since(before)
     }
 }
 
@@ -389,8 +487,8 @@ struct Table {
 }
 
 /// Which hosts of a farm are reached. A host is left alone if a dial to it failed, unless files or memory were lacking here, until one
-/// succeeds; or if three jobs, one after the other, were not served, until one is. To one that is left alone one worker comes at a time,
-/// and of those whose jobs are not served it alone asks for more.
+/// succeeds; or if three different jobs, one after the other, were not served, until one is. To one that is left alone one worker comes at
+/// a time, and of those whose jobs are not served it alone asks for more.
 #[derive(Drop)]
 pub struct Hosts {
     table: Mutex<Table>,
@@ -399,14 +497,10 @@ pub struct Hosts {
 impl Hosts {
     /// The hosts of so many machines, of which nothing is known. The only error is out of memory.
     pub fn new(alloc: Global, machines: u32) -> Result<Hosts, AllocError> {
-        let host = HostEntry {
-            state: HostState::Present(Presence::new()),
-            heard: 1,
-            jobs: 0,
-            tries: 0,
-        };
         let mut hosts = Vec::new(alloc);
-        hosts.resize(machines as usize, host)?;
+        for _machine in 0..machines {
+            hosts.push(HostEntry::new())?;
+        }
         Ok(Hosts {
             table: Mutex::new(Table { attempt: 1, hosts }),
         })
@@ -442,8 +536,8 @@ impl Hosts {
         }
     }
 
-    /// What a worker of the machine does before it asks for one more job. Of a host that has no job to do, and for four attempts has taken
-    /// no connection and served no job, one worker is let dial it.
+    /// What a worker of the machine does before it asks for one more job. At a host that has no job to do, and for four attempts has taken
+    /// no connection and served no job, one worker takes a look.
     pub fn before_job<R: Wait>(&self, rt: &R, machine: MachineId, worker: WorkerName) -> BeforeJob {
         let mut held = self.table.lock(rt);
         let attempt = held.attempt;
@@ -509,16 +603,19 @@ impl Hosts {
         host.was_dialled(dialled, attempt)
     }
 
-    /// A job was served by the host of this machine, or was not. What is new of the host.
-    pub fn was_asked<R: Wait>(
-        &self,
-        rt: &R,
-        machine: MachineId,
-        is_served: bool,
-    ) -> Option<HostNews> {
+    /// A job was served by the host of this machine. What is new of the host.
+    pub fn has_served<R: Wait>(&self, rt: &R, machine: MachineId) -> Option<HostNews> {
         let mut held = self.table.lock(rt);
         let attempt = held.attempt;
         let host = held.hosts.get_mut(machine.number() as usize)?;
-        host.was_asked(is_served, attempt)
+        host.has_served(attempt)
+    }
+
+    /// A job was not served by the host of this machine. What is new of the host.
+    pub fn has_left<R: Wait>(&self, rt: &R, machine: MachineId, job: &Handle) -> Option<HostNews> {
+        let mut held = self.table.lock(rt);
+        let attempt = held.attempt;
+        let host = held.hosts.get_mut(machine.number() as usize)?;
+        host.has_left(job, attempt)
     }
 }

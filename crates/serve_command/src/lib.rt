@@ -6,6 +6,7 @@ mod farm;
 mod farm_jobs;
 mod file_room;
 mod host;
+mod host_sign;
 mod hosts;
 mod job_lines;
 mod last_jobs;

@@ -6,7 +6,7 @@ ghost use Rattle.serve_command.specs.Serving as spec;
 use crate::books::Books;
 use crate::farm_jobs::host_line;
 use crate::host::FarmHost;
-use crate::hosts::{BeforeJob, lets_go_on};
+use crate::hosts::{BeforeJob, lets_go_on, said_of_host};
 use crate::job_lines::{Uncompleted, line_of, lost_job};
 use crate::last_jobs::AnsweredJob;
 use farm_notes::{Known, PageNotes};
@@ -163,18 +163,20 @@ impl<'e, H: FarmHost> Watch for Reporting<'e, H> {
 
     /// A worker whose host was not reached dials it again, beside the connection that it keeps: that may look open though its host is
     /// gone, and then the next job would be done in vain. So does one of the workers of a host that has no job and was not heard of for
-    /// some attempts, since else each of them could take a job before it learns that the host is gone. If the farm has to end, such a
-    /// worker just ends. So do all workers but one of a host that takes connections and serves no job: one by one they would take jobs
-    /// from others, and give them back.
+    /// some attempts, since else each of them could take a job before it learns that the host is gone. It goes on if the host's name was
+    /// not found: a resolver that is down ends no worker of a host that is well. If the farm has to end, a worker that would dial just
+    /// ends. So do all workers but one of a host that takes connections and serves no job: one by one they would take jobs from others,
+    /// and give them back.
     fn may_go_on(&self, worker: WorkerName) -> bool {
         let slot = worker.slot;
         let Some(machine) = self.books.farm.machine_of(slot) else {
             return false;
         };
-        match self.books.hosts.before_job(self.host, machine, worker) {
+        let does = self.books.hosts.before_job(self.host, machine, worker);
+        match does {
             BeforeJob::Ask => return true,
             BeforeJob::End => return false,
-            BeforeJob::Dial => {}
+            BeforeJob::Dial | BeforeJob::Look => {}
         }
         if self.host.is_to_end() {
             return false;
@@ -183,11 +185,13 @@ impl<'e, H: FarmHost> Watch for Reporting<'e, H> {
             return true;
         };
         let mut dials = self.host.dials(name, self.books.farm.call_times());
-        let dialled = try_dial(&mut dials);
-        let news = self.books.hosts.was_dialled(self.host, machine, dialled);
-        self.host
-            .tell_if(host_line(self.alloc, self.books.farm, machine, news));
-        lets_go_on(dialled)
+        let said = said_of_host(does, try_dial(&mut dials));
+        if let Some(dialled) = said {
+            let news = self.books.hosts.was_dialled(self.host, machine, dialled);
+            self.host
+                .tell_if(host_line(self.alloc, self.books.farm, machine, news));
+        }
+        lets_go_on(said)
     }
 }
 
