@@ -243,6 +243,7 @@ impl<'e, H: FarmHost> Progress for Reporting<'e, H> {
     fn ended(&self, ended: &EndedWorker<'_>) {
         let machine = ended.settings.machine_of(ended.worker.slot);
         self.books.hosts.has_ended(self, machine, ended.worker);
+        self.books.threads.has_ended(self);
         let lost = self.take_lost(ended);
         let lost = lost_of(self.alloc, ended, &lost);
         self.host.tell_if(line_of(self.alloc, &lost));

@@ -1,6 +1,7 @@
 //! Whether threads can be started for more workers.
 
-ghost use Rattle.std.specs.Prelude.{◌≤◌};
+ghost use Rattle.std.specs.Prelude.{◌≡◌, ◌+◌, ◌*◌, ◌^◌, ◌-◌, min};
+ghost use Rattle.std.specs.Option.{option_map_or};
 
 use std::sync::{Mutex, Wait};
 
@@ -49,7 +50,8 @@ struct Known {
 /// The refusal after one more, in this attempt. Each try uses up a worker of its slot, which can have only so many: so the waits grow as
 /// 1, 2, 4 .. attempts, and 64 at most.
 fn refused_again(before: Option<Refusal>, attempt: u64) -> Refusal
-    ensures waits { result.wait ≤ 64 }
+    ensures wait { result.wait ≡ option_map_or (λ r. min (r.wait * 2) 64) before 1 }
+    ensures due { result.due ≡ min (attempt + result.wait) (2 ^ 64 - 1) }
 {
     let wait = match before {
         None => 1,
@@ -73,7 +75,8 @@ impl Known {
 }
 
 /// Whether threads can be started for more workers. That is only seen by starting one. After a refusal none is tried for the rest of that
-/// attempt, and then for as many attempts as twice the wait before, until one is started.
+/// attempt, and then for as many attempts as twice the wait before, until one is started. A worker that ends leaves its thread: then one is
+/// tried at once.
 #[derive(Drop)]
 pub struct ThreadRoom {
     known: Mutex<Known>,
@@ -110,6 +113,18 @@ impl ThreadRoom {
         let mut held = self.known.lock(rt);
         let attempt = held.attempt;
         held.refusal = Some(refused_again(held.refusal, attempt));
+    }
+
+    /// A worker has ended, and so has its thread: another may be started.
+    pub fn has_ended<R: Wait>(&self, rt: &R) {
+        let mut held = self.known.lock(rt);
+        let attempt = held.attempt;
+        if let Some(refusal) = held.refusal {
+            held.refusal = Some(Refusal {
+                due: attempt,
+                ..refusal
+            });
+        }
     }
 
     /// The attempt is over, and the next begins. What is new of the threads after it.
