@@ -51,6 +51,11 @@ impl<'e, H: FarmHost> JobSource for FarmSource<'e, H> {
         if slot.number() >= farm.settings.slots() || self.host.is_to_end() {
             return false;
         }
+        // Else each empty slot would dial a job server that does not answer, and an attempt would take as long as all of that. Whether it
+        // does again the attempt sees when it asks for the status.
+        if self.host.last_failure().is_some() {
+            return false;
+        }
         if !self.books.threads.lets(self.host) {
             return false;
         }
