@@ -71,9 +71,9 @@ abbrev pub is_due : HostState → ℕ → Bool
 is_due (state.Present presence) attempt = false
 is_due (state.Away absence) attempt = nat_le absence.due attempt
 
--- it has no job to do, and nothing was heard of it for four attempts
+-- none of its workers is at a job there or takes a look, and nothing was heard of it for four attempts
 abbrev pub is_silent : HostEntry → ℕ → Bool
-is_silent host attempt = (host.jobs == 0) && nat_le (min (host.heard + 4) (2 ^ 64 - 1)) attempt
+is_silent host attempt = (host.busy == 0) && nat_le (min (host.heard + 4) (2 ^ 64 - 1)) attempt
 
 -- why it is left alone once a connection was opened, by what it was before
 abbrev pub after_opening : Option Reason → Option Reason

@@ -374,8 +374,8 @@ struct HostEntry {
     left: LeftJobs,
     /// The attempt of the last word of it: it took a connection or served a job. Or in which a worker last took a look at it.
     heard: u64,
-    /// How many jobs it has to do now.
-    jobs: u32,
+    /// How many of its workers are at a job there, or take a look at it.
+    busy: u32,
     /// How many workers came to try it.
     tries: u64,
 }
@@ -387,7 +387,7 @@ impl HostEntry {
             state: HostState::Present(Presence::new()),
             left: LeftJobs::Nothing,
             heard: 1,
-            jobs: 0,
+            busy: 0,
             tries: 0,
         }
     }
@@ -410,19 +410,21 @@ impl HostEntry {
         self.state = self.state.after_join(attempt);
     }
 
-    /// What a worker does before it asks for one more job in this attempt. Of those that find a host silent one takes a look. One that has
-    /// a job to do is not silent: a service that does one job after the other would leave such dials waiting, until its queue is full.
+    /// What a worker does before it asks for one more job in this attempt. Of those that find a host silent one takes a look, and until it
+    /// has looked no other does: a look-up may take long. A host that has a job to do is not silent: a service that does one job after the
+    /// other would leave such dials waiting, until its queue is full.
     fn before_job(&mut self, worker: WorkerName, attempt: u64) -> BeforeJob
         ensures does { (is_trier : Bool) × ((is_trier ≡ true) ↔ (spec.trier_of self.old.state ≡ Some worker))
             × (result ≡ spec.before_job (spec.reason_of self.old.state) is_trier (spec.is_silent self.old attempt)) }
         ensures state { self.new.state ≡ self.old.state }
     {
-        let is_silent = self.jobs == 0 && self.heard.saturating_add(LONGEST_SILENCE) <= attempt;
+        let is_silent = self.busy == 0 && self.heard.saturating_add(LONGEST_SILENCE) <= attempt;
         let does = self
             .state
             .before_job(self.state.is_tried_by(worker), is_silent);
         if does == BeforeJob::Look {
             self.heard = attempt;
+            self.busy = self.busy.saturating_add(1);
         }
         does
     }
@@ -537,7 +539,7 @@ impl Hosts {
     }
 
     /// What a worker of the machine does before it asks for one more job. At a host that has no job to do, and for four attempts has taken
-    /// no connection and served no job, one worker takes a look.
+    /// no connection and served no job, one worker takes a look, up to `end_look`.
     pub fn before_job<R: Wait>(&self, rt: &R, machine: MachineId, worker: WorkerName) -> BeforeJob {
         let mut held = self.table.lock(rt);
         let attempt = held.attempt;
@@ -551,7 +553,7 @@ impl Hosts {
     pub fn begin_job<R: Wait>(&self, rt: &R, machine: MachineId) {
         let mut held = self.table.lock(rt);
         if let Some(host) = held.hosts.get_mut(machine.number() as usize) {
-            host.jobs = host.jobs.saturating_add(1);
+            host.busy = host.busy.saturating_add(1);
         }
     }
 
@@ -559,7 +561,15 @@ impl Hosts {
     pub fn end_job<R: Wait>(&self, rt: &R, machine: MachineId) {
         let mut held = self.table.lock(rt);
         if let Some(host) = held.hosts.get_mut(machine.number() as usize) {
-            host.jobs = host.jobs.saturating_sub(1);
+            host.busy = host.busy.saturating_sub(1);
+        }
+    }
+
+    /// A worker of the machine has taken its look at the host, whatever it saw.
+    pub fn end_look<R: Wait>(&self, rt: &R, machine: MachineId) {
+        let mut held = self.table.lock(rt);
+        if let Some(host) = held.hosts.get_mut(machine.number() as usize) {
+            host.busy = host.busy.saturating_sub(1);
         }
     }
 

@@ -181,11 +181,17 @@ impl<'e, H: FarmHost> Watch for Reporting<'e, H> {
         if self.host.is_to_end() {
             return false;
         }
-        let Some(name) = self.books.farm.host_of(self.alloc, slot) else {
-            return true;
+        let said = match self.books.farm.host_of(self.alloc, slot) {
+            Some(name) => {
+                let mut dials = self.host.dials(name, self.books.farm.call_times());
+                said_of_host(does, try_dial(&mut dials))
+            }
+            // There is no memory for its name.
+            None => None,
         };
-        let mut dials = self.host.dials(name, self.books.farm.call_times());
-        let said = said_of_host(does, try_dial(&mut dials));
+        if does == BeforeJob::Look {
+            self.books.hosts.end_look(self.host, machine);
+        }
         if let Some(dialled) = said {
             let news = self.books.hosts.was_dialled(self.host, machine, dialled);
             self.host
