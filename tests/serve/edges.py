@@ -1,10 +1,11 @@
 """Farms at the edges of what the system gives them: edges.py PROGRAM FOLDER
 
 tests/serve/run calls this. A farm has two hosts that do jobs. It goes on, and serves them, though nobody takes its lines, though the names
-of 200 further hosts do not resolve, though no descriptor is left, or there are too few from the start, though the job server takes a report
-a little at a time, and though a host is gone. What its processes write is in the folder.
+of 200 further hosts do not resolve, though the resolver is gone, though no descriptor is left, or there are too few from the start, though
+the job server takes a report a little at a time, and though a host is gone. What its processes write is in the folder.
 """
 
+import contextlib
 import fcntl
 import os
 import re
@@ -74,8 +75,10 @@ def bad_jobs(name, count):
 class Edge:
     """A job server and two services, and a farm of theirs."""
 
-    def __init__(self, program, processes, others=()):
+    def __init__(self, program, processes, others=(), named=None):
+        """The services are named by their address, or by these names."""
         self.program, self.processes = program, processes
+        named = named or dict.fromkeys(HOSTS, HOST)
         self.server, page, *places = ports(2 + len(HOSTS))
         self.page = Page(page, PATIENCE)
         self.others = others
@@ -83,7 +86,7 @@ class Edge:
         processes.start_server(self.server)
         self.services = {name: processes.start_service(name, port) for name, port in self.places.items()}
         self.write("settings", settings(self.server, others))
-        urls = {**{name: f"{HOST}:{port}" for name, port in self.places.items()}, **{name: f"{name}.invalid:80" for name in others}}
+        urls = {**{name: f"{named[name]}:{port}" for name, port in self.places.items()}, **{name: f"{name}.invalid:80" for name in others}}
         lines = ["version = 1", f'[page]\nlisten = "{HOST}:{page}"']
         self.write("services", "\n".join([*lines, *[f'[machines.{name}]\nurl = "http://{url}/jobs"' for name, url in urls.items()], ""]))
 
@@ -264,8 +267,9 @@ def serve_beside_unknown_names(program, processes):
     edge.holds_no_good_host_unreached()
 
 
-def with_a_silent_resolver(program, processes):
-    """The same in a network of its own, where the resolver is asked and never answers."""
+@contextlib.contextmanager
+def silent_resolver(processes):
+    """In a network of its own: a resolver that is asked and never answers. Without look-ups all was in vain."""
     raise_loopback()
     with socket.socket(socket.AF_INET, socket.SOCK_DGRAM) as resolver:
         resolver.bind((HOST, 53))
@@ -273,18 +277,69 @@ def with_a_silent_resolver(program, processes):
         with open(f"{processes.folder}/resolv.conf", "w") as it:
             it.write(f"nameserver {HOST}\noptions timeout:{LOOKUP_S} attempts:1\n")
         subprocess.run(["mount", "--bind", it.name, "/etc/resolv.conf"], check=True)
-        serve_beside_unknown_names(program, processes)
+        yield
         held(resolver.recv(512), "no name was looked up")
+
+
+def with_a_silent_resolver(program, processes):
+    """The same in a network of its own, where the resolver is asked and never answers."""
+    with silent_resolver(processes):
+        serve_beside_unknown_names(program, processes)
+
+
+# What gives a part a network of its own.
+ALONE = ("unshare", "--map-root-user", "--mount", "--net")
+
+
+def can_be_alone():
+    """Whether this system lets a test have a network of its own."""
+    return subprocess.run([*ALONE, "true"], stdin=subprocess.DEVNULL, stderr=subprocess.DEVNULL).returncode == 0
+
+
+def alone(part, program, processes):
+    """A part in a network of its own."""
+    words = [*ALONE, sys.executable, __file__, program, processes.folder, part.__name__]
+    subprocess.run(words, stdin=subprocess.DEVNULL, check=True)
 
 
 def names_do_not_resolve(program, processes):
     """Look-ups take seconds, if this system lets a test have a network of its own, and else as long as they take here."""
-    alone = ["unshare", "--map-root-user", "--mount", "--net"]
-    if subprocess.run([*alone, "true"], stdin=subprocess.DEVNULL, stderr=subprocess.DEVNULL).returncode != 0:
+    if can_be_alone():
+        alone(with_a_silent_resolver, program, processes)
+    else:
         serve_beside_unknown_names(program, processes)
-        return
-    words = [*alone, sys.executable, __file__, program, processes.folder, with_a_silent_resolver.__name__]
-    subprocess.run(words, stdin=subprocess.DEVNULL, check=True)
+
+
+def while_the_resolver_is_gone(program, processes):
+    """The names of the hosts are found until all workers are there, and then no more."""
+    named = {name: f"{name}.farm" for name in HOSTS}
+
+    def name(words):
+        # The file is written anew in its place, since that is what is mounted.
+        with open(f"{processes.folder}/hosts", "w") as it:
+            it.write(f"{HOST} {' '.join(words)}\n")
+        return it.name
+
+    subprocess.run(["mount", "--bind", name(["localhost", *named.values()]), "/etc/hosts"], check=True)
+    with silent_resolver(processes):
+        edge = Edge(program, processes, named=named)
+        edge.start()
+        wait_until(edge.has_all_workers, PATIENCE, "all workers are there")
+        name(["localhost"])
+        # Each host is looked at several times, and each look takes as long as a look-up.
+        edge.keeps_pace_while(lambda: time.sleep(3 * LOOKUP_S))
+        edge.holds_no_good_host_unreached()
+        held(not edge.causes(), f"workers of hosts that are well ended so: {edge.causes()}")
+        edge.ask(good_jobs("named", 300))
+        edge.end(300)
+        edge.holds_no_good_host_unreached()
+
+
+def workers_go_on_without_a_resolver(program, processes):
+    """Nobody finds the names of the hosts any more, and all are well: no worker ends for that. It is left out if this system does not let a
+    test have a network of its own."""
+    if can_be_alone():
+        alone(while_the_resolver_is_gone, program, processes)
 
 
 def raise_loopback():
@@ -387,6 +442,7 @@ def idle_workers_end_with_their_host(program, processes):
 PARTS = (
     nobody_takes_lines,
     names_do_not_resolve,
+    workers_go_on_without_a_resolver,
     no_descriptor_is_left,
     too_few_descriptors_at_first,
     a_report_is_taken_slowly,
