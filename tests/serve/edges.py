@@ -2,7 +2,8 @@
 
 tests/serve/run calls this. A farm has two hosts that do jobs. It goes on, and serves them, though nobody takes its lines, though the names
 of 200 further hosts do not resolve, though the resolver is gone, though no descriptor is left, or there are too few from the start, though
-the job server takes a report a little at a time, and though a host is gone. What its processes write is in the folder.
+the job server takes a report a little at a time, though a host is gone, and though no host serves one of its jobs. What its processes write
+is in the folder.
 """
 
 import contextlib
@@ -21,10 +22,11 @@ sys.dont_write_bytecode = True
 TOP = os.path.join(os.path.dirname(os.path.abspath(__file__)), "../..")
 sys.path.insert(0, f"{TOP}/tests/gearmand")
 
-from farm import HOST, TOTALS, at_once, held, wait_until
+from farm import HOST, SUBMIT_JOB, TOTALS, Client, at_once, held, request, wait_until
 
 from asking import ask_rightly
 from page import Page
+from service import POISON
 from slow_way import SlowWay
 from starting import LINE, PATIENCE, Processes, drain, ports, untimed
 
@@ -439,6 +441,24 @@ def idle_workers_end_with_their_host(program, processes):
     edge.end(300)
 
 
+def one_job_is_never_served(program, processes):
+    """A job comes again and again, and each time its connection is closed without a response. No host is left alone for that, and the jobs
+    of others are done."""
+    edge = Edge(program, processes)
+    edge.start()
+    with contextlib.closing(Client(edge.server, PATIENCE)) as client:
+        client.socket.sendall(request(SUBMIT_JOB, b"upper", b"poison", POISON))
+        for turn in range(5):
+            lost = (turn + 1) * WORKERS * len(HOSTS)
+            wait_until(lambda: sum(line.startswith("lost ") for line in edge.lines()) >= lost, PATIENCE, "the job is lost again")
+            edge.keeps_pace_while(lambda: edge.ask(good_jobs(f"beside-{turn}", 50)))
+    # Without its client the job is gone.
+    wait_until(edge.has_all_workers, PATIENCE, "all workers are back")
+    edge.ask(good_jobs("after", 50))
+    edge.end(300)
+    edge.holds_no_good_host_unreached()
+
+
 PARTS = (
     nobody_takes_lines,
     names_do_not_resolve,
@@ -447,6 +467,7 @@ PARTS = (
     too_few_descriptors_at_first,
     a_report_is_taken_slowly,
     idle_workers_end_with_their_host,
+    one_job_is_never_served,
 )
 
 

@@ -1,7 +1,8 @@
 #!/usr/bin/env python3
 """The service of examples/serve with four functions more: service.py PORT ORDER
 
-If the file ORDER is there, the next job is never done: the file's name becomes ORDER.held, and the service waits until it is killed.
+If the file ORDER is there, the next job is never done: the file's name becomes ORDER.held, and the service waits until it is killed. A job
+whose data is POISON is never answered: its connection is closed.
 """
 import hashlib
 import os
@@ -12,6 +13,8 @@ sys.dont_write_bytecode = True
 sys.path.insert(0, os.path.join(os.path.dirname(os.path.abspath(__file__)), "../../examples/serve"))
 
 import services
+
+POISON = b"poison"
 
 
 def reverse(data):
@@ -34,6 +37,9 @@ def held_on_order(do, order):
     """A function that does what another one does, but for a job that is held."""
 
     def do_or_hold(data):
+        if data == POISON:
+            # It ends the thread of the connection, and nothing is said of it.
+            raise SystemExit
         try:
             os.rename(order, f"{order}.held")
         except FileNotFoundError:
