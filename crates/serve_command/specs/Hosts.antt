@@ -5,7 +5,7 @@ use Rattle.std.specs.Prelude.{Option, Some, None, Result, Ok, Err}
 use Rattle.std.specs.Cmp.Lexicographic.{pointwise}
 use Rattle.std.specs.List.{list_any}
 use Rattle.devices.specs.declared.dial_error.DialError.{DialError}
-use Rattle.devices.specs.declared.dial_error.DialError.TheVariants.{TooManyFiles, Memory, NoAddress, NoAnswer}
+use Rattle.devices.specs.declared.dial_error.DialError.TheVariants.{NoPort, TooManyFiles, Memory, NoAddress, NoAnswer}
 use Rattle.http_jobs.specs.declared.fault.NotDone.{NotDone}
 use Rattle.http_jobs.specs.declared.fault.NotDone.TheVariants as not_done
 use Rattle.http_jobs.specs.declared.fault.Unserved.TheVariants as unserved
@@ -26,6 +26,7 @@ use Rattle.worker_state.specs.declared.slot.WorkerName.{WorkerName}
 -- The dial failed for what this process or machine lacked, and says nothing of the host.
 abbrev pub is_local : DialError → Bool
 is_local TooManyFiles = true
+is_local NoPort = true
 is_local Memory = true
 is_local other = false
 

@@ -26,7 +26,7 @@ const LONGEST_SILENCE: u64 = 4;
 /// Why a host is left alone.
 #[derive(Clone, Copy, Debug, PartialEq, Eq)]
 pub enum Reason {
-    /// A dial failed, and not since files or memory were lacking here.
+    /// A dial failed, and not since files, ports or memory were lacking here.
     Unreachable,
     /// Three different jobs, one after the other, were not served.
     Unserved,
@@ -133,7 +133,10 @@ pub struct MachineSlot {
 fn is_local(why: DialError) -> bool
     ensures { result ≡ spec.is_local why }
 {
-    matches!(why, DialError::TooManyFiles | DialError::Memory)
+    matches!(
+        why,
+        DialError::TooManyFiles | DialError::NoPort | DialError::Memory
+    )
 }
 
 /// Whether such a dial before a job says nothing of the host if it failed so. A look says nothing of it if the host's name was not found:
@@ -231,7 +234,7 @@ impl HostState {
         HostState::Away(absence)
     }
 
-    /// After a connection was opened, or could not be. If files or memory were lacking here, the host is as before.
+    /// After a connection was opened, or could not be. If files, ports or memory were lacking here, the host is as before.
     fn after_dial(self, dialled: Result<(), DialError>, attempt: u64) -> HostState
         ensures marks { spec.reason_of result ≡ spec.after_dial (spec.reason_of self) dialled }
         ensures stays { IfErr dialled (λ why. spec.is_local why ≡ true → result ≡ self) }
@@ -488,7 +491,7 @@ struct Table {
     hosts: Vec<HostEntry>,
 }
 
-/// Which hosts of a farm are reached. A host is left alone if a dial to it failed, unless files or memory were lacking here, until one
+/// Which hosts of a farm are reached. A host is left alone if a dial to it failed, unless files, ports or memory were lacking here, until one
 /// succeeds; or if three different jobs, one after the other, were not served, until one is. To one that is left alone one worker comes at
 /// a time, and of those whose jobs are not served it alone asks for more.
 #[derive(Drop)]

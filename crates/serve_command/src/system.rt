@@ -129,13 +129,17 @@ impl<'m, R: Threads> Threads for FarmSystem<'m, R> {}
 
 impl<'m, R: Wait> Wait for FarmSystem<'m, R> {}
 
-impl<'m, R: Clock> Watch for FarmSystem<'m, R> {
+impl<'m, R: Clock + Wait> Watch for FarmSystem<'m, R> {
     fn now_ms(&self) -> Option<u64> {
         self.run.now_ms()
     }
 
     fn pause(&self, milliseconds: u32) {
         self.run.pause(milliseconds);
+    }
+
+    fn has_to_end(&self) -> bool {
+        self.edges.end.is_raised(&self.rt)
     }
 }
 
