@@ -31,10 +31,10 @@ impl Outcome {
 /// What a page draws of an attempt.
 #[derive(Clone, Copy)]
 pub struct AttemptView {
-    /// So many jobs wait for each worker of a function at most. None if it has no plan, or one under which jobs wait for a function that
-    /// none does.
+    /// So many jobs wait for each worker of a function at most. None if the attempt led to no plan, or to one under which jobs wait for a
+    /// function that no worker does.
     pub backlog: Option<u64>,
-    /// So many jobs wait, for all functions of the settings together. None if it does not know.
+    /// So many jobs wait, for all functions of the settings together. None if the attempt led to no round.
     pub waiting: Option<u64>,
 }
 
