@@ -1,6 +1,6 @@
 //! The whole program, over words, files, input, output and error output.
 
-ghost use Rattle.std.specs.Prelude.{◌≡◌, ◌≢◌, [], ◌-◌, ◌^◌, ◌<◌, map, string_bytes};
+ghost use Rattle.std.specs.Prelude.{◌≡◌, ◌≢◌, [], ◌-◌, ◌^◌, ◌<◌, None, map, string_bytes};
 ghost use Rattle.byte_io.specs.Sides.{Meets, Met};
 ghost use Rattle.command_line.specs.Named.{named};
 ghost use Rattle.fault_detail.specs.Detail.{names_of};
@@ -118,16 +118,29 @@ fn no_words<E: Sink>(alloc: Global, kind: ErrorKind, errors: &mut E) -> u8
     }
 }
 
+/// What a command is given that has a settings file and nothing else.
+fn given_settings(settings: &str) -> Given<'_>
+    ensures settings { result.settings.now ≡ settings.now }
+    ensures services { result.services ≡ None }
+    ensures status { result.status ≡ None }
+    ensures lost { result.lost.now ≡ [] }
+{
+    Given {
+        settings,
+        services: None,
+        status: None,
+        lost: &[],
+    }
+}
+
 /// What a command is given, by its words.
 fn given_of<'a>(command: &'a Command<'a>) -> Given<'a>
     ensures { names_of result ≡ spec.names_in (named command.now) }
 {
     match command {
         Command::Plan { settings, lost } | Command::Size { settings, lost, .. } => Given {
-            settings,
-            services: None,
-            status: None,
             lost: lost.as_slice(),
+            ..given_settings(settings)
         },
         Command::Check {
             settings,
@@ -140,39 +153,25 @@ fn given_of<'a>(command: &'a Command<'a>) -> Given<'a>
             lost,
             ..
         } => Given {
-            settings,
-            services: None,
             status: Some(*status),
             lost: lost.as_slice(),
+            ..given_settings(settings)
         },
         Command::Settings { settings, services } => Given {
-            settings,
             services: *services,
-            status: None,
-            lost: &[],
+            ..given_settings(settings)
         },
         Command::Serve {
-            settings,
-            services,
-            ..
+            settings, services, ..
         } => Given {
-            settings,
             services: Some(*services),
-            status: None,
-            lost: &[],
+            ..given_settings(settings)
         },
         Command::Drain { services } => Given {
-            settings: "",
             services: Some(*services),
-            status: None,
-            lost: &[],
+            ..given_settings("")
         },
-        Command::Replay { settings } | Command::Run { settings, .. } => Given {
-            settings,
-            services: None,
-            status: None,
-            lost: &[],
-        },
+        Command::Replay { settings } | Command::Run { settings, .. } => given_settings(settings),
     }
 }
 
