@@ -11,7 +11,9 @@ use std::alloc::{AllocError, Global};
 use std::fs::{File, OpenOptions};
 use std::hash::RandomState;
 use std::process::ExitCode;
-use std::sync::Arc;
+use std::sync::{Arc, Wait};
+use std::thread::Threads;
+use std::time::Clock;
 use std::{env, fs, io, thread};
 
 /// For how many milliseconds at most the end of a farm waits for whoever reads its lines.
@@ -121,6 +123,41 @@ fn end_lacking(rt: &HostRuntime) -> ExitCode {
     ExitCode::from(Fault::Memory.status())
 }
 
+/// Starts the threads that a farm has at its edges, and gives what it shares with them. Nobody joins them: a read of standard input may
+/// never return, and neither may a write. None if memory, a thread or the keys of a hash were refused.
+fn start_threads<R: Threads + Wait + Clock + Copy + Send + Sync + Drop + 'static>(
+    rt: R,
+    host: HostRuntime,
+    threads: EdgeThreads,
+    handles: Handles,
+) -> Option<Arc<Edges>> {
+    let Handles {
+        own,
+        of_lines,
+        of_input,
+        of_page,
+    } = handles;
+    if threads == EdgeThreads::None {
+        return Some(own);
+    }
+    thread::spawn(
+        &rt,
+        move || write_lines(&rt, &of_lines.lines, &mut io::writer(&host)),
+    )
+    .ok()?;
+    if threads == EdgeThreads::LinesAndInput {
+        thread::spawn(
+            &rt,
+            move || end_with_input(&rt, &mut host.reader(), &of_input.end),
+        )
+        .ok()?;
+    }
+    let alloc = host.alloc();
+    let keys = RandomState::new(&host).ok()?;
+    thread::spawn(&rt, move || serve_page(rt, alloc, keys, &of_page)).ok()?;
+    Some(own)
+}
+
 fn main(rt: HostRuntime) -> ExitCode {
     let _streams = hold_streams(&rt);
     let alloc = rt.alloc();
@@ -129,39 +166,9 @@ fn main(rt: HostRuntime) -> ExitCode {
     let Ok(handles) = Handles::new(alloc) else {
         return end_lacking(&rt);
     };
-    let Handles {
-        own: edges,
-        of_lines,
-        of_input,
-        of_page,
-    } = handles;
-    // Nobody joins these: a read of standard input may never return, and neither may a write.
-    if threads != EdgeThreads::None
-        && thread::spawn(
-            &rt,
-            move || write_lines(&rt, &of_lines.lines, &mut io::writer(&rt)),
-        )
-        .is_err()
-    {
+    let Some(edges) = start_threads(rt, rt, threads, handles) else {
         return end_lacking(&rt);
-    }
-    if threads == EdgeThreads::LinesAndInput
-        && thread::spawn(
-            &rt,
-            move || end_with_input(&rt, &mut rt.reader(), &of_input.end),
-        )
-        .is_err()
-    {
-        return end_lacking(&rt);
-    }
-    if threads != EdgeThreads::None {
-        let Ok(keys) = RandomState::new(&rt) else {
-            return end_lacking(&rt);
-        };
-        if thread::spawn(&rt, move || serve_page(rt, alloc, keys, &of_page)).is_err() {
-            return end_lacking(&rt);
-        }
-    }
+    };
     let lent = Lent {
         files: &rt,
         host: &FarmSystem::new(&rt, &edges),
