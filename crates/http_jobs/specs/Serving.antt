@@ -83,11 +83,12 @@ visible input output quiet kept calls shown = record {
   shown = shown;
 }
 
--- A connection was kept, and nothing was done. Or one was dialled for: a new one is kept, or none, for the reason of that dial.
+-- A connection was kept, and nothing was done. Or one was dialled for: a new one is kept, and the clock was looked at, or none is kept, for
+-- the reason of that dial.
 abbrev pub IsOpened : Visible → Visible → Result (Unit {0}) DialError → Type 0
 IsOpened old new (Ok _) =
     ((new ≡ old) × (old.kept ≢ None)) ⊎ ((link : Link) × IsNew link × (old.kept ≡ None) × (new.kept ≡ Some link)
-    × (new.calls ≡ then_called old.calls (opened ∷ [])) × (new.shown ≡ old.shown))
+    × (new.calls ≡ then_called old.calls (opened ∷ [])) × ((time : Option ℕ) × (new.shown ≡ shown_then old.shown (time ∷ []))))
 IsOpened old new (Err why) =
     (old.kept ≡ None) × (new.kept ≡ None) × (new.calls ≡ then_called old.calls (failed why ∷ [])) × (new.shown ≡ old.shown)
 
@@ -100,7 +101,7 @@ closings (Some link) = closed link ∷ []
 abbrev pub Keeps : Visible → Link → Type 0
 Keeps old before = (old.kept ≡ Some before) × (old.quiet ≢ Some false)
 
--- the kept connection, or none, and then it was closed as it was
+-- the kept connection, or none, and then it was closed as it was, also if it was quiet: it may have carried nothing for too long
 abbrev pub Reuses : Visible → List DialCall → Option Link → Type 0
 Reuses old calls (Some before) = Keeps old before × (calls ≡ [])
 Reuses old calls None = calls ≡ closings old.kept

@@ -24,8 +24,8 @@ fn limit_write<L: Look>(link: &mut L, deadline: Option<u64>, now: Option<u64>)
 }
 
 /// Writes all the bytes, in as many writes as the sink needs. Before each write it looks at the clock, and lets it wait until the deadline.
-/// After one that failed it looks again: if the deadline has come by then, the error is `Late`. If a write fails or the deadline has come, a
-/// prefix of them has gone out, and nothing is written after it.
+/// After one that failed it looks again: if the deadline has come by then, the error is `Late`. If a write fails or the deadline has come,
+/// a prefix of them has gone out, and nothing is written after it.
 pub fn send<L: Sink + Look, C: Clock>(
     link: &mut L,
     clock: &mut C,

@@ -17,7 +17,7 @@ use crate::look::Look;
 use crate::outcome::Reply;
 use crate::request::has_no_path;
 use crate::service::Service;
-use byte_io::{Sink, Source, deadline_from};
+use byte_io::{Sink, Source, deadline_from, is_past};
 use devices::DialError;
 use gear_packets::Assignment;
 use job_runner::{Jobs, Outcome};
@@ -73,6 +73,19 @@ pub fn try_dial<L: Source + Sink + Drop, D: Dial<L>>(dial: &mut D) -> Result<(),
     Ok(())
 }
 
+/// For how many milliseconds a connection is kept over which no job begins. What is on the way may forget one that carries nothing, without
+/// a word, and a job over it would wait for its deadline: so this is less than any NAT or balancer keeps one.
+const IDLE_MS: u64 = 15_000;
+
+/// The start of a job.
+#[derive(Clone, Copy)]
+struct Start {
+    /// By when its response has to be whole, or none.
+    deadline: Option<u64>,
+    /// Whether the kept connection has carried nothing for too long.
+    is_idle: bool,
+}
+
 /// The jobs of a service, which does each by one request and one response. The connection is kept from one to the next if it can be.
 #[derive(Drop)]
 pub struct ServiceJobs<L: Source + Sink, D, C> {
@@ -81,6 +94,8 @@ pub struct ServiceJobs<L: Source + Sink, D, C> {
     clock: C,
     timeout_ms: u64,
     kept: Option<L>,
+    /// When the kept connection was opened, or its last job began, if that is known.
+    used_at: Option<u64>,
     ghost sound: { kept_failures L.input L.output kept ≡ 0 },
 }
 
@@ -99,6 +114,7 @@ impl<L: Source + Sink + Look + Drop, D: Dial<L>, C: Clock> ServiceJobs<L, D, C> 
             clock,
             timeout_ms,
             kept: None,
+            used_at: None,
         }
     }
 
@@ -124,11 +140,12 @@ impl<L: Source + Sink + Look + Drop, D: Dial<L>, C: Clock> ServiceJobs<L, D, C> 
             return Ok(());
         }
         self.kept = Some(self.dial.dial(None)?);
+        self.used_at = self.clock.now_ms();
         Ok(())
     }
 
-    /// The kept connection, if it is quiet. Else it is closed.
-    fn reuse(&mut self) -> Option<L>
+    /// The kept connection, if it is quiet and not idle for too long. Else it is closed.
+    fn reuse(&mut self, is_idle: bool) -> Option<L>
         ensures kept { self.new.kept ≡ None }
         ensures sound { kept_failures L.input L.output result ≡ 0 }
         ensures clock { self.new.clock ≡ self.old.clock }
@@ -139,7 +156,7 @@ impl<L: Source + Sink + Look + Drop, D: Dial<L>, C: Clock> ServiceJobs<L, D, C> 
             (option_map (seen_link L.input L.output) result) }
     {
         let mut link = self.kept.take()?;
-        if link.is_quiet() {
+        if !is_idle && link.is_quiet() {
             return Some(link);
         }
         hang_up(&mut self.dial, link);
@@ -147,7 +164,7 @@ impl<L: Source + Sink + Look + Drop, D: Dial<L>, C: Clock> ServiceJobs<L, D, C> 
     }
 
     /// The kept connection, or a new one. The error says why none was opened.
-    fn connect(&mut self, deadline: Option<u64>) -> Result<L, DialError>
+    fn connect(&mut self, start: Start) -> Result<L, DialError>
         ensures kept { self.new.kept ≡ None }
         ensures sound { IfOk result (λ link. (L.input link).failures + (L.output link).failures ≡ 0) }
         ensures clock { self.new.clock ≡ self.old.clock }
@@ -159,10 +176,10 @@ impl<L: Source + Sink + Look + Drop, D: Dial<L>, C: Clock> ServiceJobs<L, D, C> 
         ensures fails { IfErr result (λ why. D.calls self.new.dial
             ≡ then_called (D.calls self.old.dial) (closings (option_map (seen_link L.input L.output) self.old.kept) ++ failed why ∷ [])) }
     {
-        if let Some(link) = self.reuse() {
+        if let Some(link) = self.reuse(start.is_idle) {
             return Ok(link);
         }
-        self.dial.dial(deadline)
+        self.dial.dial(start.deadline)
     }
 
     /// Keeps a connection after its job, or closes it.
@@ -182,22 +199,29 @@ impl<L: Source + Sink + Look + Drop, D: Dial<L>, C: Clock> ServiceJobs<L, D, C> 
         }
     }
 
-    /// The deadline of a job that starts now.
-    fn deadline(&mut self) -> Option<u64>
-        ensures shown { (start : Option ℕ) × (C.shown self.new.clock ≡ shown_then (C.shown self.old.clock) (start ∷ []))
-            × (result ≡ spec.deadline_from self.old.timeout_ms start) }
+    /// Starts a job now.
+    fn start(&mut self) -> Start
+        ensures shown { (time : Option ℕ) × (C.shown self.new.clock ≡ shown_then (C.shown self.old.clock) (time ∷ []))
+            × (result.deadline ≡ spec.deadline_from self.old.timeout_ms time) }
         ensures kept { self.new.kept ≡ self.old.kept }
         ensures dial { self.new.dial ≡ self.old.dial }
         ensures service { self.new.service ≡ self.old.service }
         ensures timeout { self.new.timeout_ms ≡ self.old.timeout_ms }
     {
-        deadline_from(self.timeout_ms, self.clock.now_ms())
+        let now = self.clock.now_ms();
+        let is_idle = is_past(deadline_from(IDLE_MS, self.used_at), now);
+        // The connection has this job next, or is closed. The end of the job would cost another look at the clock.
+        self.used_at = now;
+        Start {
+            deadline: deadline_from(self.timeout_ms, now),
+            is_idle,
+        }
     }
 
     /// Does a job. None if its function has no path of its own: then nothing is sent.
     ///
-    /// It is sent once at most: over the kept connection, or over a new one if there is none, or if that has ended or holds a byte that
-    /// nobody asked for. Unserved says that no answer came, and why.
+    /// It is sent once at most: over the kept connection, or over a new one if there is none, or if that has ended, holds a byte that
+    /// nobody asked for, or was not used for 15 seconds. Unserved says that no answer came, and why.
     pub fn serve(&mut self, alloc: Global, job: &Assignment) -> Result<Option<Reply>, NotDone>
         ensures served { IfOk result (λ reply. Tells self.old.service self.old.timeout_ms
             (visible L.input L.output L.quiet self.old.kept (D.calls self.old.dial) (C.shown self.old.clock))
@@ -213,16 +237,16 @@ impl<L: Source + Sink + Look + Drop, D: Dial<L>, C: Clock> ServiceJobs<L, D, C> 
         if has_no_path(job.function.as_slice()) {
             return Ok(None);
         }
-        let deadline = self.deadline();
-        let mut link = self.connect(deadline)?;
-        limit_untimed(&mut link, deadline, self.timeout_ms);
+        let start = self.start();
+        let mut link = self.connect(start)?;
+        limit_untimed(&mut link, start.deadline, self.timeout_ms);
         match exchange(
             alloc,
             &mut link,
             &mut self.clock,
             &self.service,
             job,
-            deadline,
+            start.deadline,
         ) {
             Ok(done) => {
                 self.leave(link, done.is_kept);
