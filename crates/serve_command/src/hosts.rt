@@ -491,9 +491,9 @@ struct Table {
     hosts: Vec<HostEntry>,
 }
 
-/// Which hosts of a farm are reached. A host is left alone if a dial to it failed, unless files, ports or memory were lacking here, until one
-/// succeeds; or if three different jobs, one after the other, were not served, until one is. To one that is left alone one worker comes at
-/// a time, and of those whose jobs are not served it alone asks for more.
+/// Which hosts of a farm are reached. A host is left alone if a dial to it failed, unless files, ports or memory were lacking here, until
+/// one succeeds; or if three different jobs, one after the other, were not served, until one is. To one that is left alone one worker comes
+/// at a time, and of those whose jobs are not served it alone asks for more.
 #[derive(Drop)]
 pub struct Hosts {
     table: Mutex<Table>,
