@@ -12,15 +12,15 @@ use Rattle.http_jobs.specs.declared.fault.Unserved.TheVariants as unserved
 use Rattle.http_jobs.specs.declared.outcome.Reply.{Reply}
 use Rattle.serve_command.specs.declared.host_sign.HostSign.{HostSign}
 use Rattle.serve_command.specs.declared.host_sign.HostSign.TheVariants as sign
-use Rattle.serve_command.specs.declared.hosts.BeforeJob.{BeforeJob}
-use Rattle.serve_command.specs.declared.hosts.BeforeJob.TheVariants.{Ask, Dial, Look, End}
-use Rattle.serve_command.specs.declared.hosts.HostEntry.{HostEntry}
-use Rattle.serve_command.specs.declared.hosts.HostState.{HostState}
-use Rattle.serve_command.specs.declared.hosts.HostState.TheVariants as state
-use Rattle.serve_command.specs.declared.hosts.LeftJobs.{LeftJobs}
-use Rattle.serve_command.specs.declared.hosts.LeftJobs.TheVariants as left
-use Rattle.serve_command.specs.declared.hosts.Reason.{Reason}
-use Rattle.serve_command.specs.declared.hosts.Reason.TheVariants.{Unreachable, Unserved}
+use Rattle.serve_command.specs.declared.host_state.BeforeJob.{BeforeJob}
+use Rattle.serve_command.specs.declared.host_state.BeforeJob.TheVariants.{Ask, Dial, Look, End}
+use Rattle.serve_command.specs.declared.host_entry.HostEntry.{HostEntry}
+use Rattle.serve_command.specs.declared.host_state.HostState.{HostState}
+use Rattle.serve_command.specs.declared.host_state.HostState.TheVariants as state
+use Rattle.serve_command.specs.declared.left_jobs.LeftJobs.{LeftJobs}
+use Rattle.serve_command.specs.declared.left_jobs.LeftJobs.TheVariants as left
+use Rattle.serve_command.specs.declared.host_state.Reason.{Reason}
+use Rattle.serve_command.specs.declared.host_state.Reason.TheVariants.{Unreachable, Unserved}
 use Rattle.worker_state.specs.declared.slot.WorkerName.{WorkerName}
 
 -- The dial failed for what this process or machine lacked, and says nothing of the host.

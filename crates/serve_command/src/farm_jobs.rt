@@ -3,8 +3,9 @@
 use crate::books::Books;
 use crate::farm::Farm;
 use crate::host::FarmHost;
+use crate::host_entry::{HostNews, MachineSlot};
 use crate::host_sign::{HostSign, sign_of};
-use crate::hosts::{HostNews, Hosts, MachineSlot};
+use crate::hosts::Hosts;
 use crate::job_lines::{failure_of, line_of, told_part};
 use crate::last_jobs::AnsweredJob;
 use devices::DialError;

@@ -6,7 +6,7 @@ ghost use Rattle.serve_command.specs.Serving as spec;
 use crate::books::Books;
 use crate::farm_jobs::host_line;
 use crate::host::FarmHost;
-use crate::hosts::{BeforeJob, lets_go_on, said_of_host};
+use crate::host_state::{BeforeJob, lets_go_on, said_of_host};
 use crate::job_lines::{Uncompleted, line_of, lost_job};
 use crate::last_jobs::AnsweredJob;
 use farm_notes::{Known, PageNotes};

@@ -1,0 +1,287 @@
+//! How a host is, and what a dial makes of it.
+
+ghost use Rattle.std.specs.Prelude.{◌≡◌, ◌↔◌, ◌≤◌, ◌<◌, ◌*◌, ◌^◌, ◌-◌, ◌+◌, IfErr, Some, min, true};
+ghost use Rattle.serve_command.specs.Hosts as spec;
+ghost use Rattle.serve_command.specs.declared.host_state.Reason.TheVariants.{Unserved};
+
+use devices::DialError;
+use worker_state::WorkerName;
+
+/// For how many attempts a host is left alone before it is tried again, if it served a job before.
+const FIRST_WAIT: u64 = 1;
+
+/// For how many attempts at most a host is left alone before it is tried again.
+const LONGEST_WAIT: u64 = 64;
+
+/// Why a host is left alone.
+#[derive(Clone, Copy, Debug, PartialEq, Eq)]
+pub enum Reason {
+    /// A dial failed, and not since files, ports or memory were lacking here.
+    Unreachable,
+    /// Three different jobs, one after the other, were not served.
+    Unserved,
+}
+
+impl Reason {
+    /// Its name.
+    pub fn name(self) -> &'static str {
+        match self {
+            Reason::Unreachable => "Unreachable",
+            Reason::Unserved => "Unserved",
+        }
+    }
+}
+
+/// What a worker does before it asks for one more job.
+#[derive(Clone, Copy, Debug, PartialEq, Eq)]
+pub enum BeforeJob {
+    /// Nothing: it asks.
+    Ask,
+    /// It dials its host, to which a dial failed before, and asks if that is reached, or if nothing is learnt of it.
+    Dial,
+    /// It dials its host, of which nothing was heard for long, to see whether it is still there. It asks as after a dial.
+    Look,
+    /// It ends.
+    End,
+}
+
+/// A host that is left alone.
+#[derive(Clone, Copy, Debug, PartialEq, Eq)]
+pub struct Absence {
+    /// Why.
+    pub why: Reason,
+    /// How many attempts after the next try another may be made.
+    pub wait: u64,
+    /// From this attempt on one worker may try it.
+    pub due: u64,
+    /// The worker that tries whether it serves jobs: the last one that opened a connection to it, if it has not ended.
+    pub trier: Option<WorkerName>,
+}
+
+impl Absence {
+    /// After a worker joined in this attempt. If it came to try the host, the next wait is longer: 1, 2, 4 .. attempts, and 64 at most.
+    pub fn after_join(self, attempt: u64) -> Absence
+        ensures why { result.why ≡ self.why }
+        ensures tries { self.due ≤ attempt
+            → (result.wait ≡ min (self.wait * 2) 64) × (result.due ≡ min (attempt + result.wait) (2 ^ 64 - 1)) }
+        ensures waits { attempt < self.due → result ≡ self }
+    {
+        let mut after = self;
+        if self.due <= attempt {
+            let wait = self.wait.saturating_mul(2).min(LONGEST_WAIT);
+            after.wait = wait;
+            after.due = attempt.saturating_add(wait);
+        }
+        after
+    }
+}
+
+/// A host that is not left alone: all its workers may start.
+#[derive(Clone, Copy, Debug, PartialEq, Eq)]
+pub struct Presence {
+    /// How many attempts pass before it is tried, once it is left alone. Only a job that is served makes them fewer.
+    pub wait: u64,
+}
+
+impl Presence {
+    /// That of a host that served its last job.
+    pub fn new() -> Presence {
+        Presence { wait: FIRST_WAIT }
+    }
+}
+
+/// How a host is.
+#[derive(Clone, Copy, Debug, PartialEq, Eq)]
+pub enum HostState {
+    /// It is not left alone.
+    Present(Presence),
+    /// It is left alone.
+    Away(Absence),
+}
+
+/// Whether a dial that failed so says nothing of the host: this process or machine lacked what a dial needs.
+pub fn is_local(why: DialError) -> bool
+    ensures { result ≡ spec.is_local why }
+{
+    matches!(
+        why,
+        DialError::TooManyFiles | DialError::NoPort | DialError::Memory
+    )
+}
+
+/// Whether such a dial before a job says nothing of the host if it failed so. A look says nothing of it if the host's name was not found:
+/// the host counts as reached, and the connections that are kept to it need no name.
+pub fn says_nothing(does: BeforeJob, why: DialError) -> bool
+    ensures { result ≡ spec.says_nothing does why }
+{
+    match (does, why) {
+        (BeforeJob::Look, DialError::NoAddress) => true,
+        _ => is_local(why),
+    }
+}
+
+/// What such a dial before a job says of the host, if it says anything.
+pub fn said_of_host(
+    does: BeforeJob,
+    dialled: Result<(), DialError>,
+) -> Option<Result<(), DialError>>
+    ensures { result ≡ spec.said_of_host does dialled }
+{
+    match dialled {
+        Err(why) if says_nothing(does, why) => None,
+        said => Some(said),
+    }
+}
+
+/// Whether a worker may ask for one more job after a dial said this of its host: if that was reached, or if nothing was learnt of it.
+pub fn lets_go_on(said: Option<Result<(), DialError>>) -> bool
+    ensures { result ≡ spec.lets_go_on said }
+{
+    !matches!(said, Some(Err(_)))
+}
+
+impl HostState {
+    /// Left alone from this attempt on, if it is not already.
+    pub fn away(self, why: Reason, attempt: u64) -> HostState
+        ensures { spec.reason_of result ≡ Some why }
+    {
+        let absence = match self {
+            HostState::Present(presence) => Absence {
+                why,
+                wait: presence.wait,
+                due: attempt.saturating_add(presence.wait),
+                trier: None,
+            },
+            HostState::Away(absence) => Absence {
+                why,
+                trier: None,
+                ..absence
+            },
+        };
+        HostState::Away(absence)
+    }
+
+    /// After a connection was opened, or could not be. If files, ports or memory were lacking here, the host is as before.
+    pub fn after_dial(self, dialled: Result<(), DialError>, attempt: u64) -> HostState
+        ensures marks { spec.reason_of result ≡ spec.after_dial (spec.reason_of self) dialled }
+        ensures stays { IfErr dialled (λ why. spec.is_local why ≡ true → result ≡ self) }
+    {
+        match dialled {
+            Ok(()) => self.after_opening(),
+            Err(why) if is_local(why) => self,
+            Err(_) => self.away(Reason::Unreachable, attempt),
+        }
+    }
+
+    /// After a connection was opened.
+    pub fn after_opening(self) -> HostState
+        ensures { spec.reason_of result ≡ spec.after_opening (spec.reason_of self) }
+    {
+        match self {
+            HostState::Away(
+                Absence {
+                    why: Reason::Unreachable,
+                    wait,
+                    ..
+                },
+            ) => HostState::Present(Presence { wait }),
+            state => state,
+        }
+    }
+
+    /// From which attempt on one worker may start to try it. None if all may start. One that tries it may have no job and so learn nothing:
+    /// after the longest wait another may start beside it.
+    pub fn next_try(self) -> Option<u64> {
+        match self {
+            HostState::Present(_) => None,
+            HostState::Away(absence) => {
+                let wait = match absence.trier {
+                    Some(_) => LONGEST_WAIT,
+                    None => 0,
+                };
+                Some(absence.due.saturating_add(wait))
+            }
+        }
+    }
+
+    /// Whether a worker that joins now comes to try it.
+    pub fn is_tried_in(self, attempt: u64) -> bool
+        ensures { result ≡ spec.is_due self attempt }
+    {
+        match self {
+            HostState::Present(_) => false,
+            HostState::Away(absence) => absence.due <= attempt,
+        }
+    }
+
+    /// After a worker joined, which came to try it if it is left alone.
+    pub fn after_join(self, attempt: u64) -> HostState
+        ensures { spec.reason_of result ≡ spec.reason_of self }
+    {
+        match self {
+            HostState::Present(presence) => HostState::Present(presence),
+            HostState::Away(absence) => HostState::Away(absence.after_join(attempt)),
+        }
+    }
+
+    /// After a worker opened a connection for its jobs. If jobs were not served, it is the one that tries the host from now on.
+    pub fn after_start(self, worker: WorkerName) -> HostState
+        ensures reason { spec.reason_of result ≡ spec.reason_of self }
+        ensures tries { spec.reason_of self ≡ Some Unserved → spec.trier_of result ≡ Some worker }
+    {
+        match self {
+            HostState::Away(absence) if absence.why == Reason::Unserved => {
+                HostState::Away(Absence {
+                    trier: Some(worker),
+                    ..absence
+                })
+            }
+            state => state,
+        }
+    }
+
+    /// After a worker ended.
+    pub fn after_end(self, worker: WorkerName) -> HostState
+        ensures { spec.reason_of result ≡ spec.reason_of self }
+    {
+        match self {
+            HostState::Away(absence) if absence.trier == Some(worker) => HostState::Away(Absence {
+                trier: None,
+                ..absence
+            }),
+            state => state,
+        }
+    }
+
+    /// Whether this worker tries it.
+    pub fn is_tried_by(self, worker: WorkerName) -> bool
+        ensures { (result ≡ true) ↔ (spec.trier_of self ≡ Some worker) }
+    {
+        match self {
+            HostState::Present(_) => false,
+            HostState::Away(absence) => absence.trier == Some(worker),
+        }
+    }
+
+    /// What a worker does before it asks for one more job, which may have come to try the host. For long nothing may have been heard of it.
+    pub fn before_job(self, is_trier: bool, is_silent: bool) -> BeforeJob
+        ensures { result ≡ spec.before_job (spec.reason_of self) is_trier is_silent }
+    {
+        match self.reason() {
+            Some(Reason::Unreachable) => BeforeJob::Dial,
+            Some(Reason::Unserved) if !is_trier => BeforeJob::End,
+            _ if is_silent => BeforeJob::Look,
+            _ => BeforeJob::Ask,
+        }
+    }
+
+    /// Why it is left alone, if it is.
+    pub fn reason(self) -> Option<Reason>
+        ensures { result ≡ spec.reason_of self }
+    {
+        match self {
+            HostState::Present(_) => None,
+            HostState::Away(absence) => Some(absence.why),
+        }
+    }
+}
