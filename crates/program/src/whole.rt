@@ -162,7 +162,9 @@ fn given_of<'a>(command: &'a Command<'a>) -> Given<'a>
             ..given_settings(settings)
         },
         Command::Serve {
-            settings, services, ..
+            settings,
+            services,
+            ..
         } => Given {
             services: Some(*services),
             ..given_settings(settings)

@@ -14,6 +14,6 @@ returns c =
       run_remarks p short,
       (short, told.1.1, refl),
       c.in_ok-push_jobless.ensures
-      ∙ ap (λ t. t ++ jobless) (c.in_ok-push_history.ensures ∙ ap (λ t. t ++ history) (told.2 ∙ ap (λ t. out ++ t) told.1.2) ∙ append_assoc out limits history)
-      ∙ append_assoc out (limits ++ history) jobless,
+          ∙ ap (λ t. t ++ jobless) (c.in_ok-push_history.ensures ∙ ap (λ t. t ++ history) (told.2 ∙ ap (λ t. out ++ t) told.1.2) ∙ append_assoc out limits history)
+          ∙ append_assoc out (limits ++ history) jobless,
     )
