@@ -23,6 +23,15 @@ pub enum NotDone {
     Memory,
 }
 
+/// How what runs a session's jobs is between two of them.
+#[derive(Clone, Copy, Debug, PartialEq, Eq)]
+pub enum Readiness {
+    /// Nothing is known that speaks against one more job.
+    Ready,
+    /// What was kept for the next job is lost, such as a connection that the other side has closed. Whether there can be another is not known.
+    Lost,
+}
+
 /// What runs the jobs of one session, one after the other. It may change from job to job, as a connection does.
 pub trait Jobs {
     ghost use Rattle.gear_packets.specs.Response.{AssignedJob};
@@ -40,6 +49,11 @@ pub trait Jobs {
     fn run(&mut self, alloc: Global, job: Assignment) -> Result<Option<Outcome>, NotDone>
         ensures tells { IfOk result (λ outcome. tells self.old self.new (job_of job) (option_map told_of outcome)) }
         ensures fails { IfErr result (λ error. fails self.old self.new (job_of job) error) };
+
+    /// How it is before one more job is asked for. It does not wait.
+    fn readiness(&self) -> Readiness {
+        Readiness::Ready
+    }
 }
 
 /// Jobs by name do not change. They report what the job of that name means, and fail for lack of memory alone.

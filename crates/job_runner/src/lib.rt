@@ -18,7 +18,7 @@ mod worker;
 
 pub use end::{EndCause, SessionEnd};
 pub use job::{End, Job, Note, Outcome};
-pub use jobs::{Jobs, NotDone};
+pub use jobs::{Jobs, NotDone, Readiness};
 pub use port::{Gone, GrabRefusal, PoolPort, PortAnswer};
 pub use session::{run_session, serve_worker};
 pub use table::{JobTable, NamedJobs, TwiceNamed};

@@ -19,6 +19,15 @@ pub enum Heard {
     Lull,
 }
 
+/// What a session has read, with room for one more read.
+#[derive(Drop)]
+pub struct Inbox {
+    /// What was read, but for the messages that were acted on.
+    pub reader: Reader,
+    /// Where a read puts what comes.
+    pub buffer: [u8; 4096],
+}
+
 /// Reads once, and feeds what came to the reader. A fault of the stream is left to the reader.
 pub fn hear<L: Source>(
     link: &mut L,

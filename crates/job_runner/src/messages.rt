@@ -70,7 +70,10 @@ pub fn act<L: Sink, P: PoolPort, J: Jobs>(
 {
     match message {
         Response::Noop => match state.phase {
-            Phase::Asleep => follow(worker, link, port, state),
+            Phase::Asleep => {
+                port.note_readiness(jobs.readiness());
+                follow(worker, link, port, state)
+            }
             _ => Ok(()),
         },
         Response::NoJob => match state.phase {
@@ -100,10 +103,11 @@ pub fn act<L: Sink, P: PoolPort, J: Jobs>(
 }
 
 /// Looks at the order if nothing came.
-pub fn glance<L: Sink, P: PoolPort>(
+pub fn glance<L: Sink, P: PoolPort, J: Jobs>(
     worker: &Worker<'_>,
     link: &mut L,
     port: &mut P,
+    jobs: &J,
     state: &mut State,
 ) -> Result<(), EndCause>
     requires { (L.output link.old).failures < 2 ^ 64 - 1 }
@@ -118,6 +122,7 @@ pub fn glance<L: Sink, P: PoolPort>(
     ensures reason { IfErr result (PortReason worker.now.pass.now.generation (P.book port.new)) }
     ensures losses { (P.book port.new).losses ≡ (P.book port.old).losses }
 {
+    port.note_readiness(jobs.readiness());
     let order = port.order(worker.pass);
     if stops(&order, worker.pass) {
         return Err(EndCause::Stopped);

@@ -14,7 +14,7 @@ ghost use Rattle.job_runner.specs.Loop.{first_state, duty_in, duty_of, session_i
 use crate::answering::Tally;
 use crate::end::{EndCause, SessionEnd};
 use crate::jobs::Jobs;
-use crate::listen::{Heard, hear};
+use crate::listen::{Heard, Inbox, hear};
 use crate::messages::{act, glance};
 use crate::order::Phase;
 use crate::port::PoolPort;
@@ -116,23 +116,22 @@ fn drain<L: Sink, P: PoolPort, J: Jobs>(
 }
 
 /// One read of the link, once all that was read is acted on. If nothing comes it looks at the order.
-fn listen<L: Source + Sink, P: PoolPort>(
+fn listen<L: Source + Sink, P: PoolPort, J: Jobs>(
     worker: &Worker<'_>,
     link: &mut L,
     port: &mut P,
-    reader: &mut Reader,
+    jobs: &J,
+    inbox: &mut Inbox,
     state: &mut State,
-    buffer: &mut [u8],
 ) -> Result<(), EndCause>
     requires output { (L.output link.old).failures < 2 ^ 64 - 1 }
     requires input { (L.input link.old).failures < 2 ^ 64 - 1 }
-    requires room { length buffer.old ≡ 4096 }
     ensures listens { (told : List Telling) (before start : Option (List ℕ)) (read : List ℕ)
         → (L.input link.old).given ≡ and_then start read
-        → HasServed (session_in worker.now before read) (IsTold told) (L.output link.old).got reader.old state.old (P.book port.old)
+        → HasServed (session_in worker.now before read) (IsTold told) (L.output link.old).got inbox.old.reader state.old (P.book port.old)
         → (more : List ℕ) × ((L.input link.new).given ≡ and_then start more) × (length more ≤ length read + 4096)
         × GoesOnOrEnds (HasServed (session_in worker.now before more) (IsTold told)
-        (L.output link.new).got reader.new state.new (P.book port.new))
+        (L.output link.new).got inbox.new.reader state.new (P.book port.new))
         (λ cause. Halts (session_in worker.now before more) (EndsForNoJob (IsTold told))
         (L.output link.new).got state.new.tally (P.book port.new) cause
         × Reason (session_in worker.now before more)
@@ -141,9 +140,9 @@ fn listen<L: Source + Sink, P: PoolPort>(
     ensures no_failure { OnOk result ((L.output link.new).failures ≡ (L.output link.old).failures) }
     ensures losses { (P.book port.new).losses ≡ (P.book port.old).losses }
 {
-    match hear(link, reader, buffer) {
+    match hear(link, &mut inbox.reader, &mut inbox.buffer) {
         Ok(Heard::Piece) => Ok(()),
-        Ok(Heard::Lull) => glance(worker, link, port, state),
+        Ok(Heard::Lull) => glance(worker, link, port, jobs, state),
         Err(cause) => Err(cause),
     }
 }
@@ -172,21 +171,23 @@ fn serve<L: Source + Sink, P: PoolPort, J: Jobs>(
         Ok(()) => {}
         Err(cause) => return cause,
     }
-    let mut reader = Reader::new(worker.place.alloc);
-    let mut buffer = [0; 4096];
+    let mut inbox = Inbox {
+        reader: Reader::new(worker.place.alloc),
+        buffer: [0; 4096],
+    };
     let turns = worker.place.turns;
     let mut made = 0;
     while made < turns {
-        match drain(worker, link, port, jobs, &mut reader, state) {
+        match drain(worker, link, port, jobs, &mut inbox.reader, state) {
             Ok(()) => {}
             Err(cause) => return cause,
         }
-        match listen(worker, link, port, &mut reader, state, &mut buffer) {
+        match listen(worker, link, port, jobs, &mut inbox, state) {
             Ok(()) => made += 1,
             Err(cause) => return cause,
         }
     }
-    match drain(worker, link, port, jobs, &mut reader, state) {
+    match drain(worker, link, port, jobs, &mut inbox.reader, state) {
         Ok(()) => EndCause::TurnsUsed,
         Err(cause) => cause,
     }

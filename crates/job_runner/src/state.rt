@@ -86,5 +86,6 @@ pub fn serve_job<L: Sink, P: PoolPort, J: Jobs>(
         Ok(()) => {}
         Err(cause) => return Err(cause),
     }
+    port.note_readiness(jobs.readiness());
     follow(worker, link, port, state)
 }

@@ -6,7 +6,8 @@ use Rattle.gear_packets.specs.declared.response.Response.{Response}
 use Rattle.job_runner.specs.declared.end.EndCause.TheVariants.{BadPacket, ServerError}
 use Rattle.job_runner.specs.Told.{jobs_of}
 use Rattle.job_runner.specs.Course.{known}
-use Rattle.job_runner.specs.Run.{Acts}
+use Rattle.job_runner.specs.Book.{Ledger}
+use Rattle.job_runner.specs.Run.{AreAnswered, Acts}
 use Rattle.job_runner.specs.Acting.{Asked, Does, moment}
 use Rattle.job_runner.proofs.Asking.{asked_to_sleep, asked_to_end}
 use Rattle.job_runner.proofs.Telling.{told_so, port_serves, send_serves, unchanged, ends_at_message}
@@ -14,7 +15,8 @@ use Rattle.job_runner.proofs.messages.act.Goals as goal
 
 pub returns-in-Asleep-clause-acts : goal.returns-in-Asleep-clause-acts
 returns-in-Asleep-clause-acts g c = λ duty before bytes done fs at holds.
-    let followed = c.follow.ensures.acts duty before bytes done fs at holds in
+    let noted = subst (λ (b : Ledger). AreAnswered duty bytes done c.args.state.now b) (sym c.note_readiness.ensures) holds in
+    let followed = c.follow.ensures.acts duty before bytes done fs at noted in
     let none = ap (λ (m : Response). assignments_in (message_of m ∷ [])) c.in-Noop.is in (
       followed.0,
       [],

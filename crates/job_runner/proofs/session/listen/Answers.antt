@@ -15,7 +15,7 @@ pub returns-in-Ok-Piece-clause-listens : goal.returns-in-Ok-Piece-clause-listens
 returns-in-Ok-Piece-clause-listens g c = λ told before start read at st.
     let heard = c.in-Ok-Piece.ensures.hears start read st.given at st.rests.heard in
     let same = ap (λ (o : Output). o.got) c.in-Ok-Piece.ensures.output in
-    (heard.0, heard.1, omega (arith, heard.2, c.requires.room), record { bytes = st.bytes; told = st.told; given = st.given; ran = st.ran; at = same ∙ st.at; rests = record { heard = heard.3; jobs_are = st.rests.jobs_are; holds = st.rests.holds }; went = went_at (duty_in c.args.worker.now) before _ _ st.given _ _ same st.went })
+    (heard.0, heard.1, omega (arith, heard.2), record { bytes = st.bytes; told = st.told; given = st.given; ran = st.ran; at = same ∙ st.at; rests = record { heard = heard.3; jobs_are = st.rests.jobs_are; holds = st.rests.holds }; went = went_at (duty_in c.args.worker.now) before _ _ st.given _ _ same st.went })
 
 pub returns-in-Ok-Lull-clause-listens : goal.returns-in-Ok-Lull-clause-listens
 returns-in-Ok-Lull-clause-listens g c = λ told before start read at st.
@@ -27,7 +27,7 @@ returns-in-Ok-Lull-clause-listens g c = λ told before start read at st.
     let same = ap (λ (o : Output). o.failures) c.in-Ok-Lull.ensures.output in (
       heard.0,
       ap (λ (i : Input). i.given) c.glance.ensures.link.input ∙ heard.1,
-      omega (arith, heard.2, c.requires.room),
+      omega (arith, heard.2),
       glanced duty (IsTold told) before heard.0 _ st.told st.given _ c.glance.new.state _ old new c.glance.result st.ran heard.3 st.rests.jobs_are
           (c.glance.ensures.acts duty before st.bytes st.told refl (got ∙ st.at) st.rests.holds)
           (glance_gone c.args.worker.now before heard.0
@@ -46,7 +46,7 @@ returns-in-Err-clause-listens g c = λ told before start read at st.
     let got = ap (λ (o : Output). o.got) c.in-Err.ensures.output in (
       heard.0,
       heard.1,
-      omega (arith, heard.2, c.requires.room),
+      omega (arith, heard.2),
       read_ended duty (IsTold told) before st.bytes heard.0 _ st.told st.given c.args.state.now _ old new c.in-Err.cause st.ran (got ∙ st.at) st.rests.jobs_are st.rests.holds (went_at duty before _ _ st.given _ _ got st.went) heard.3 c.in-Err.ensures.causes
           (λ x. c.in-Err.ensures.ended ∙ ap (λ (y : EndCause). finds_end (Err y)) x)
           (λ x. c.in-Err.ensures.failures ∙ ap (λ (y : EndCause). (g.L.Device.input c.args.link.now).failures + read_failures (Err y)) x)

@@ -38,12 +38,11 @@ loop-made-init g c =
     let start = (g.L.Device.input c.args.link.now).given in
     record {
       within = omega arith;
-      buffer = refl;
       serving = (
         [],
         ap (λ (i : Input). i.given) c.begin.ensures.link.input ∙ told_nothing start,
         omega arith,
-        begun_serving duty (AreTold g.J.Jobs.tells c.args.jobs.now c.args.jobs.now) before _ c.new-reader.result c.begin.new.state _ refl c.new-reader.ensures c.in-Ok.ensures.acts
+        begun_serving duty (AreTold g.J.Jobs.tells c.args.jobs.now c.args.jobs.now) before _ c.new.result c.begin.new.state _ refl c.new.ensures c.in-Ok.ensures.acts
             (begun_gone c.args.worker.now (moment c.args.state.now before (g.P.PoolPort.book c.args.port.now)) (moment c.begin.new.state (g.L.Device.output c.begin.new.link).got (g.P.PoolPort.book c.begin.new.port)) (Ok tt) c.requires.first c.requires.fresh c.in-Ok.ensures.begins says_nothing),
       );
       read_failures = ap (λ (i : Input). i.failures) c.begin.ensures.link.input;
@@ -77,7 +76,6 @@ loop-made-preserved g c =
     (serving_as Ran (IsTold left.told) _ _ _ _ _ left refl) in
     record {
       within = omega (arith, c.loop-made-test.true);
-      buffer = c.listen.auto.buffer ∙ c.loop-made.invariant.buffer;
       serving = (next.0, next.1, omega (arith, next.2, now.2), serving_on Ran left.told _ _ _ _ _ left.ran next.3);
       read_failures = c.in-Ok-listen.ensures.no_read_failure ∙ ap (λ (i : Input). i.failures) c.drain.ensures.link.input ∙ c.loop-made.invariant.read_failures;
       write_failures = c.in-Ok-listen.ensures.no_failure ∙ c.in-Ok-drain.ensures.link.no_failure ∙ c.loop-made.invariant.write_failures;

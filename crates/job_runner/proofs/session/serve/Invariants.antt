@@ -7,9 +7,8 @@ use Rattle.job_runner.proofs.session.serve.Given as goal
 abbrev pub invariant-loop-made : goal.invariant-loop-made
 invariant-loop-made g l = record {
   within : l.made ≤ l.turns;
-  buffer : length l.buffer ≡ 4096;
   serving : (read : List ℕ) × ((g.L.Device.input l.link).given ≡ and_then (g.L.Device.input l.fn.link).given read) × (length read ≤ 4096 * l.made)
-      × HasServed (session_in l.worker (g.L.Device.output l.fn.link).got read) (AreTold g.J.Jobs.tells l.fn.jobs l.jobs) (g.L.Device.output l.link).got l.reader l.state (g.P.PoolPort.book l.port);
+      × HasServed (session_in l.worker (g.L.Device.output l.fn.link).got read) (AreTold g.J.Jobs.tells l.fn.jobs l.jobs) (g.L.Device.output l.link).got l.inbox.reader l.state (g.P.PoolPort.book l.port);
   read_failures : (g.L.Device.input l.link).failures ≡ (g.L.Device.input l.fn.link).failures;
   write_failures : (g.L.Device.output l.link).failures ≡ (g.L.Device.output l.fn.link).failures;
   losses : (g.P.PoolPort.book l.port).losses ≡ 0;
