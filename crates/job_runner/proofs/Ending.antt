@@ -15,7 +15,7 @@ use Rattle.job_runner.specs.declared.answering.Tally.{Tally}
 use Rattle.job_runner.specs.Book.{Ledger, after_loss}
 use Rattle.job_runner.specs.Course.{Duty, Session, session_of, asks, Ends, OneAtATime}
 use Rattle.job_runner.specs.Ends.{loss_of}
-use Rattle.job_runner.specs.Run.{Link, Lost, Served, Reason, tally_of}
+use Rattle.job_runner.specs.Run.{FailsAs, Link, Lost, Served, Reason, tally_of}
 use Rattle.byte_io.specs.Sides.{and_then}
 use Rattle.job_runner.specs.Loop.{Halts}
 use Rattle.job_runner.specs.Path.{Ended}
@@ -58,9 +58,11 @@ path_lost session written b reason c e = record {
   lost = e.lost;
   parts = e.parts;
   cut = e.cut;
+  proper = e.proper;
   written_is = e.written_is;
   later = e.later;
   messages_are = e.messages_are;
+  all_met = e.all_met;
   orders_are = e.orders_are;
 }
 
@@ -117,8 +119,8 @@ abbrev pub Promised : Duty → (EndCause → List Telling → Type 0) → List �
 Promised duty End read before old new book e = (bytes : List ℕ) × (told : List Telling) × (new.output.got ≡ and_then before bytes) × End e.cause told × Served (session_of duty before read) told bytes old new book e
 
 -- with no loss
-pub promised_kept : SaysItsPackets → (duty : Duty) (End : EndCause → List Telling → Type 0) (read : List ℕ) (before : Option (List ℕ)) (old new : Link) (b : Ledger) (e : SessionEnd) → Halts (session_of duty before read) End new.output.got (tally_of e) b e.cause × Reason (session_of duty before read) old new (tally_of e) b e.cause → b.losses ≡ 0 → loss_of e.cause ≡ None → Promised duty End read before old new b e
-promised_kept law duty End read before old new b e ran none is = (
+pub promised_kept : SaysItsPackets → (duty : Duty) (End : EndCause → List Telling → Type 0) (read : List ℕ) (before : Option (List ℕ)) (old new : Link) (b : Ledger) (e : SessionEnd) → Halts (session_of duty before read) End new.output.got (tally_of e) b e.cause × Reason (session_of duty before read) old new (tally_of e) b e.cause → FailsAs old new e.cause → b.losses ≡ 0 → loss_of e.cause ≡ None → Promised duty End read before old new b e
+promised_kept law duty End read before old new b e ran faults none is = (
   ran.0.bytes,
   ran.0.told,
   ran.0.at,
@@ -131,13 +133,14 @@ promised_kept law duty End read before old new b e ran none is = (
     asking = one_where_asked law duty ran.0.bytes ran.0.told (assignments read) (tally_of e) b e.cause ran.0.ends;
     path = ran.0.ended;
     reason = ran.1;
+    faults = faults;
     lost = subst (λ (o : Option Cause). Lost o b) (sym is) none;
   },
 )
 
 -- with one
-pub promised_lost : SaysItsPackets → (duty : Duty) (End : EndCause → List Telling → Type 0) (read : List ℕ) (before : Option (List ℕ)) (old new : Link) (b after : Ledger) (e : SessionEnd) (c : Cause) → Halts (session_of duty before read) End new.output.got (tally_of e) b e.cause × Reason (session_of duty before read) old new (tally_of e) b e.cause → b.losses ≡ 0 → loss_of e.cause ≡ Some c → after ≡ after_loss b c → Promised duty End read before old new after e
-promised_lost law duty End read before old new b after e c ran none is same = subst (λ (x : Ledger). Promised duty End read before old new x e) (sym same) (
+pub promised_lost : SaysItsPackets → (duty : Duty) (End : EndCause → List Telling → Type 0) (read : List ℕ) (before : Option (List ℕ)) (old new : Link) (b after : Ledger) (e : SessionEnd) (c : Cause) → Halts (session_of duty before read) End new.output.got (tally_of e) b e.cause × Reason (session_of duty before read) old new (tally_of e) b e.cause → FailsAs old new e.cause → b.losses ≡ 0 → loss_of e.cause ≡ Some c → after ≡ after_loss b c → Promised duty End read before old new after e
+promised_lost law duty End read before old new b after e c ran faults none is same = subst (λ (x : Ledger). Promised duty End read before old new x e) (sym same) (
   ran.0.bytes,
   ran.0.told,
   ran.0.at,
@@ -150,6 +153,7 @@ promised_lost law duty End read before old new b after e c ran none is same = su
     asking = one_where_asked law duty ran.0.bytes ran.0.told (assignments read) (tally_of e) (after_loss b c) e.cause (ends_lost duty ran.0.bytes ran.0.told (assignments read) (tally_of e) b e.cause c ran.0.ends);
     path = path_lost (session_of duty before read) new.output.got b e.cause c ran.0.ended;
     reason = ran.1;
+    faults = faults;
     lost = subst (λ (o : Option Cause). Lost o (after_loss b c)) (sym is) (ap (λ (n : ℕ). n + 1) none, refl);
   },
 )

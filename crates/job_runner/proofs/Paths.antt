@@ -1,5 +1,5 @@
 -- The path of a session goes on by each step, and ends in one way.
-use Rattle.std.proofs.Common.{◌≡◌, ◌≢◌, ◌⊎◌, inl, inr, ℕ, List, [], ◌∷◌, ◌++◌, take, drop, Option, Some, None, Result, Ok, Err, refl, sym, ap, subst, ◌∙◌}
+use Rattle.std.proofs.Common.{◌≡◌, ◌≢◌, ◌⊎◌, ◌<◌, inl, inr, length, ℕ, List, [], ◌∷◌, ◌++◌, take, drop, Option, Some, None, Result, Ok, Err, refl, sym, ap, subst, ◌∙◌}
 use Rattle.std.proofs.lemmas.List.{append-nil, take-append-drop}
 use Rattle.std.proofs.lemmas.List.Elements.{filter_map-append}
 use Rattle.gear_packets.specs.Request.{Packet, set_client_id, pre_sleep}
@@ -23,9 +23,10 @@ use Rattle.job_runner.specs.Loop.{first_state, duty_in}
 use Rattle.job_runner.specs.Following.{Scene, Obeys, stops, goes, phase_with}
 use Rattle.job_runner.specs.Acting.{Moment, moment, scene_of, Begins, Asked, skip, sleep, follow, serve, end, asked_by, FollowsOrder, Replies, Does, looked_at, Looks, sees_stop, stays, is_due, Glances}
 use Rattle.job_runner.specs.Path.{Event, starts, ordered, looked, heard, unnamed, following, hearing, Place, place, place_of, meant_in, Step, named, obeyed, unchanged, changed, skipped, slept, woken, served}
-use Rattle.job_runner.specs.Path.{start, then, IsAnswerEnd, IsSendEnd, IsWaitEnd, Last, stopped, stopped_waiting, refused, unsent, unbooked, waiting, message_at, order_at, messages_in, orders_in, Went, Ended}
+use Rattle.job_runner.specs.Path.{start, then, IsAnswerEnd, IsSendEnd, IsWaitEnd, Last, stopped, stopped_waiting, refused, unsent, unbooked, waiting, message_at, order_at, messages_in, orders_in, Went, WaitsForMore, Ended}
 use Rattle.job_runner.proofs.Told.{goes_after}
-use Rattle.job_runner.proofs.Steps.{text_append}
+use Rattle.job_runner.proofs.Steps.{text_append, left_over}
+use Rattle.job_runner.proofs.Asking.{asked_end}
 
 abbrev pub Came : Type 0
 Came = Result (Unit {0}) EndCause
@@ -34,7 +35,7 @@ cause_in : Came → EndCause
 cause_in (Ok u) = Stopped
 cause_in (Err reason) = reason
 
-same_cause : (a b : EndCause) → ◌≡◌ {A = Came} (Err a) (Err b) → a ≡ b
+pub same_cause : (a b : EndCause) → ◌≡◌ {A = Came} (Err a) (Err b) → a ≡ b
 unfolding cause_in
 same_cause a b e = ap cause_in e
 
@@ -58,26 +59,28 @@ record Cuts (old new : Option (List ℕ)) (packets : List Packet) (reason : EndC
   lost : List ℕ
   parts : text_of packets ≡ part ++ lost
   cut : reason ≢ WriteFault → (part ≡ []) ⊎ (lost ≡ [])
+  proper : reason ≡ WriteFault → 0 < length lost
   written : new ≡ and_then old part
 
-nothing_cut : (old new : Option (List ℕ)) (packets : List Packet) (reason : EndCause) → new ≡ old → Cuts old new packets reason
-nothing_cut old new packets reason e = record { part = []; lost = text_of packets; parts = refl; cut = λ o. inl refl; written = e ∙ told_nothing old }
+nothing_cut : (old new : Option (List ℕ)) (packets : List Packet) (reason : EndCause) → reason ≢ WriteFault → new ≡ old → Cuts old new packets reason
+nothing_cut old new packets reason other e = record { part = []; lost = text_of packets; parts = refl; cut = λ o. inl refl; proper = λ x. absurd (other x); written = e ∙ told_nothing old }
 
-all_cut : (old new : Option (List ℕ)) (packets : List Packet) (reason : EndCause) → new ≡ and_then old (text_of packets) → Cuts old new packets reason
-all_cut old new packets reason e = record { part = text_of packets; lost = []; parts = sym (append-nil (text_of packets)); cut = λ o. inr refl; written = e }
+all_cut : (old new : Option (List ℕ)) (packets : List Packet) (reason : EndCause) → reason ≢ WriteFault → new ≡ and_then old (text_of packets) → Cuts old new packets reason
+all_cut old new packets reason other e = record { part = text_of packets; lost = []; parts = sym (append-nil (text_of packets)); cut = λ o. inr refl; proper = λ x. absurd (other x); written = e }
 
-prefix_cut : (old new : Option (List ℕ)) (packets : List Packet) (count : ℕ) → new ≡ and_then old (take count (text_of packets)) → Cuts old new packets WriteFault
-prefix_cut old new packets count e = record {
+prefix_cut : (old new : Option (List ℕ)) (packets : List Packet) (count : ℕ) → count < length (text_of packets) → new ≡ and_then old (take count (text_of packets)) → Cuts old new packets WriteFault
+prefix_cut old new packets count few e = record {
   part = take count (text_of packets);
   lost = drop count (text_of packets);
   parts = sym (take-append-drop count (text_of packets));
   cut = λ o. absurd (o refl);
+  proper = λ x. left_over count (text_of packets) few;
   written = e;
 }
 
 sends_cut : (old new : Option (List ℕ)) (packets : List Packet) (reason : EndCause) → Sends old new packets (Err reason) → Cuts old new packets reason × IsSendEnd reason
-sends_cut old new packets WriteFault h = (prefix_cut old new packets h.0 h.2, tt)
-sends_cut old new packets Memory h = (nothing_cut old new packets Memory h, tt)
+sends_cut old new packets WriteFault h = (prefix_cut old new packets h.0 h.1 h.2, tt)
+sends_cut old new packets Memory h = (nothing_cut old new packets Memory (λ e. cc) h, tt)
 sends_cut old new packets cause.Retired h = absurd h
 sends_cut old new packets cause.Gone h = absurd h
 sends_cut old new packets cause.BadPacket h = absurd h
@@ -90,27 +93,27 @@ sends_cut old new packets cause.Stopped h = absurd h
 sends_cut old new packets cause.Unserved h = absurd h
 
 gone_cut : (old new : Option (List ℕ)) (packets : List Packet) → (new ≡ old) ⊎ (new ≡ and_then old (text_of packets)) → Cuts old new packets cause.Gone
-gone_cut old new packets (inl e) = nothing_cut old new packets cause.Gone e
-gone_cut old new packets (inr e) = all_cut old new packets cause.Gone e
+gone_cut old new packets (inl e) = nothing_cut old new packets cause.Gone (λ x. cc) e
+gone_cut old new packets (inr e) = all_cut old new packets cause.Gone (λ x. cc) e
 
 replies_cut : (old new : Option (List ℕ)) (packets : List Packet) (reason : EndCause) → Replies old new packets (Err reason) → Cuts old new packets reason × IsAnswerEnd reason
-replies_cut old new packets WriteFault h = (prefix_cut old new packets h.0 h.2, tt)
-replies_cut old new packets Memory h = (nothing_cut old new packets Memory h, tt)
-replies_cut old new packets cause.Retired h = (all_cut old new packets cause.Retired h, tt)
+replies_cut old new packets WriteFault h = (prefix_cut old new packets h.0 h.1 h.2, tt)
+replies_cut old new packets Memory h = (nothing_cut old new packets Memory (λ e. cc) h, tt)
+replies_cut old new packets cause.Retired h = (all_cut old new packets cause.Retired (λ e. cc) h, tt)
 replies_cut old new packets cause.Gone h = (gone_cut old new packets h, tt)
 replies_cut old new packets cause.BadPacket h = absurd h
 replies_cut old new packets cause.ServerError h = absurd h
 replies_cut old new packets cause.ReadFault h = absurd h
 replies_cut old new packets cause.TurnsUsed h = absurd h
-replies_cut old new packets cause.HistoryFull h = (nothing_cut old new packets cause.HistoryFull h, tt)
+replies_cut old new packets cause.HistoryFull h = (nothing_cut old new packets cause.HistoryFull (λ e. cc) h, tt)
 replies_cut old new packets cause.Closed h = absurd h
 replies_cut old new packets cause.Stopped h = absurd h
-replies_cut old new packets cause.Unserved h = (nothing_cut old new packets cause.Unserved h, tt)
+replies_cut old new packets cause.Unserved h = (nothing_cut old new packets cause.Unserved (λ e. cc) h, tt)
 
 ended_at : (session : Session) (old new : Option (List ℕ)) (given later : List Message) (b after : Ledger) (from : Place) (event : Event) (packets : List Packet) (reason : EndCause)
     → Went session.duty session.before old given b from → Last session.duty from (Some event) packets reason → Cuts old new packets reason
-    → (reading session.read).messages ≡ (given ++ messages_in (event ∷ [])) ++ later → after.orders ≡ b.orders ++ orders_in (event ∷ []) → Ended session new after reason
-ended_at session old new given later b after from event packets reason w last c m o = record {
+    → (reading session.read).messages ≡ (given ++ messages_in (event ∷ [])) ++ later → (WaitsForMore (Some event) → later ≡ []) → after.orders ≡ b.orders ++ orders_in (event ∷ []) → Ended session new after reason
+ended_at session old new given later b after from event packets reason w last c m all o = record {
   events = w.events;
   sent = w.sent;
   at = from;
@@ -122,16 +125,18 @@ ended_at session old new given later b after from event packets reason w last c 
   lost = c.lost;
   parts = c.parts;
   cut = c.cut;
+  proper = c.proper;
   written_is = goes_after session.before (text_of w.sent) c.part old new w.written_is c.written;
   later = later;
   messages_are = m ∙ ap (λ (x : List Message). (x ++ messages_in (event ∷ [])) ++ later) (sym w.messages_are) ∙ ap (λ (x : List Message). x ++ later) (sym (filter_map-append message_at w.events (event ∷ [])));
+  all_met = λ waits other. all waits;
   orders_are = filter_map-append order_at w.events (event ∷ []) ∙ ap (λ (x : List OrderParts). x ++ orders_in (event ∷ [])) w.orders_are ∙ sym o;
 }
 
 -- a session that waits for more to read ends
 pub ended_waiting : (session : Session) (written : Option (List ℕ)) (given : List Message) (b : Ledger) (s : State) (reason : EndCause)
-    → Went session.duty session.before written given b (place_of s) → IsWaitEnd reason → SaysFirst session.read given → Ended session written b reason
-ended_waiting session written given b s reason w is says = record {
+    → Went session.duty session.before written given b (place_of s) → IsWaitEnd reason → (says : SaysFirst session.read given) → (reason ≢ Memory → says.0 ≡ []) → Ended session written b reason
+ended_waiting session written given b s reason w is says all = record {
   events = w.events;
   sent = w.sent;
   at = place_of s;
@@ -143,9 +148,11 @@ ended_waiting session written given b s reason w is says = record {
   lost = [];
   parts = refl;
   cut = λ o. inl refl;
+  proper = λ e. absurd (subst IsWaitEnd e is);
   written_is = w.written_is ∙ ap (and_then session.before) (sym (append-nil (text_of w.sent)));
   later = says.0;
   messages_are = says.1 ∙ ap (λ (x : List Message). x ++ says.0) (sym w.messages_are ∙ ap messages_in (sym (append-nil w.events)));
+  all_met = λ waits. all;
   orders_are = ap orders_in (append-nil w.events) ∙ w.orders_are;
 }
 
@@ -175,7 +182,7 @@ obeyed_ended worker before read order old new given later reason asked (stops s 
     let session = session_of (duty_in worker) before read in
     subst (λ (r : EndCause). Ended session new.written new.book r) (sym (same_cause reason Stopped e))
     (ended_at session old.written new.written given later old.book new.book (place old.registered following) (ordered order) [] Stopped w (stopped old.registered order s)
-    (nothing_cut old.written new.written [] Stopped x) (says ∙ ap (λ (x : List Message). x ++ later) (sym (append-nil given))) (ap (λ (b : Ledger). b.orders) asked))
+    (nothing_cut old.written new.written [] Stopped (λ y. cc) x) (says ∙ ap (λ (x : List Message). x ++ later) (sym (append-nil given))) (λ x. absurd x) (ap (λ (b : Ledger). b.orders) asked))
 obeyed_ended worker before read order old new given later reason asked (goes against sends registers) w says =
     let duty = duty_in worker in
     let session = session_of duty before read in
@@ -184,7 +191,7 @@ obeyed_ended worker before read order old new given later reason asked (goes aga
     let cuts = sends_cut old.written new.written packets reason sends in
     ended_at session old.written new.written given later old.book new.book (place old.registered following) (ordered order) packets reason w
     (unsent (place old.registered following) to (ordered order) packets reason (obeyed old.registered order against) cuts.1)
-    cuts.0 (says ∙ ap (λ (x : List Message). x ++ later) (sym (append-nil given))) (ap (λ (b : Ledger). b.orders) asked)
+    cuts.0 (says ∙ ap (λ (x : List Message). x ++ later) (sym (append-nil given))) (λ x. absurd x) (ap (λ (b : Ledger). b.orders) asked)
 
 -- an order was followed
 pub follow_on : (worker : Worker) (before : Option (List ℕ)) (old new : Moment) (given : List Message)
@@ -245,7 +252,7 @@ serve_ended worker before read job what m old mid new given later reason (Err c)
     subst (λ (x : Moment). Ended session x.written x.book reason) (sym then_on.0)
     (subst (λ (r : EndCause). Ended session mid.written mid.book r) (sym (same_cause reason c then_on.1))
     (ended_at session old.written mid.written given later old.book mid.book (place_of old.state) (heard m) (answer_to job.handle what) c w
-    (unbooked old.state.registered old.state.phase m job what c e cuts.1) cuts.0 says (orders_kept old.book mid.book o)))
+    (unbooked old.state.registered old.state.phase m job what c e cuts.1) cuts.0 says (λ x. absurd x) (orders_kept old.book mid.book o)))
 
 -- a message was acted on
 pub act_on : (worker : Worker) (before : Option (List ℕ)) (m : Message) (a : Asked) (old new : Moment) (given : List Message)
@@ -281,7 +288,7 @@ act_ended worker before read m sleep old new given later reason e does w says =
     let cuts = sends_cut old.written new.written (pre_sleep ∷ []) reason does.sends in
     ended_at session old.written new.written given later old.book new.book (place_of old.state) (heard m) (pre_sleep ∷ []) reason w
     (unsent (place_of old.state) (place old.state.registered (hearing Asleep)) (heard m) (pre_sleep ∷ []) reason (slept old.state.registered old.state.phase m e) cuts.1)
-    cuts.0 says (orders_kept old.book new.book (ap (λ (b : Ledger). b.orders) does.book))
+    cuts.0 says (λ x. absurd x) (orders_kept old.book new.book (ap (λ (b : Ledger). b.orders) does.book))
 act_ended worker before read m follow old new given later reason e does w says =
     let duty = duty_in worker in
     follow_ended worker before read old new (given ++ m ∷ []) later reason does
@@ -294,7 +301,7 @@ act_ended worker before read m (end c) old new given later reason e does w says 
     subst (λ (x : Moment). Ended session x.written x.book reason) (sym does.1)
     (subst (λ (r : EndCause). Ended session old.written old.book r) (sym (same_cause reason c does.0))
     (ended_at session old.written old.written given later old.book old.book (place_of old.state) (heard m) [] c w
-    (refused old.state.registered old.state.phase m c e) (nothing_cut old.written old.written [] c refl) says (orders_kept old.book old.book refl)))
+    (refused old.state.registered old.state.phase m c e) (nothing_cut old.written old.written [] c (asked_end m old.state.phase c e) refl) says (λ x. absurd x) (orders_kept old.book old.book refl)))
 
 -- ---- timeouts
 
@@ -324,17 +331,17 @@ glance_on worker before old new given g w = looks_on worker before g.order old n
 looks_ended : (worker : Worker) (before : Option (List ℕ)) (read : List ℕ) (order : OrderParts) (old new : Moment) (given later : List Message) (reason : EndCause)
     → Looks worker order old new (Err reason)
     → Went (duty_in worker) before old.written given old.book (place_of old.state)
-    → (reading read).messages ≡ given ++ later
+    → (reading read).messages ≡ given ++ later → later ≡ []
     → Ended (session_of (duty_in worker) before read) new.written new.book reason
-looks_ended worker before read order old new given later reason (sees_stop s e same) w says =
+looks_ended worker before read order old new given later reason (sees_stop s e same) w says all =
     let session = session_of (duty_in worker) before read in
     subst (λ (x : Moment). Ended session x.written x.book reason) (sym same)
     (subst (λ (r : EndCause). Ended session old.written (after_order old.book order) r) (sym (same_cause reason Stopped e))
     (ended_at session old.written old.written given later old.book (after_order old.book order) (place_of old.state) (looked order) [] Stopped w
-    (stopped_waiting old.state.registered old.state.phase order s) (nothing_cut old.written old.written [] Stopped refl)
-    (says ∙ ap (λ (x : List Message). x ++ later) (sym (append-nil given))) refl))
-looks_ended worker before read order old new given later reason (stays against idle e same) w says = absurd (let clash = e in cc)
-looks_ended worker before read order old new given later reason (is_due against due follows) w says =
+    (stopped_waiting old.state.registered old.state.phase order s) (nothing_cut old.written old.written [] Stopped (λ x. cc) refl)
+    (says ∙ ap (λ (x : List Message). x ++ later) (sym (append-nil given))) (λ x. all) refl))
+looks_ended worker before read order old new given later reason (stays against idle e same) w says all = absurd (let clash = e in cc)
+looks_ended worker before read order old new given later reason (is_due against due follows) w says all =
     let duty = duty_in worker in
     follow_ended worker before read (looked_at old order) new given later reason follows
     (went_on duty before old.written old.written given given old.book (after_order old.book order) (place_of old.state) (place old.state.registered following) (looked order) [] w
@@ -344,17 +351,17 @@ looks_ended worker before read order old new given later reason (is_due against 
 pub glance_ended : (worker : Worker) (before : Option (List ℕ)) (read : List ℕ) (old new : Moment) (given later : List Message) (reason : EndCause)
     → Glances worker old new (Err reason)
     → Went (duty_in worker) before old.written given old.book (place_of old.state)
-    → (reading read).messages ≡ given ++ later
+    → (reading read).messages ≡ given ++ later → later ≡ []
     → Ended (session_of (duty_in worker) before read) new.written new.book reason
-glance_ended worker before read old new given later reason g w says = looks_ended worker before read g.order old new given later reason g.looks w says
+glance_ended worker before read old new given later reason g w says all = looks_ended worker before read g.order old new given later reason g.looks w says all
 
 pub glance_gone : (worker : Worker) (before : Option (List ℕ)) (read : List ℕ) (old new : Moment) (given later : List Message) (result : Came)
     → Glances worker old new result
     → Went (duty_in worker) before old.written given old.book (place_of old.state)
-    → (reading read).messages ≡ given ++ later
+    → (reading read).messages ≡ given ++ later → later ≡ []
     → GoesOnOrEnds (Went (duty_in worker) before new.written given new.book (place_of new.state)) (Ended (session_of (duty_in worker) before read) new.written new.book) result
-glance_gone worker before read old new given later (Ok u) g w says = glance_on worker before old new given g w
-glance_gone worker before read old new given later (Err reason) g w says = glance_ended worker before read old new given later reason g w says
+glance_gone worker before read old new given later (Ok u) g w says all = glance_on worker before old new given g w
+glance_gone worker before read old new given later (Err reason) g w says all = glance_ended worker before read old new given later reason g w says all
 
 -- ---- the start
 
@@ -390,7 +397,7 @@ begins_ended worker old new at reason (Err c) first fresh sends then_on nothing 
     subst (λ (x : Moment). Ended session x.written x.book reason) (sym then_on.0)
     (subst (λ (r : EndCause). Ended session at old.book r) (sym (same_cause reason c then_on.1))
     (ended_at session old.written at [] [] old.book old.book (place None unnamed) starts packets c (went_nowhere duty old.written old.book fresh)
-    (unsent (place None unnamed) (place None following) starts packets c (named None) cuts.1) cuts.0 nothing (orders_kept old.book old.book refl)))
+    (unsent (place None unnamed) (place None following) starts packets c (named None) cuts.1) cuts.0 nothing (λ x. absurd x) (orders_kept old.book old.book refl)))
 
 -- a session began
 pub begun_gone : (worker : Worker) (old new : Moment) (result : Came)

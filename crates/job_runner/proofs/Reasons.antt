@@ -1,5 +1,6 @@
 -- Why a session ends: each reason of a step is one of what is above it.
-use Rattle.std.proofs.Common.{◌≡◌, ◌≢◌, ℕ, ◌+◌, refl, ap, subst, ◌∙◌}
+use Rattle.std.proofs.Common.{◌≡◌, ◌≢◌, ℕ, ◌+◌, Result, Ok, Err, refl, sym, ap, subst, ◌∙◌}
+use Rattle.std.specs.Prelude.{IfErr}
 use Rattle.gear_packets.specs.Response.{Message}
 use Rattle.job_runner.specs.declared.end.EndCause.{EndCause}
 use Rattle.job_runner.specs.declared.end.EndCause.TheVariants as cause
@@ -117,3 +118,12 @@ reason_from session older old new t b cause.HistoryFull h r w = h
 reason_from session older old new t b cause.Closed h r w = h
 reason_from session older old new t b cause.Stopped h r w = h
 reason_from session older old new t b cause.Unserved h r w = h
+
+-- a port ends no session for its turns
+pub port_turns : (generation : ℕ) (b : Ledger) (result : Result (Unit {0}) EndCause) → IfErr result (PortReason generation b) → IfErr result (λ e. e ≢ cause.TurnsUsed)
+port_turns generation b (Ok u) h = tt
+port_turns generation b (Err e) h = λ same. subst (PortReason generation b) same h
+
+-- a step that ends for lack of memory does not end for a failed write
+pub memory_is_other : (result : Result (Unit {0}) EndCause) → result ≡ Err Memory → result ≢ Err WriteFault
+memory_is_other result e = λ x. absurd (let clash : ◌≡◌ {A = Result (Unit {0}) EndCause} (Err Memory) (Err WriteFault) = sym e ∙ x in cc)

@@ -18,7 +18,7 @@ use Rattle.job_runner.specs.declared.jobs.NotDone.{NotDone}
 use Rattle.job_runner.specs.Told.{Told, Telling, jobs_of, AreTold, IsTold}
 use Rattle.job_runner.specs.Book.{Ledger}
 use Rattle.job_runner.specs.Course.{Duty, Session, session_of, Ends, GoesOnOrEnds, PortReason, known, IsServing}
-use Rattle.job_runner.specs.Listening.{SaysFirst, IsReadEnd}
+use Rattle.job_runner.specs.Listening.{SaysFirst, Hears, IsReadEnd}
 use Rattle.job_runner.specs.Run.{AreAnswered, Acts, EndTold, Link, NoFault, Reason, ReadReason}
 use Rattle.job_runner.specs.Loop.{EndsForNoJob, StepReason, HasServed, Halts}
 use Rattle.byte_io.specs.Sides.{and_then}
@@ -89,15 +89,15 @@ pub says_more : (read : List ℕ) (given later : List Message) → (reading read
 says_more read given later h = ap assignments_in h ∙ assignments_append given later
 
 -- at rest the session may end
-pub halts_at_rest : (duty : Duty) (Ran : EndCause → List Telling → Type 0) (before : Option (List ℕ)) (bytes read : List ℕ) (written : Option (List ℕ)) (told : List Telling) (given : List Message) (s : State) (b : Ledger) (reason : EndCause) → Ran reason told → written ≡ and_then before bytes → jobs_of told ≡ assignments_in given → AreAnswered duty bytes told s b → Went duty before written given b (place_of s) → IsWaitEnd reason → SaysFirst read given → reason ≢ WriteFault → Halts (session_of duty before read) Ran written s.tally b reason
-halts_at_rest duty Ran before bytes read written told given s b reason ran at jobs holds went is says no-fault = record {
+pub halts_at_rest : (duty : Duty) (Ran : EndCause → List Telling → Type 0) (before : Option (List ℕ)) (bytes read : List ℕ) (written : Option (List ℕ)) (told : List Telling) (given : List Message) (s : State) (b : Ledger) (reason : EndCause) → Ran reason told → written ≡ and_then before bytes → jobs_of told ≡ assignments_in given → AreAnswered duty bytes told s b → Went duty before written given b (place_of s) → IsWaitEnd reason → (says : SaysFirst read given) → (reason ≢ Memory → says.0 ≡ []) → reason ≢ WriteFault → Halts (session_of duty before read) Ran written s.tally b reason
+halts_at_rest duty Ran before bytes read written told given s b reason ran at jobs holds went is says all no-fault = record {
   bytes = bytes;
   told = told;
   ran = ran;
   at = at;
   ends = ends_later duty bytes told (jobs_of told) (assignments_in says.0) (assignments read) s.tally b reason
       (ends_at_rest duty bytes (known duty.functions s.registered) told s.tally b reason holds.wrote holds.even no-fault) (says_more read given says.0 says.1 ∙ ap (λ (x : List AssignedJob). x ++ assignments_in says.0) (sym jobs));
-  ended = ended_waiting (session_of duty before read) written given b s reason went is says;
+  ended = ended_waiting (session_of duty before read) written given b s reason went is says all;
 }
 
 -- ---- messages
@@ -198,13 +198,9 @@ port_room duty Ran before read old r s b st short =
     let even = st.rests.holds.even in
     (omega (arith, few, short, even.grabs), omega (arith, few, short, even.begins), omega (arith, few, short, even.reports))
 
--- a session that stands says first what it was given
-pub serving_says : (duty : Duty) (Ran : List Telling → Type 0) (before : Option (List ℕ)) (read : List ℕ) (old : Option (List ℕ)) (r : Reading) (s : State) (b : Ledger) (st : HasServed (session_of duty before read) Ran old r s b) → SaysFirst read st.given
-serving_says duty Ran before read old r s b st = (r.messages, ap (λ (x : Reading). x.messages) st.rests.heard)
-
 -- and may halt
-pub serving_halts : (duty : Duty) (Ran : List Telling → Type 0) (End : EndCause → List Telling → Type 0) (before : Option (List ℕ)) (read : List ℕ) (old : Option (List ℕ)) (r : Reading) (s : State) (b : Ledger) (reason : EndCause) (st : HasServed (session_of duty before read) Ran old r s b) → End reason st.told → IsWaitEnd reason → reason ≢ WriteFault → Halts (session_of duty before read) End old s.tally b reason
-serving_halts duty Ran End before read old r s b reason st ran is no-fault = halts_at_rest duty End before st.bytes read old st.told st.given s b reason ran st.at st.rests.jobs_are st.rests.holds st.went is (serving_says duty Ran before read old r s b st) no-fault
+pub serving_halts : (duty : Duty) (Ran : List Telling → Type 0) (End : EndCause → List Telling → Type 0) (before : Option (List ℕ)) (read : List ℕ) (old : Option (List ℕ)) (r : Reading) (s : State) (b : Ledger) (reason : EndCause) (st : HasServed (session_of duty before read) Ran old r s b) → r.messages ≡ [] → End reason st.told → IsWaitEnd reason → reason ≢ WriteFault → Halts (session_of duty before read) End old s.tally b reason
+serving_halts duty Ran End before read old r s b reason st all ran is no-fault = halts_at_rest duty End before st.bytes read old st.told st.given s b reason ran st.at st.rests.jobs_are st.rests.holds st.went is (r.messages, ap (λ (x : Reading). x.messages) st.rests.heard) (λ o. all) no-fault
 
 -- ---- reads
 
@@ -243,20 +239,20 @@ glanced duty Ran before read out told given r s b old new (Err e) ran heard jobs
 )
 
 -- an end at a read
-pub read_ended : (duty : Duty) (Ran : List Telling → Type 0) (before : Option (List ℕ)) (bytes read : List ℕ) (out : Option (List ℕ)) (told : List Telling) (given : List Message) (s : State) (b : Ledger) (old new : Link) (e : EndCause) → Ran told → out ≡ and_then before bytes → jobs_of told ≡ assignments_in given → AreAnswered duty bytes told s b → Went duty before out given b (place_of s) → SaysFirst read given → IsReadEnd e
+pub read_ended : (duty : Duty) (Ran : List Telling → Type 0) (before : Option (List ℕ)) (bytes read : List ℕ) (out : Option (List ℕ)) (told : List Telling) (given : List Message) (r : Reading) (s : State) (b : Ledger) (old new : Link) (e : EndCause) → Ran told → out ≡ and_then before bytes → jobs_of told ≡ assignments_in given → AreAnswered duty bytes told s b → Went duty before out given b (place_of s) → Hears read given r (Err e) → r.messages ≡ [] → IsReadEnd e
     → (e ≡ cause.Closed → new.input.has_ended ≡ true) → (e ≡ cause.ReadFault → new.input.failures ≡ old.input.failures + 1) → (e ≡ Memory → NoFault old new) → Halts (session_of duty before read) (EndsForNoJob Ran) out s.tally b e × Reason (session_of duty before read) old new s.tally b e
-read_ended duty Ran before bytes read out told given s b old new cause.Closed ran at jobs holds went says is closed failed none = (halts_at_rest duty (EndsForNoJob Ran) before bytes read out told given s b cause.Closed (ran, λ e. cc) at jobs holds went tt says (λ e. cc), closed refl)
-read_ended duty Ran before bytes read out told given s b old new cause.ReadFault ran at jobs holds went says is closed failed none = (halts_at_rest duty (EndsForNoJob Ran) before bytes read out told given s b cause.ReadFault (ran, λ e. cc) at jobs holds went tt says (λ e. cc), failed refl)
-read_ended duty Ran before bytes read out told given s b old new Memory ran at jobs holds went says is closed failed none = (halts_at_rest duty (EndsForNoJob Ran) before bytes read out told given s b Memory (ran, λ e. cc) at jobs holds went tt says (λ e. cc), none refl)
-read_ended duty Ran before bytes read out told given s b old new WriteFault ran at jobs holds went says is closed failed none = absurd is
-read_ended duty Ran before bytes read out told given s b old new cause.Retired ran at jobs holds went says is closed failed none = absurd is
-read_ended duty Ran before bytes read out told given s b old new cause.Gone ran at jobs holds went says is closed failed none = absurd is
-read_ended duty Ran before bytes read out told given s b old new cause.BadPacket ran at jobs holds went says is closed failed none = absurd is
-read_ended duty Ran before bytes read out told given s b old new cause.ServerError ran at jobs holds went says is closed failed none = absurd is
-read_ended duty Ran before bytes read out told given s b old new cause.TurnsUsed ran at jobs holds went says is closed failed none = absurd is
-read_ended duty Ran before bytes read out told given s b old new cause.HistoryFull ran at jobs holds went says is closed failed none = absurd is
-read_ended duty Ran before bytes read out told given s b old new cause.Stopped ran at jobs holds went says is closed failed none = absurd is
-read_ended duty Ran before bytes read out told given s b old new cause.Unserved ran at jobs holds went says is closed failed none = absurd is
+read_ended duty Ran before bytes read out told given r s b old new cause.Closed ran at jobs holds went heard all is closed failed none = (halts_at_rest duty (EndsForNoJob Ran) before bytes read out told given s b cause.Closed (ran, λ e. cc) at jobs holds went tt (r.messages, ap (λ (x : Reading). x.messages) heard) (λ o. all) (λ e. cc), closed refl)
+read_ended duty Ran before bytes read out told given r s b old new cause.ReadFault ran at jobs holds went heard all is closed failed none = (halts_at_rest duty (EndsForNoJob Ran) before bytes read out told given s b cause.ReadFault (ran, λ e. cc) at jobs holds went tt (r.messages, ap (λ (x : Reading). x.messages) heard) (λ o. all) (λ e. cc), failed refl)
+read_ended duty Ran before bytes read out told given r s b old new Memory ran at jobs holds went heard all is closed failed none = (halts_at_rest duty (EndsForNoJob Ran) before bytes read out told given s b Memory (ran, λ e. cc) at jobs holds went tt heard (λ o. absurd (o refl)) (λ e. cc), none refl)
+read_ended duty Ran before bytes read out told given r s b old new WriteFault ran at jobs holds went heard all is closed failed none = absurd is
+read_ended duty Ran before bytes read out told given r s b old new cause.Retired ran at jobs holds went heard all is closed failed none = absurd is
+read_ended duty Ran before bytes read out told given r s b old new cause.Gone ran at jobs holds went heard all is closed failed none = absurd is
+read_ended duty Ran before bytes read out told given r s b old new cause.BadPacket ran at jobs holds went heard all is closed failed none = absurd is
+read_ended duty Ran before bytes read out told given r s b old new cause.ServerError ran at jobs holds went heard all is closed failed none = absurd is
+read_ended duty Ran before bytes read out told given r s b old new cause.TurnsUsed ran at jobs holds went heard all is closed failed none = absurd is
+read_ended duty Ran before bytes read out told given r s b old new cause.HistoryFull ran at jobs holds went heard all is closed failed none = absurd is
+read_ended duty Ran before bytes read out told given r s b old new cause.Stopped ran at jobs holds went heard all is closed failed none = absurd is
+read_ended duty Ran before bytes read out told given r s b old new cause.Unserved ran at jobs holds went heard all is closed failed none = absurd is
 
 -- ---- the start
 

@@ -1,5 +1,5 @@
 -- A session as the path that it takes: what it meets, one thing after the other, and what it writes at each.
-use Rattle.std.specs.Prelude.{◌≡◌, ◌≢◌, ◌⊎◌, ℕ, List, [], ◌∷◌, ◌++◌, length, Option, Some, None}
+use Rattle.std.specs.Prelude.{◌≡◌, ◌≢◌, ◌⊎◌, ◌<◌, ℕ, List, [], ◌∷◌, ◌++◌, length, Option, Some, None}
 use Rattle.std.specs.Option.{option_to_list}
 use Rattle.std.specs.List.{filter_map}
 use Rattle.gear_packets.specs.Request.{Packet, set_client_id, pre_sleep}
@@ -151,8 +151,15 @@ pub record Went (duty : Duty) (before written : Option (List ℕ)) (given : List
   pub messages_are : messages_in events ≡ given
   pub orders_are : orders_in events ≡ book.orders
 
+-- a session waits for more to read: it has met nothing, or only that nothing came in the time of one read
+abbrev pub WaitsForMore : Option Event → Type 0
+WaitsForMore None = Unit {0}
+WaitsForMore (Some (looked order)) = Unit {0}
+WaitsForMore (Some other) = ⊥
+
 -- A session at its end: it took a path, and ended in one way after it. The packets that it had to write then are written whole or not at
--- all, and where the write failed as far as it came.
+-- all, and where the write failed as far as it came. Where it waited for more, it has met all messages that it read, unless there was no
+-- memory to read on.
 pub record Ended (session : Session) (written : Option (List ℕ)) (book : Ledger) (reason : EndCause) : Type 0 where
   pub events : List Event
   pub sent : List Packet
@@ -165,7 +172,9 @@ pub record Ended (session : Session) (written : Option (List ℕ)) (book : Ledge
   pub lost : List ℕ
   pub parts : text_of packets ≡ part ++ lost
   pub cut : reason ≢ WriteFault → (part ≡ []) ⊎ (lost ≡ [])
+  pub proper : reason ≡ WriteFault → 0 < length lost
   pub written_is : written ≡ and_then session.before (text_of sent ++ part)
   pub later : List Message
   pub messages_are : (reading session.read).messages ≡ messages_in (events ++ option_to_list met) ++ later
+  pub all_met : WaitsForMore met → reason ≢ cause.Memory → later ≡ []
   pub orders_are : orders_in (events ++ option_to_list met) ≡ book.orders

@@ -1,6 +1,6 @@
 -- A whole session.
 use Rattle.std.specs.Prelude.{◌≡◌, ◌≢◌, ℕ, ◌+◌, ◌<◌, ◌≤◌, ◌⊎◌, true, List, [], ◌∷◌, ◌++◌, length, take, Option, Some, None, Result, Err}
-use Rattle.std.specs.Prelude.{OnOk, map}
+use Rattle.std.specs.Prelude.{map}
 use Rattle.std.specs.List.{AllByRecursion}
 use Rattle.gear_packets.specs.Request.{Packet}
 use Rattle.gear_packets.specs.Response.{AssignedJob, Message, server_error}
@@ -74,17 +74,20 @@ pub record Link : Type 0 where
 abbrev pub seen_link : {D : Type 0} → (D → Input) → (D → Output) → D → Link
 seen_link input output device = record { input = input device; output = output device }
 
--- A step that writes and does not read leaves the input as it was. A write fails only where the step ends as WriteFault, and once then; it
--- is never reported as out of memory.
+-- A step that writes and does not read leaves the input as it was. A write fails only where the step ends as WriteFault, and once then.
 pub record LinkKept {T : Type 0} (old new : Link) (result : Result T EndCause) : Type 0 where
   pub input : new.input ≡ old.input
-  pub no_failure : OnOk result (new.output.failures ≡ old.output.failures)
   pub write_fault : result ≡ Err cause.WriteFault → new.output.failures ≡ old.output.failures + 1
-  pub memory : result ≡ Err cause.Memory → new.output.failures ≡ old.output.failures
+  pub no_failure : result ≢ Err cause.WriteFault → new.output.failures ≡ old.output.failures
 
 -- no read failed, and no write
 abbrev pub NoFault : Link → Link → Type 0
 NoFault old new = (new.input.failures ≡ old.input.failures) × (new.output.failures ≡ old.output.failures)
+
+-- A failed read ends a session as ReadFault, and a failed write as WriteFault: no other session meets one.
+abbrev pub FailsAs : Link → Link → EndCause → Type 0
+FailsAs old new reason = (reason ≢ cause.ReadFault → new.input.failures ≡ old.input.failures)
+    × (reason ≢ cause.WriteFault → new.output.failures ≡ old.output.failures)
 
 -- Why a session ends at what was read, or at its port, by its counts and its port's book then.
 abbrev pub ReadReason : Session → Tally → Ledger → EndCause → Type 0
@@ -124,6 +127,7 @@ pub record Served (session : Session) (told : List Telling) (bytes : List ℕ) (
       → ends.cut.sent ++ ends.cut.next ≡ before ++ p ∷ after → asks p ≡ true → length (registered (text_of (before ++ p ∷ []))) ≡ 1
   pub path : Ended session new.output.got book e.cause
   pub reason : Reason session old new (tally_of e) book e.cause
+  pub faults : FailsAs old new e.cause
   pub lost : Lost (loss_of e.cause) book
 
 -- The same of jobs that tell what a function of their name and input says.

@@ -1,10 +1,10 @@
 //! One read of a session.
 
-ghost use Rattle.std.specs.Prelude.{◌≡◌, ◌+◌, ◌-◌, ◌<◌, ◌≤◌, ◌^◌, ◌++◌, ℕ, List, length, IfErr, Option};
+ghost use Rattle.std.specs.Prelude.{◌≡◌, ◌≢◌, ◌+◌, ◌-◌, ◌<◌, ◌≤◌, ◌^◌, ◌++◌, ℕ, List, length, IfErr, Option};
 ghost use Rattle.gear_packets.specs.Response.{Message};
 ghost use Rattle.gear_packets.specs.Text.{reading, read_after};
 ghost use Rattle.byte_io.specs.Sides.{and_then, counted};
-ghost use Rattle.job_runner.specs.Listening.{Hears, IsReadEnd, lulls_of, read_failures, finds_end};
+ghost use Rattle.job_runner.specs.Listening.{Hears, IsReadEnd, Reads, reads_of, lulls_of, read_failures, finds_end};
 
 use crate::end::EndCause;
 use byte_io::{Source, Took};
@@ -40,6 +40,8 @@ pub fn hear<L: Source>(
         (L.input link.old).given ≡ and_then before read → reading read ≡ read_after given reader.old →
         (more : List ℕ) × ((L.input link.new).given ≡ and_then before more)
         × (length more ≤ length read + length buffer.old) × Hears more given reader.new result }
+    ensures kept { result ≢ Ok Heard.Piece → reader.new ≡ reader.old }
+    ensures reads { Reads (length buffer.old) (reads_of result) 1 (L.input link.old) (L.input link.new) }
     ensures output { L.output link.new ≡ L.output link.old }
     ensures lulls { (L.input link.new).lulls ≡ counted (L.input link.old).lulls (lulls_of result) }
     ensures failures { (L.input link.new).failures ≡ (L.input link.old).failures + read_failures result }

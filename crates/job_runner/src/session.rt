@@ -1,13 +1,14 @@
 //! A whole session: from its worker's name to its end.
 
-ghost use Rattle.std.specs.Prelude.{◌≡◌, ◌+◌, ◌-◌, ◌<◌, ◌≤◌, ◌^◌, [], ℕ, List, length, IfErr, IfOk, OnOk, Option, string_bytes};
+ghost use Rattle.std.specs.Prelude.{◌≡◌, ◌≢◌, ◌+◌, ◌-◌, ◌<◌, ◌≤◌, ◌^◌, [], ℕ, List, length, IfErr, IfOk, OnOk, Option, string_bytes};
 ghost use Rattle.gear_packets.specs.Request.{set_client_id};
 ghost use Rattle.byte_io.specs.Sides.{and_then};
 ghost use Rattle.pool_settings.specs.Slots.{slots, worker_text};
 ghost use Rattle.job_runner.specs.Told.{Telling, AreTold, IsTold};
 ghost use Rattle.job_runner.specs.Book.{no_calls};
 ghost use Rattle.job_runner.specs.Course.{GoesOnOrEnds, IsAccepted, PortReason, session_of};
-ghost use Rattle.job_runner.specs.Run.{Acts, EndTold, ReadReason, Reason, Served, ServedBy, seen_link, LinkKept};
+ghost use Rattle.job_runner.specs.Run.{Acts, EndTold, FailsAs, ReadReason, Reason, Served, ServedBy, seen_link, LinkKept};
+ghost use Rattle.job_runner.specs.Listening.{Reads, reads_of, reads_by};
 ghost use Rattle.job_runner.specs.Acting.{moment, Begins};
 ghost use Rattle.job_runner.specs.Loop.{first_state, duty_in, duty_of, session_in, EndsForNoJob, HasServed, Halts};
 
@@ -96,6 +97,7 @@ fn drain<L: Sink, P: PoolPort, J: Jobs>(
         (L.output link.new).got reader.new state.new (P.book port.new))
         (Halts (session_in worker.now before read) (EndTold J.tells J.fails first jobs.new)
         (L.output link.new).got state.new.tally (P.book port.new)) result }
+    ensures all_given { OnOk result (reader.new.messages ≡ []) }
     ensures reason { (first : J) (before : Option (List ℕ)) (read : List ℕ)
         → HasServed (session_in worker.now before read) (AreTold J.tells first jobs.old)
         (L.output link.old).got reader.old state.old (P.book port.old)
@@ -126,6 +128,7 @@ fn listen<L: Source + Sink, P: PoolPort, J: Jobs>(
 ) -> Result<(), EndCause>
     requires output { (L.output link.old).failures < 2 ^ 64 - 1 }
     requires input { (L.input link.old).failures < 2 ^ 64 - 1 }
+    requires all_given { inbox.old.reader.messages ≡ [] }
     ensures listens { (told : List Telling) (before start : Option (List ℕ)) (read : List ℕ)
         → (L.input link.old).given ≡ and_then start read
         → HasServed (session_in worker.now before read) (IsTold told) (L.output link.old).got inbox.old.reader state.old (P.book port.old)
@@ -136,8 +139,10 @@ fn listen<L: Source + Sink, P: PoolPort, J: Jobs>(
         (L.output link.new).got state.new.tally (P.book port.new) cause
         × Reason (session_in worker.now before more)
         (seen_link L.input L.output link.old) (seen_link L.input L.output link.new) state.new.tally (P.book port.new) cause) result }
-    ensures no_read_failure { OnOk result ((L.input link.new).failures ≡ (L.input link.old).failures) }
-    ensures no_failure { OnOk result ((L.output link.new).failures ≡ (L.output link.old).failures) }
+    ensures reads { Reads 4096 (reads_of result) 1 (L.input link.old) (L.input link.new) }
+    ensures no_turns { IfErr result (λ cause. cause ≢ EndCause.TurnsUsed) }
+    ensures read_failures { result ≢ Err EndCause.ReadFault → (L.input link.new).failures ≡ (L.input link.old).failures }
+    ensures write_failures { result ≢ Err EndCause.WriteFault → (L.output link.new).failures ≡ (L.output link.old).failures }
     ensures losses { (P.book port.new).losses ≡ (P.book port.old).losses }
 {
     match hear(link, &mut inbox.reader, &mut inbox.buffer) {
@@ -165,6 +170,8 @@ fn serve<L: Source + Sink, P: PoolPort, J: Jobs>(
         (L.output link.new).got state.new.tally (P.book port.new) result
         × Reason (session_in worker.now (L.output link.old).got read)
         (seen_link L.input L.output link.old) (seen_link L.input L.output link.new) state.new.tally (P.book port.new) result) }
+    ensures turns { Reads 4096 (reads_by worker.now.place.turns result) worker.now.place.turns (L.input link.old) (L.input link.new) }
+    ensures faults { FailsAs (seen_link L.input L.output link.old) (seen_link L.input L.output link.new) result }
     ensures losses { (P.book port.new).losses ≡ 0 }
 {
     match begin(worker, link, port, state) {
@@ -215,6 +222,7 @@ pub fn serve_worker<L: Source + Sink, P: PoolPort, J: Jobs>(
         × EndTold J.tells J.fails jobs.old jobs.new result.cause told
         × Served (session_of (duty_of place.entry.settings.now pass) (L.output link.old).got read) told bytes
         (seen_link L.input L.output link.old) (seen_link L.input L.output link.new) (P.book port.new) result }
+    ensures turns { Reads 4096 (reads_by place.entry.turns result.cause) place.entry.turns (L.input link.old) (L.input link.new) }
 {
     let mut state = State {
         registered: None,
@@ -259,6 +267,7 @@ pub fn run_session<L: Source + Sink, P: PoolPort, J: NamedJobs>(
         × ((L.output link.new).got ≡ and_then (L.output link.old).got bytes)
         × ServedBy (J.told jobs.now) (session_of (duty_of settings.now pass) (L.output link.old).got read) bytes
         (seen_link L.input L.output link.old) (seen_link L.input L.output link.new) (P.book port.new) result }
+    ensures turns { Reads 4096 (reads_by turns result.cause) turns (L.input link.old) (L.input link.new) }
 {
     let place = Workplace {
         alloc,

@@ -1,5 +1,4 @@
-use Rattle.std.proofs.Common.{ℕ, ◌<◌, ◌++◌, [], ◌∷◌, List, length, Ok, Err, inl, refl, sym, ap, subst, arith}
-use Rattle.gear_packets.specs.Response.{AssignedJob}
+use Rattle.std.proofs.Common.{◌<◌, ◌++◌, [], ◌∷◌, length, Ok, Err, inl, refl, sym, ap, subst, arith}
 use Rattle.gear_packets.specs.Reading.{message_of}
 use Rattle.gear_packets.specs.Text.{assignments_in}
 use Rattle.gear_packets.specs.declared.response.Response.{Response}
@@ -84,7 +83,7 @@ returns-in-Assign g c = record {
       (moment c.args.state.now (g.L.Device.output c.args.link.now).got (g.P.PoolPort.book c.args.port.now))
       (moment c.args.state.now (g.L.Device.output c.args.link.now).got (g.P.PoolPort.book c.args.port.now)) (Err BadPacket))
       (sym (asked_to_end _ _ _ (ap message_of c.in-Assign.is) c.in_default-phase-2.not-Waiting)) (refl, refl);
-  link = record { input = refl; no_failure = tt; write_fault = λ x. absurd cc; memory = λ x. absurd cc };
+  link = record { input = refl; write_fault = λ x. absurd cc; no_failure = λ o. refl };
   reason = (refl, subst (λ (m : Response). 0 < length (assignments_in (message_of m ∷ []))) (sym c.in-Assign.is) (omega arith));
   losses = refl;
 }

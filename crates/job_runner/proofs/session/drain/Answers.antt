@@ -1,4 +1,4 @@
-use Rattle.std.proofs.Common.{◌++◌, inl, refl, sym, ap, subst, ◌∙◌}
+use Rattle.std.proofs.Common.{inl, refl, sym, ap, subst, ◌∙◌}
 use Rattle.gear_packets.specs.Reading.{message_of, fault_of}
 use Rattle.gear_packets.specs.Text.{Reading}
 use Rattle.job_runner.specs.declared.end.EndCause.TheVariants.{BadPacket}
@@ -50,14 +50,14 @@ loop-message-preserved g c =
           (moment c.loop-message.state (g.L.Device.output c.loop-message.link).got (g.P.PoolPort.book c.loop-message.port)) (moment c.act.new.state (g.L.Device.output c.act.new.link).got (g.P.PoolPort.book c.act.new.port))
           st.given refl c.in-Ok.ensures.does st.went);
       input = c.act.ensures.link.input ∙ c.loop-message.invariant.input;
-      failures = c.in-Ok.ensures.link.no_failure ∙ c.loop-message.invariant.failures;
+      failures = c.in-Ok.ensures.link.no_failure (λ e. cc) ∙ c.loop-message.invariant.failures;
       losses = c.act.ensures.losses ∙ c.loop-message.invariant.losses;
     }
 
 pub returns-in-Some-fault-clause-leaves : goal.returns-in-Some-fault-clause-leaves
 returns-in-Some-fault-clause-leaves g c = λ first before read start.
     let st = c.loop-message.invariant.serving first before read start in
-    serving_halts (duty_in c.args.worker.now) (AreTold g.J.Jobs.tells first c.loop-message.jobs) (EndTold g.J.Jobs.tells g.J.Jobs.fails first c.loop-message.jobs) before read _ _ c.loop-message.state _ BadPacket st
+    serving_halts (duty_in c.args.worker.now) (AreTold g.J.Jobs.tells first c.loop-message.jobs) (EndTold g.J.Jobs.tells g.J.Jobs.fails first c.loop-message.jobs) before read _ _ c.loop-message.state _ BadPacket st (ap (λ (x : Reading). x.messages) c.in_default.ensures.given ∙ c.in_default.ensures.none)
     (c.loop-message.jobs, st.ran, inl (refl, λ e. cc)) tt (λ e. cc)
 
 pub returns-in-Some-fault-clause-reason : goal.returns-in-Some-fault-clause-reason

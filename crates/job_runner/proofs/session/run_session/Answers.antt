@@ -1,6 +1,5 @@
-use Rattle.std.proofs.Common.{refl, ap, ◌∙◌}
-use Rattle.gear_packets.specs.Text.{assignments}
-use Rattle.job_runner.specs.Told.{Telling, replies}
+use Rattle.std.proofs.Common.{ap, ◌∙◌}
+use Rattle.job_runner.specs.Told.{replies}
 use Rattle.job_runner.proofs.Telling.{all_meant, first_told, never_unserved}
 use Rattle.job_runner.proofs.session.run_session.Goals as goal
 
@@ -24,4 +23,5 @@ returns g c =
           work = λ other. served.work other ∙ ap replies (first_told (g.J.NamedJobs.told c.args.jobs.now) _ told served.ends.answered _ _ served.ends.later means served.ends.chain.answered_is served.ends.told_are served.ends.in_order);
         },
       );
+      turns = c.serve_worker.ensures.turns;
     }

@@ -1,16 +1,17 @@
-use Rattle.std.proofs.Common.{ℕ, ◌+◌, [], Result, Ok, Err, inl, refl, ap, ◌∙◌, arith}
+use Rattle.std.proofs.Common.{ℕ, ◌+◌, [], Result, Ok, Err, inl, refl, ap, subst, ◌∙◌, arith}
 use Rattle.byte_io.specs.Sides.{Input}
 use Rattle.job_runner.specs.declared.end.EndCause.{EndCause}
 use Rattle.job_runner.specs.declared.end.EndCause.TheVariants.{TurnsUsed}
 use Rattle.job_runner.specs.Book.{Ledger}
 use Rattle.job_runner.specs.Told.{AreTold, IsTold}
-use Rattle.job_runner.specs.Run.{EndTold, Link}
-use Rattle.job_runner.specs.Course.{session_of}
+use Rattle.job_runner.specs.Run.{EndTold, Link, ReadReason}
+use Rattle.job_runner.specs.Course.{PortReason, session_of}
 use Rattle.job_runner.specs.Loop.{duty_in}
 use Rattle.byte_io.proofs.Devices.{told_nothing}
-use Rattle.job_runner.proofs.Reasons.{outer_reason, port_served, read_reason, reason_from}
+use Rattle.job_runner.proofs.Reasons.{outer_reason, port_served, read_reason, reason_from, memory_is_other}
+use Rattle.job_runner.proofs.Listening.{no_reads, reads_on, reads_within, reads_ended}
 use Rattle.job_runner.proofs.Turning.{says_nothing, begun_halts, begun_serving, serving_as, serving_on, serving_halts, ends_for_none}
-use Rattle.job_runner.proofs.Paths.{begun_gone}
+use Rattle.job_runner.proofs.Paths.{begun_gone, same_cause}
 use Rattle.job_runner.specs.Acting.{moment}
 use Rattle.job_runner.proofs.session.serve.Goals as goal
 
@@ -27,7 +28,7 @@ returns-in-Err-clause-ran g c =
             (begun_gone c.args.worker.now (moment c.args.state.now old.output.got (g.P.PoolPort.book c.args.port.now)) (moment c.begin.new.state new.output.got (g.P.PoolPort.book c.begin.new.port)) (Err c.in-Err.cause) c.requires.first c.requires.fresh c.in-Err.ensures.begins says_nothing),
         outer_reason (session_of duty old.output.got []) old new c.begin.new.state.tally (g.P.PoolPort.book c.begin.new.port) c.in-Err.cause (read_reason (session_of duty old.output.got []) c.begin.new.state.tally (g.P.PoolPort.book c.begin.new.port) c.in-Err.cause c.in-Err.ensures.reason)
             (λ x. c.in-Err.ensures.link.write_fault (ap (λ (y : EndCause). let z : Result (Unit {0}) EndCause = Err y in z) x))
-            (λ x. (ap (λ (i : Input). i.failures) c.begin.ensures.link.input, c.in-Err.ensures.link.memory (ap (λ (y : EndCause). let z : Result (Unit {0}) EndCause = Err y in z) x))),
+            (λ x. (ap (λ (i : Input). i.failures) c.begin.ensures.link.input, c.in-Err.ensures.link.no_failure (memory_is_other _ (ap (λ (y : EndCause). let z : Result (Unit {0}) EndCause = Err y in z) x)))),
       ),
     )
 
@@ -45,8 +46,9 @@ loop-made-init g c =
         begun_serving duty (AreTold g.J.Jobs.tells c.args.jobs.now c.args.jobs.now) before _ c.new.result c.begin.new.state _ refl c.new.ensures c.in-Ok.ensures.acts
             (begun_gone c.args.worker.now (moment c.args.state.now before (g.P.PoolPort.book c.args.port.now)) (moment c.begin.new.state (g.L.Device.output c.begin.new.link).got (g.P.PoolPort.book c.begin.new.port)) (Ok tt) c.requires.first c.requires.fresh c.in-Ok.ensures.begins says_nothing),
       );
+      turns = no_reads _ _ c.begin.ensures.link.input;
       read_failures = ap (λ (i : Input). i.failures) c.begin.ensures.link.input;
-      write_failures = c.in-Ok.ensures.link.no_failure;
+      write_failures = c.in-Ok.ensures.link.no_failure (λ e. cc);
       losses = c.begin.ensures.losses ∙ ap (λ (b : Ledger). b.losses) c.requires.fresh;
     }
 
@@ -63,7 +65,7 @@ returns-in-Err-drain-clause-ran g c =
     let new : Link = record { input = g.L.Device.input c.drain.new.link; output = g.L.Device.output c.drain.new.link } in
     let now = c.loop-made.invariant.serving in
     let left = c.in-Err-drain.ensures.leaves c.args.jobs.now before now.0 now.3 in
-    (now.0, ap (λ (i : Input). i.given) c.drain.ensures.link.input ∙ now.1, (left, outer_reason (session_of duty before now.0) old new c.drain.new.state.tally (g.P.PoolPort.book c.drain.new.port) c.in-Err-drain.cause (c.in-Err-drain.ensures.reason c.args.jobs.now before now.0 now.3) (λ x. c.in-Err-drain.ensures.link.write_fault (ap (λ (y : EndCause). let z : Result (Unit {0}) EndCause = Err y in z) x) ∙ ap (λ (n : ℕ). n + 1) c.loop-made.invariant.write_failures) (λ x. (ap (λ (i : Input). i.failures) c.drain.ensures.link.input ∙ c.loop-made.invariant.read_failures, c.in-Err-drain.ensures.link.memory (ap (λ (y : EndCause). let z : Result (Unit {0}) EndCause = Err y in z) x) ∙ c.loop-made.invariant.write_failures))))
+    (now.0, ap (λ (i : Input). i.given) c.drain.ensures.link.input ∙ now.1, (left, outer_reason (session_of duty before now.0) old new c.drain.new.state.tally (g.P.PoolPort.book c.drain.new.port) c.in-Err-drain.cause (c.in-Err-drain.ensures.reason c.args.jobs.now before now.0 now.3) (λ x. c.in-Err-drain.ensures.link.write_fault (ap (λ (y : EndCause). let z : Result (Unit {0}) EndCause = Err y in z) x) ∙ ap (λ (n : ℕ). n + 1) c.loop-made.invariant.write_failures) (λ x. (ap (λ (i : Input). i.failures) c.drain.ensures.link.input ∙ c.loop-made.invariant.read_failures, c.in-Err-drain.ensures.link.no_failure (memory_is_other _ (ap (λ (y : EndCause). let z : Result (Unit {0}) EndCause = Err y in z) x)) ∙ c.loop-made.invariant.write_failures))))
 
 pub loop-made-preserved : goal.loop-made-preserved
 loop-made-preserved g c =
@@ -77,8 +79,9 @@ loop-made-preserved g c =
     record {
       within = omega (arith, c.loop-made-test.true);
       serving = (next.0, next.1, omega (arith, next.2, now.2), serving_on Ran left.told _ _ _ _ _ left.ran next.3);
-      read_failures = c.in-Ok-listen.ensures.no_read_failure ∙ ap (λ (i : Input). i.failures) c.drain.ensures.link.input ∙ c.loop-made.invariant.read_failures;
-      write_failures = c.in-Ok-listen.ensures.no_failure ∙ c.in-Ok-drain.ensures.link.no_failure ∙ c.loop-made.invariant.write_failures;
+      turns = reads_on c.loop-made.made c.loop-made.made 1 1 _ _ _ _ c.loop-made.invariant.turns c.drain.ensures.link.input c.in-Ok-listen.ensures.reads;
+      read_failures = c.in-Ok-listen.ensures.read_failures (λ e. cc) ∙ ap (λ (i : Input). i.failures) c.drain.ensures.link.input ∙ c.loop-made.invariant.read_failures;
+      write_failures = c.in-Ok-listen.ensures.write_failures (λ e. cc) ∙ c.in-Ok-drain.ensures.link.no_failure (λ e. cc) ∙ c.loop-made.invariant.write_failures;
       losses = c.listen.ensures.losses ∙ c.drain.ensures.losses ∙ c.loop-made.invariant.losses;
     }
 
@@ -100,7 +103,7 @@ returns-in-Err-listen-clause-ran g c =
       (
         ends_for_none g.J.Jobs.tells g.J.Jobs.fails c.args.jobs.now c.drain.new.jobs left.told _ _ _ _ c.in-Err-listen.cause left.ran next.3.0,
         reason_from (session_of duty before next.0) older old new c.listen.new.state.tally (g.P.PoolPort.book c.listen.new.port) c.in-Err-listen.cause next.3.1
-            (ap (λ (i : Input). i.failures) c.drain.ensures.link.input ∙ c.loop-made.invariant.read_failures) (c.in-Ok-drain.ensures.link.no_failure ∙ c.loop-made.invariant.write_failures),
+            (ap (λ (i : Input). i.failures) c.drain.ensures.link.input ∙ c.loop-made.invariant.read_failures) (c.in-Ok-drain.ensures.link.no_failure (λ e. cc) ∙ c.loop-made.invariant.write_failures),
       ),
     )
 
@@ -114,7 +117,7 @@ returns-in-Ok-drain-2-clause-ran g c =
     let before = (g.L.Device.output c.args.link.now).got in
     let now = c.loop-made.invariant.serving in
     let left = c.in-Ok-drain-2.ensures.leaves c.args.jobs.now before now.0 now.3 in
-    (now.0, ap (λ (i : Input). i.given) c.drain-2.ensures.link.input ∙ now.1, (serving_halts (duty_in c.args.worker.now) (AreTold g.J.Jobs.tells c.args.jobs.now c.drain-2.new.jobs) (EndTold g.J.Jobs.tells g.J.Jobs.fails c.args.jobs.now c.drain-2.new.jobs) before now.0 _ _ c.drain-2.new.state _ TurnsUsed left (c.drain-2.new.jobs, left.ran, inl (refl, λ e. cc)) tt (λ e. cc), (ap (λ (i : Input). i.failures) c.drain-2.ensures.link.input ∙ c.loop-made.invariant.read_failures, c.in-Ok-drain-2.ensures.link.no_failure ∙ c.loop-made.invariant.write_failures)))
+    (now.0, ap (λ (i : Input). i.given) c.drain-2.ensures.link.input ∙ now.1, (serving_halts (duty_in c.args.worker.now) (AreTold g.J.Jobs.tells c.args.jobs.now c.drain-2.new.jobs) (EndTold g.J.Jobs.tells g.J.Jobs.fails c.args.jobs.now c.drain-2.new.jobs) before now.0 _ _ c.drain-2.new.state _ TurnsUsed left c.in-Ok-drain-2.ensures.all_given (c.drain-2.new.jobs, left.ran, inl (refl, λ e. cc)) tt (λ e. cc), (ap (λ (i : Input). i.failures) c.drain-2.ensures.link.input ∙ c.loop-made.invariant.read_failures, c.in-Ok-drain-2.ensures.link.no_failure (λ e. cc) ∙ c.loop-made.invariant.write_failures)))
 
 pub returns-clause-ran : goal.returns-clause-ran
 returns-clause-ran g c =
@@ -124,4 +127,68 @@ returns-clause-ran g c =
     let new : Link = record { input = g.L.Device.input c.drain-2.new.link; output = g.L.Device.output c.drain-2.new.link } in
     let now = c.loop-made.invariant.serving in
     let left = c.in-Err-drain-2.ensures.leaves c.args.jobs.now before now.0 now.3 in
-    (now.0, ap (λ (i : Input). i.given) c.drain-2.ensures.link.input ∙ now.1, (left, outer_reason (session_of duty before now.0) old new c.drain-2.new.state.tally (g.P.PoolPort.book c.drain-2.new.port) c.in-Err-drain-2.cause (c.in-Err-drain-2.ensures.reason c.args.jobs.now before now.0 now.3) (λ x. c.in-Err-drain-2.ensures.link.write_fault (ap (λ (y : EndCause). let z : Result (Unit {0}) EndCause = Err y in z) x) ∙ ap (λ (n : ℕ). n + 1) c.loop-made.invariant.write_failures) (λ x. (ap (λ (i : Input). i.failures) c.drain-2.ensures.link.input ∙ c.loop-made.invariant.read_failures, c.in-Err-drain-2.ensures.link.memory (ap (λ (y : EndCause). let z : Result (Unit {0}) EndCause = Err y in z) x) ∙ c.loop-made.invariant.write_failures))))
+    (now.0, ap (λ (i : Input). i.given) c.drain-2.ensures.link.input ∙ now.1, (left, outer_reason (session_of duty before now.0) old new c.drain-2.new.state.tally (g.P.PoolPort.book c.drain-2.new.port) c.in-Err-drain-2.cause (c.in-Err-drain-2.ensures.reason c.args.jobs.now before now.0 now.3) (λ x. c.in-Err-drain-2.ensures.link.write_fault (ap (λ (y : EndCause). let z : Result (Unit {0}) EndCause = Err y in z) x) ∙ ap (λ (n : ℕ). n + 1) c.loop-made.invariant.write_failures) (λ x. (ap (λ (i : Input). i.failures) c.drain-2.ensures.link.input ∙ c.loop-made.invariant.read_failures, c.in-Err-drain-2.ensures.link.no_failure (memory_is_other _ (ap (λ (y : EndCause). let z : Result (Unit {0}) EndCause = Err y in z) x)) ∙ c.loop-made.invariant.write_failures))))
+
+pub returns-in-Err-clause-turns : goal.returns-in-Err-clause-turns
+returns-in-Err-clause-turns g c =
+    reads_ended c.args.worker.now.place.turns 0 0 c.in-Err.cause _ _ (λ same. subst (PortReason c.args.worker.now.pass.now.generation (g.P.PoolPort.book c.begin.new.port)) same c.in-Err.ensures.reason)
+    (omega arith) (no_reads _ _ c.begin.ensures.link.input)
+
+pub returns-in-Err-drain-clause-turns : goal.returns-in-Err-drain-clause-turns
+returns-in-Err-drain-clause-turns g c =
+    let before = (g.L.Device.output c.args.link.now).got in
+    let now = c.loop-made.invariant.serving in
+    let session = session_of (duty_in c.args.worker.now) before now.0 in
+    let reads = reads_on c.loop-made.made c.loop-made.made 0 0 _ _ _ _ c.loop-made.invariant.turns c.drain.ensures.link.input (no_reads _ _ refl) in
+    reads_ended c.args.worker.now.place.turns (c.loop-made.made + 0) (c.loop-made.made + 0) c.in-Err-drain.cause _ _
+    (λ same. subst (ReadReason session c.drain.new.state.tally (g.P.PoolPort.book c.drain.new.port)) same (c.in-Err-drain.ensures.reason c.args.jobs.now before now.0 now.3))
+    (let within = c.loop-made.invariant.within in omega (arith, within)) reads
+
+pub returns-in-Err-listen-clause-turns : goal.returns-in-Err-listen-clause-turns
+returns-in-Err-listen-clause-turns g c =
+    let reads = reads_on c.loop-made.made c.loop-made.made 0 1 _ _ _ _ c.loop-made.invariant.turns c.drain.ensures.link.input c.in-Err-listen.ensures.reads in
+    reads_ended c.args.worker.now.place.turns (c.loop-made.made + 0) (c.loop-made.made + 1) c.in-Err-listen.cause _ _ c.in-Err-listen.ensures.no_turns
+    (let within = c.loop-made-test.true in omega (arith, within)) reads
+
+pub returns-in-Ok-drain-2-clause-turns : goal.returns-in-Ok-drain-2-clause-turns
+returns-in-Ok-drain-2-clause-turns g c =
+    let reads = reads_on c.loop-made.made c.loop-made.made 0 0 _ _ _ _ c.loop-made.invariant.turns c.drain-2.ensures.link.input (no_reads _ _ refl) in
+    reads_within 4096 (c.loop-made.made + 0) (c.loop-made.made + 0) c.args.worker.now.place.turns c.args.worker.now.place.turns _ _ refl
+    (let past = c.loop-made-test.false in omega (arith, past)) (let within = c.loop-made.invariant.within in omega (arith, within)) reads
+
+pub returns-clause-turns : goal.returns-clause-turns
+returns-clause-turns g c =
+    let before = (g.L.Device.output c.args.link.now).got in
+    let now = c.loop-made.invariant.serving in
+    let session = session_of (duty_in c.args.worker.now) before now.0 in
+    let reads = reads_on c.loop-made.made c.loop-made.made 0 0 _ _ _ _ c.loop-made.invariant.turns c.drain-2.ensures.link.input (no_reads _ _ refl) in
+    reads_ended c.args.worker.now.place.turns (c.loop-made.made + 0) (c.loop-made.made + 0) c.in-Err-drain-2.cause _ _
+    (λ same. subst (ReadReason session c.drain-2.new.state.tally (g.P.PoolPort.book c.drain-2.new.port)) same (c.in-Err-drain-2.ensures.reason c.args.jobs.now before now.0 now.3))
+    (let within = c.loop-made.invariant.within in omega (arith, within)) reads
+
+pub returns-in-Err-clause-faults : goal.returns-in-Err-clause-faults
+returns-in-Err-clause-faults g c = (λ o. ap (λ (i : Input). i.failures) c.begin.ensures.link.input, λ o. c.in-Err.ensures.link.no_failure (λ x. o (same_cause _ _ x)))
+
+pub returns-in-Err-drain-clause-faults : goal.returns-in-Err-drain-clause-faults
+returns-in-Err-drain-clause-faults g c = (
+  λ o. ap (λ (i : Input). i.failures) c.drain.ensures.link.input ∙ c.loop-made.invariant.read_failures,
+  λ o. c.in-Err-drain.ensures.link.no_failure (λ x. o (same_cause _ _ x)) ∙ c.loop-made.invariant.write_failures,
+)
+
+pub returns-in-Err-listen-clause-faults : goal.returns-in-Err-listen-clause-faults
+returns-in-Err-listen-clause-faults g c = (
+  λ o. c.in-Err-listen.ensures.read_failures (λ x. o (same_cause _ _ x)) ∙ ap (λ (i : Input). i.failures) c.drain.ensures.link.input ∙ c.loop-made.invariant.read_failures,
+  λ o. c.in-Err-listen.ensures.write_failures (λ x. o (same_cause _ _ x)) ∙ c.in-Ok-drain.ensures.link.no_failure (λ e. cc) ∙ c.loop-made.invariant.write_failures,
+)
+
+pub returns-in-Ok-drain-2-clause-faults : goal.returns-in-Ok-drain-2-clause-faults
+returns-in-Ok-drain-2-clause-faults g c = (
+  λ o. ap (λ (i : Input). i.failures) c.drain-2.ensures.link.input ∙ c.loop-made.invariant.read_failures,
+  λ o. c.in-Ok-drain-2.ensures.link.no_failure (λ e. cc) ∙ c.loop-made.invariant.write_failures,
+)
+
+pub returns-clause-faults : goal.returns-clause-faults
+returns-clause-faults g c = (
+  λ o. ap (λ (i : Input). i.failures) c.drain-2.ensures.link.input ∙ c.loop-made.invariant.read_failures,
+  λ o. c.in-Err-drain-2.ensures.link.no_failure (λ x. o (same_cause _ _ x)) ∙ c.loop-made.invariant.write_failures,
+)

@@ -14,8 +14,8 @@ returns-in-Some g c =
     let end : SessionEnd = record { cause = c.serve-cause.result; grabbed = tally.grabbed; answered = tally.answered; reported = tally.reported } in
     let ran = c.serve-cause.ensures.ran in
     let kept = promised_lost c.says_its_packets.ensures duty (EndTold g.J.Jobs.tells g.J.Jobs.fails c.args.jobs.now c.serve-cause.new.jobs) ran.0 old.output.got old new (g.P.PoolPort.book c.serve-cause.new.port) (g.P.PoolPort.book c.lose.new.self) end c.in-Some.loss
-    ran.2 c.serve-cause.ensures.losses (sym c.loss.ensures.exact ∙ c.in-Some.is) c.lose.ensures in
-    record { served = (ran.0, kept.0, kept.1, ran.1, kept.2, kept.3, kept.4) }
+    ran.2 c.serve-cause.ensures.faults c.serve-cause.ensures.losses (sym c.loss.ensures.exact ∙ c.in-Some.is) c.lose.ensures in
+    record { served = (ran.0, kept.0, kept.1, ran.1, kept.2, kept.3, kept.4); turns = c.serve-cause.ensures.turns }
 
 pub returns-in-None : goal.returns-in-None
 returns-in-None g c =
@@ -26,5 +26,5 @@ returns-in-None g c =
     let end : SessionEnd = record { cause = c.serve-cause.result; grabbed = tally.grabbed; answered = tally.answered; reported = tally.reported } in
     let ran = c.serve-cause.ensures.ran in
     let kept = promised_kept c.says_its_packets.ensures duty (EndTold g.J.Jobs.tells g.J.Jobs.fails c.args.jobs.now c.serve-cause.new.jobs) ran.0 old.output.got old new (g.P.PoolPort.book c.serve-cause.new.port) end
-    ran.2 c.serve-cause.ensures.losses (sym c.loss.ensures.exact ∙ c.in-None.is) in
-    record { served = (ran.0, kept.0, kept.1, ran.1, kept.2, kept.3, kept.4) }
+    ran.2 c.serve-cause.ensures.faults c.serve-cause.ensures.losses (sym c.loss.ensures.exact ∙ c.in-None.is) in
+    record { served = (ran.0, kept.0, kept.1, ran.1, kept.2, kept.3, kept.4); turns = c.serve-cause.ensures.turns }
