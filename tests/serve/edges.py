@@ -8,6 +8,7 @@ is in the folder.
 
 import contextlib
 import fcntl
+import itertools
 import os
 import re
 import resource
@@ -55,9 +56,9 @@ IFF_UP, SIOCSIFFLAGS = 1, 0x8914
 LEFT_OUT = re.compile(r"left out (\d+) lines")
 
 
-def settings(server, others, job_timeout_ms=60_000):
+def settings(server, others, job_timeout_ms=60_000, round_ms=ROUND_MS):
     """The settings of a farm with these further machines, with its job server at this port."""
-    lines = ["version = 1", f'server = "{HOST}:{server}"', f"round_ms = {ROUND_MS}", "lull_ms = 20"]
+    lines = ["version = 1", f'server = "{HOST}:{server}"', f"round_ms = {round_ms}", "lull_ms = 20"]
     lines += [f"job_timeout_ms = {job_timeout_ms}", "[functions.upper]"]
     for name, workers in [*((name, WORKERS) for name in HOSTS), *((name, 1) for name in others)]:
         lines.append(f'[machines.{name}]\nworkers = {workers}\nfunctions = ["upper"]')
@@ -131,6 +132,12 @@ class Edge:
 
     def has_all_workers(self):
         return self.metric("poolman_alive_workers") == WORKERS * len(HOSTS)
+
+    def sessions(self):
+        """How many workers of the farm have given their name to the job server."""
+        with contextlib.closing(socket.create_connection((HOST, self.server), PATIENCE)) as admin, admin.makefile("rb") as said:
+            admin.sendall(b"workers\n")
+            return sum(b"#" in line for line in itertools.takewhile(lambda line: line != b".\n", said))
 
     def holds_no_good_host_unreached(self):
         said = [line for line in self.lines() if line.startswith("unreached ") and line.split()[1] in HOSTS]
@@ -441,6 +448,21 @@ def idle_workers_end_with_their_host(program, processes):
     edge.end(300)
 
 
+def idle_workers_see_that_their_service_closed(program, processes):
+    """A service is killed between two attempts. Its workers see that their connections were closed, and end before the next one."""
+    edge = Edge(program, processes)
+    edge.write("settings", settings(edge.server, (), round_ms=600_000))
+    edge.start()
+    wait_until(lambda: edge.sessions() == WORKERS * len(HOSTS), PATIENCE, "the job server knows all workers")
+    edge.kill("north")
+    wait_until(lambda: len(edge.causes(r"north/\d#1")) == WORKERS, PATIENCE, "the workers of the host end")
+    lines = edge.lines()
+    held(lines.count("unreached north Unreachable") == 1, "the host is not missed once")
+    held(edge.causes() == ["Stopped"] * WORKERS, f"they ended so: {edge.causes()}")
+    held(sum(line.startswith("attempt ") for line in lines) == 1, "they ended after a further attempt")
+    edge.end(0)
+
+
 def one_job_is_never_served(program, processes):
     """A job comes again and again, and each time its connection is closed without a response. No host is left alone for that, and the jobs
     of others are done."""
@@ -467,6 +489,7 @@ PARTS = (
     too_few_descriptors_at_first,
     a_report_is_taken_slowly,
     idle_workers_end_with_their_host,
+    idle_workers_see_that_their_service_closed,
     one_job_is_never_served,
 )
 

@@ -12,10 +12,8 @@ pub trait Look: Device {
     ghost quiet: { Self → Option Bool };
 
     /// Whether it is open, and nothing has come that was not read. It does not wait, and takes nothing.
-    fn is_quiet(&mut self) -> bool
-        ensures quiet { IfSome (Self.quiet self.old) (λ quiet. result ≡ quiet) }
-        ensures input { Self.input self.new ≡ Self.input self.old }
-        ensures output { Self.output self.new ≡ Self.output self.old };
+    fn is_quiet(&self) -> bool
+        ensures quiet { IfSome (Self.quiet self.now) (λ quiet. result ≡ quiet) };
 
     /// Lets each write from now on take so many milliseconds, and no longer. A connection whose writes never wait need not know.
     fn limit_writes(&mut self, _milliseconds: u64)

@@ -1,6 +1,6 @@
 //! The jobs of a service, over one connection that is kept.
 
-ghost use Rattle.std.specs.Prelude.{◌≡◌, ◌++◌, ◌+◌, ◌∷◌, [], ℕ, List, Option, Bool, IfOk, IfErr, Ok, Some, None, true};
+ghost use Rattle.std.specs.Prelude.{◌≡◌, ◌++◌, ◌+◌, ◌∷◌, [], ℕ, List, Option, Bool, IfOk, IfErr, IfSome, Ok, Some, None, true, false, not};
 ghost use Rattle.gear_packets.specs.Reading.{job_of};
 ghost use Rattle.http_jobs.specs.Response.{reply_of};
 ghost use Rattle.std.specs.Option.{option_map};
@@ -20,7 +20,7 @@ use crate::service::Service;
 use byte_io::{Sink, Source, deadline_from, is_past};
 use devices::DialError;
 use gear_packets::Assignment;
-use job_runner::{Jobs, Outcome};
+use job_runner::{Jobs, Outcome, Readiness};
 use std::alloc::Global;
 use std::snapshot::Snapshot;
 
@@ -144,6 +144,14 @@ impl<L: Source + Sink + Look + Drop, D: Dial<L>, C: Clock> ServiceJobs<L, D, C> 
         Ok(())
     }
 
+    /// Whether a connection is kept that was closed by the service, or over which came what nobody asked for. It does not wait.
+    pub fn is_lost(&self) -> bool
+        ensures none { self.now.kept ≡ None → result ≡ false }
+        ensures shown { IfSome self.now.kept (λ link. IfSome (L.quiet link) (λ quiet. result ≡ not quiet)) }
+    {
+        self.kept.as_ref().is_some_and(|link| !link.is_quiet())
+    }
+
     /// The kept connection, if it is quiet and not idle for too long. Else it is closed.
     fn reuse(&mut self, is_idle: bool) -> Option<L>
         ensures kept { self.new.kept ≡ None }
@@ -155,7 +163,7 @@ impl<L: Source + Sink + Look + Drop, D: Dial<L>, C: Clock> ServiceJobs<L, D, C> 
             × Reuses (visible L.input L.output L.quiet self.old.kept (D.calls self.old.dial) (C.shown self.old.clock)) calls
             (option_map (seen_link L.input L.output) result) }
     {
-        let mut link = self.kept.take()?;
+        let link = self.kept.take()?;
         if !is_idle && link.is_quiet() {
             return Some(link);
         }
@@ -280,5 +288,13 @@ impl<L: Source + Sink + Look + Drop, D: Dial<L>, C: Clock> Jobs for ServiceJobs<
         job: Assignment,
     ) -> Result<Option<Outcome>, job_runner::NotDone> {
         Ok(Reply::outcome_in(self.serve(alloc, &job)?))
+    }
+
+    fn readiness(&self) -> Readiness {
+        if self.is_lost() {
+            Readiness::Lost
+        } else {
+            Readiness::Ready
+        }
     }
 }

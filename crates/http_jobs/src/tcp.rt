@@ -42,7 +42,7 @@ impl Look for TcpLink {
 
     ghost quiet = { λ _. None };
 
-    fn is_quiet(&mut self) -> bool {
+    fn is_quiet(&self) -> bool {
         TcpLink::is_quiet(self)
     }
 

@@ -12,7 +12,7 @@ use crate::place::{Grabs, Place, Reports, RunBoard, RunId};
 use crate::shared::Shared;
 use crate::steps::GivenJob;
 use gear_packets::Handle;
-use job_runner::{Gone, GrabRefusal, PoolPort};
+use job_runner::{Gone, GrabRefusal, PoolPort, Readiness};
 use pool_core::{GrabError, Pass, StayOrRetire};
 use std::snapshot::Snapshot;
 use std::sync::Wait;
@@ -32,9 +32,9 @@ pub trait Watch {
         false
     }
 
-    /// Whether the worker may ask for one more job. Its session looks at this whenever it reads its order: before each request for a job
-    /// and at each timeout. If not, the order is to stop.
-    fn may_go_on(&self, _worker: WorkerName) -> bool {
+    /// Whether the worker, whose jobs are run by what is so, may ask for one more job. Its session looks at this whenever it reads its order:
+    /// before each request for a job and at each timeout. If not, the order is to stop.
+    fn may_go_on(&self, _worker: WorkerName, _readiness: Readiness) -> bool {
         true
     }
 }
@@ -56,6 +56,7 @@ pub struct SharedPort<'a, N: RunId, C, R> {
     grab_share: Share<Grabs<N>>,
     report_share: Share<Reports<N>>,
     jobs_done: JobCounts,
+    readiness: Readiness,
     calls: Snapshot<Calls>,
     ghost grab_part: { grab_share.parts ≡ 1 },
     ghost report_part: { report_share.parts ≡ 1 },
@@ -90,6 +91,7 @@ impl<'a, N: RunId, C: Watch, R: Wait> SharedPort<'a, N, C, R> {
             grab_share,
             report_share,
             jobs_done: JobCounts::none(),
+            readiness: Readiness::Ready,
             calls: Snapshot::of(&Calls::New),
         }
     }
@@ -117,6 +119,7 @@ impl<'a, N: RunId, C: Watch, R: Wait> SharedPort<'a, N, C, R> {
             grab_share,
             report_share,
             jobs_done: _,
+            readiness: _,
             calls: _,
         } = self;
         (grab_share, report_share, place)
@@ -139,6 +142,10 @@ impl<'a, N: RunId, C: Watch, R: Wait> PoolPort for SharedPort<'a, N, C, R> {
 
     ghost book = { λ p. book_of p.calls.value };
 
+    fn note_readiness(&mut self, readiness: Readiness) {
+        self.readiness = readiness;
+    }
+
     #[tactic(auto, using(crate::proofs::Seen::seen_more))]
     fn order(&mut self, pass: &Pass) -> Order
         ensures book { book_of self.new.calls.value ≡ after_order (book_of self.old.calls.value) result }
@@ -147,7 +154,7 @@ impl<'a, N: RunId, C: Watch, R: Wait> PoolPort for SharedPort<'a, N, C, R> {
         ensures slot { self.new.place.seat.slot ≡ self.old.place.seat.slot }
     {
         // (the watch may take its time, and what is posted meanwhile is to be read)
-        let may_go_on = self.watch.may_go_on(pass.name());
+        let may_go_on = self.watch.may_go_on(pass.name(), self.readiness);
         let read = self.run.board.read_by(&mut self.place.seat);
         let order = if may_go_on {
             read

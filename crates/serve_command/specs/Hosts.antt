@@ -10,6 +10,8 @@ use Rattle.http_jobs.specs.declared.fault.NotDone.{NotDone}
 use Rattle.http_jobs.specs.declared.fault.NotDone.TheVariants as not_done
 use Rattle.http_jobs.specs.declared.fault.Unserved.TheVariants as unserved
 use Rattle.http_jobs.specs.declared.outcome.Reply.{Reply}
+use Rattle.job_runner.specs.declared.jobs.Readiness.{Readiness}
+use Rattle.job_runner.specs.declared.jobs.Readiness.TheVariants.{Ready, Lost}
 use Rattle.serve_command.specs.declared.host_sign.HostSign.{HostSign}
 use Rattle.serve_command.specs.declared.host_sign.HostSign.TheVariants as sign
 use Rattle.serve_command.specs.declared.host_state.BeforeJob.{BeforeJob}
@@ -56,16 +58,16 @@ abbrev pub trier_of : HostState → Option WorkerName
 trier_of (state.Present presence) = None
 trier_of (state.Away absence) = absence.trier
 
--- it asks, after a look if nothing was heard of its host for long
+-- it asks, after a look at its host if it has cause for one
 abbrev pub asking : Bool → BeforeJob
-asking is_silent = if is_silent then Look else Ask
+asking has_to_look = if has_to_look then Look else Ask
 
 -- What a worker does before it asks for one more job, by why its host is left alone, whether it is the one that tries the host, and whether
--- nothing was heard of the host for long. One that was not reached is dialled; and of one whose jobs are not served all other workers end.
+-- it has cause to look at the host. One that was not reached is dialled; and of one whose jobs are not served all other workers end.
 abbrev pub before_job : Option Reason → Bool → Bool → BeforeJob
-before_job (Some Unreachable) is_trier is_silent = Dial
-before_job (Some Unserved) is_trier is_silent = if is_trier then asking is_silent else End
-before_job None is_trier is_silent = asking is_silent
+before_job (Some Unreachable) is_trier has_to_look = Dial
+before_job (Some Unserved) is_trier has_to_look = if is_trier then asking has_to_look else End
+before_job None is_trier has_to_look = asking has_to_look
 
 -- it is left alone, and from this attempt on one worker may try it
 abbrev pub is_due : HostState → ℕ → Bool
@@ -75,6 +77,11 @@ is_due (state.Away absence) attempt = nat_le absence.due attempt
 -- none of its workers is at a job there or takes a look, and nothing was heard of it for four attempts
 abbrev pub is_silent : HostEntry → ℕ → Bool
 is_silent host attempt = (host.busy == 0) && nat_le (min (host.heard + 4) (2 ^ 64 - 1)) attempt
+
+-- A worker has cause to look at its host if the connection that it kept was closed, or if the host is silent.
+abbrev pub has_to_look : Readiness → HostEntry → ℕ → Bool
+has_to_look Lost host attempt = true
+has_to_look Ready host attempt = is_silent host attempt
 
 -- why it is left alone once a connection was opened, by what it was before
 abbrev pub after_opening : Option Reason → Option Reason

@@ -12,11 +12,12 @@ use devices::DialError;
 use farm_notes::JobEnd;
 use gear_packets::{Assignment, Handle};
 use http_jobs::{Reply, ServiceJobs, dial_words};
-use job_runner::{End, Jobs, NotDone, Outcome};
+use job_runner::{End, Jobs, NotDone, Outcome, Readiness};
 use plan_model::{FuncId, MachineId, SlotId};
 use pool_supervisor::JobSource;
 use std::alloc::{AllocError, Global};
-use std::sync::Wait;
+use std::mem;
+use std::sync::{Mutex, Wait};
 use worker_state::WorkerName;
 
 /// Gives each worker of a farm the jobs of its machine's service.
@@ -115,6 +116,7 @@ impl<'e, H: FarmHost> JobSource for FarmSource<'e, H> {
             slot,
             generation,
             jobs,
+            told_lost: Mutex::new(false),
         })
     }
 
@@ -133,6 +135,8 @@ pub struct FarmJobs<'e, H: FarmHost> {
     slot: SlotId,
     generation: u32,
     jobs: ServiceJobs<H::Call, H::Dials, H::Times>,
+    /// Whether it was told since the last job that the kept connection is lost.
+    told_lost: Mutex<bool>,
 }
 
 /// What is new of the machine's host after this job, which told so much of it.
@@ -256,6 +260,7 @@ impl<'e, H: FarmHost> Jobs for FarmJobs<'e, H> {
         self.books.tally.begin(self.host, function);
         let timeout_ms = self.books.farm.timeout_ms(&job.function);
         self.jobs.set_timeout(timeout_ms as u64);
+        self.told_lost = Mutex::new(false);
         self.books.hosts.begin_job(self.host, self.machine);
         let done = self.jobs.serve(alloc, &job);
         self.books.hosts.end_job(self.host, self.machine);
@@ -278,5 +283,14 @@ impl<'e, H: FarmHost> Jobs for FarmJobs<'e, H> {
         let answered = answered_of(alloc, job, function, &done);
         drop(self.books.last_jobs.keep(self.host, worker, answered));
         Ok(Reply::outcome_in(done?))
+    }
+
+    /// A lost connection is told once: a service may close each one that is idle, and its workers are not to dial it at each timeout.
+    fn readiness(&self) -> Readiness {
+        if self.jobs.is_lost() && !mem::replace(&mut *self.told_lost.lock(self.host), true) {
+            Readiness::Lost
+        } else {
+            Readiness::Ready
+        }
     }
 }

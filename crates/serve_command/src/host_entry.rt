@@ -7,6 +7,7 @@ use crate::host_state::{BeforeJob, HostState, Presence, Reason};
 use crate::left_jobs::LeftJobs;
 use devices::DialError;
 use gear_packets::Handle;
+use job_runner::Readiness;
 use plan_model::MachineId;
 use std::mem;
 use worker_state::WorkerName;
@@ -88,18 +89,30 @@ impl HostEntry {
         self.state = self.state.after_join(attempt);
     }
 
-    /// What a worker does before it asks for one more job in this attempt. Of those that find a host silent one takes a look, and until it
-    /// has looked no other does: a look-up may take long. A host that has a job to do is not silent: a service that does one job after the
-    /// other would leave such dials waiting, until its queue is full.
-    pub fn before_job(&mut self, worker: WorkerName, attempt: u64) -> BeforeJob
+    /// Whether it has no job to do and takes no look, and for four attempts was not heard of. A host that has a job to do is not silent: a
+    /// service that does one job after the other would leave such dials waiting, until its queue is full.
+    fn is_silent(&self, attempt: u64) -> bool
+        ensures { result ≡ spec.is_silent self.now attempt }
+    {
+        self.busy == 0 && self.heard.saturating_add(LONGEST_SILENCE) <= attempt
+    }
+
+    /// What a worker, whose jobs are run by what is so, does before it asks for one more job in this attempt. One whose connection was closed
+    /// takes a look. Of those that find a host silent one does, and until it has looked no other does for that: a look-up may take long.
+    pub fn before_job(
+        &mut self,
+        worker: WorkerName,
+        readiness: Readiness,
+        attempt: u64,
+    ) -> BeforeJob
         ensures does { (is_trier : Bool) × ((is_trier ≡ true) ↔ (spec.trier_of self.old.state ≡ Some worker))
-            × (result ≡ spec.before_job (spec.reason_of self.old.state) is_trier (spec.is_silent self.old attempt)) }
+            × (result ≡ spec.before_job (spec.reason_of self.old.state) is_trier (spec.has_to_look readiness self.old attempt)) }
         ensures state { self.new.state ≡ self.old.state }
     {
-        let is_silent = self.busy == 0 && self.heard.saturating_add(LONGEST_SILENCE) <= attempt;
+        let has_to_look = readiness == Readiness::Lost || self.is_silent(attempt);
         let does = self
             .state
-            .before_job(self.state.is_tried_by(worker), is_silent);
+            .before_job(self.state.is_tried_by(worker), has_to_look);
         if does == BeforeJob::Look {
             self.heard = attempt;
             self.busy = self.busy.saturating_add(1);

@@ -39,7 +39,8 @@ pub enum BeforeJob {
     Ask,
     /// It dials its host, to which a dial failed before, and asks if that is reached, or if nothing is learnt of it.
     Dial,
-    /// It dials its host, of which nothing was heard for long, to see whether it is still there. It asks as after a dial.
+    /// It dials its host to see whether it is still there: the worker's connection was closed, or nothing was heard of the host for long. It
+    /// asks as after a dial.
     Look,
     /// It ends.
     End,
@@ -263,14 +264,14 @@ impl HostState {
         }
     }
 
-    /// What a worker does before it asks for one more job, which may have come to try the host. For long nothing may have been heard of it.
-    pub fn before_job(self, is_trier: bool, is_silent: bool) -> BeforeJob
-        ensures { result ≡ spec.before_job (spec.reason_of self) is_trier is_silent }
+    /// What a worker does before it asks for one more job. It may have come to try the host, and it may have cause to look at it.
+    pub fn before_job(self, is_trier: bool, has_to_look: bool) -> BeforeJob
+        ensures { result ≡ spec.before_job (spec.reason_of self) is_trier has_to_look }
     {
         match self.reason() {
             Some(Reason::Unreachable) => BeforeJob::Dial,
             Some(Reason::Unserved) if !is_trier => BeforeJob::End,
-            _ if is_silent => BeforeJob::Look,
+            _ if has_to_look => BeforeJob::Look,
             _ => BeforeJob::Ask,
         }
     }

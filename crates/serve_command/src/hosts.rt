@@ -4,6 +4,7 @@ use crate::host_entry::{HostEntry, HostNews, MachineSlot};
 use crate::host_state::{BeforeJob, Reason};
 use devices::DialError;
 use gear_packets::Handle;
+use job_runner::Readiness;
 use plan_model::MachineId;
 use std::alloc::{AllocError, Global};
 use std::sync::{Mutex, Wait};
@@ -68,13 +69,20 @@ impl Hosts {
         }
     }
 
-    /// What a worker of the machine does before it asks for one more job. At a host that has no job to do, and for four attempts has taken
-    /// no connection and served no job, one worker takes a look, up to `end_look`.
-    pub fn before_job<R: Wait>(&self, rt: &R, machine: MachineId, worker: WorkerName) -> BeforeJob {
+    /// What a worker of the machine, whose jobs are run by what is so, does before it asks for one more job. A worker whose connection was
+    /// closed takes a look at the host, up to `end_look`. So does one worker of a host that has no job to do, and for four attempts has
+    /// taken no connection and served no job.
+    pub fn before_job<R: Wait>(
+        &self,
+        rt: &R,
+        machine: MachineId,
+        worker: WorkerName,
+        readiness: Readiness,
+    ) -> BeforeJob {
         let mut held = self.table.lock(rt);
         let attempt = held.attempt;
         match held.hosts.get_mut(machine.number() as usize) {
-            Some(host) => host.before_job(worker, attempt),
+            Some(host) => host.before_job(worker, readiness, attempt),
             None => BeforeJob::End,
         }
     }
