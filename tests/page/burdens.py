@@ -76,13 +76,15 @@ def broken(program):
 
 
 def near_drips(program):
-    """As many clients of this machine as there are places drip a byte a second while a drain is asked for: it waits for one deadline at most."""
+    """Three clients of this machine for each place, which drip a byte a second and come again when they are cut off: a drain gets in."""
     with small_farm(program) as stage:
-        drips = Drips(HOST, stage.page.port, PLACES, again=False)
+        drips = Drips(HOST, stage.page.port, 3 * PLACES, again=True)
+        wait_until(lambda: drips.lost >= 5 * PLACES, PATIENCE, "clients are cut off, and come again")
         took = stage.end()
+        lost = drips.lost
         drips.stop()
-        held(took < PEER_SECONDS + 5, f"the drain took {took:.1f} seconds")
-        return f"a drain after {took:.1f} seconds"
+        held(took < 5, f"the drain took {took:.1f} seconds")
+        return f"{lost} were cut off, a drain after {took:.1f} seconds"
 
 
 def far_drips(program):

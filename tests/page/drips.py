@@ -11,11 +11,11 @@ REQUEST = b"POST /drain HTTP/1.1\r\nhost: localhost\r\npoolman: drain\r\nx: "
 
 class Drips:
     """So many of them at a port, each with the number of bytes that it has sent. With `again` each comes again within a second when it is cut
-    off. `cut` counts those that were cut off in mid request, and not turned away at once."""
+    off. `lost` counts how often that was, and `cut` how often it was in mid request, and not at once."""
 
     def __init__(self, host, port, count, again):
         self.host, self.port, self.count, self.again = host, port, count, again
-        self.done, self.cut = threading.Event(), 0
+        self.done, self.cut, self.lost = threading.Event(), 0, 0
         self.peers = {self.connect(): 0 for _ in range(count)}
         self.thread = threading.Thread(target=self.drip, daemon=True)
         self.thread.start()
@@ -28,6 +28,7 @@ class Drips:
     def lose(self, peer):
         """The server has closed this one's connection."""
         self.cut += self.peers.pop(peer) > 1
+        self.lost += 1
         peer.close()
 
     def send(self, peer):

@@ -1,9 +1,11 @@
 //! Places for peers, one of which only a near peer may take.
-ghost use Rattle.std.specs.Prelude.{◌≡◌, ◌+◌, ◌≤◌, IsTrue, IsFalse};
+ghost use Rattle.std.specs.Prelude.{◌≡◌, ◌+◌, ◌≤◌, IfSome, IsFalse, IsSome, IsTrue};
 ghost use Rattle.page_server.specs.Places.{has_room, is_near};
 
-use std::net::IpAddr;
-use std::sync::{Condvar, Mutex, Wait};
+use crate::guests::Guests;
+use std::alloc::Global;
+use std::net::{IpAddr, TcpStream};
+use std::sync::{Arc, Condvar, Mutex, Wait};
 use std::time::{Clock, Duration};
 
 /// How many peers are served at once.
@@ -43,7 +45,7 @@ impl Distance {
 }
 
 /// How many places are taken.
-#[derive(Drop)]
+#[derive(Clone, Copy)]
 struct Taken {
     all: u32,
     far: u32,
@@ -92,10 +94,50 @@ impl Taken {
     }
 }
 
-/// Places for 64 peers, of which 63 may be far away: so peers from elsewhere never keep out one from this machine.
+/// A peer's right to its place.
+#[derive(Clone, Copy, Debug)]
+pub struct Ticket {
+    /// Its number among the peers.
+    number: u64,
+    /// Where the peer is.
+    pub distance: Distance,
+}
+
+/// Who has a place.
+#[derive(Drop)]
+struct Held {
+    taken: Taken,
+    guests: Guests,
+}
+
+impl Held {
+    /// Takes a place for a peer with this connection, if there is one, and memory for its ticket.
+    fn take(&mut self, distance: Distance, stream: Arc<TcpStream>) -> Option<Ticket>
+        ensures room { IsSome result → IsTrue (has_room self.old.taken.all self.old.taken.far distance) }
+        ensures taken { IsSome result → self.new.taken.all ≡ self.old.taken.all + 1 }
+        ensures own { IfSome result (λ ticket. ticket.distance ≡ distance) }
+    {
+        let mut taken = self.taken;
+        if !taken.take(distance) {
+            return None;
+        }
+        let number = self.guests.come(stream).ok()?;
+        self.taken = taken;
+        Some(Ticket { number, distance })
+    }
+
+    /// Gives a place back.
+    fn leave(&mut self, ticket: Ticket) {
+        self.taken.leave(ticket.distance);
+        self.guests.leave(ticket.number);
+    }
+}
+
+/// Places for 64 peers, of which 63 may be far away. A near peer that finds none is given that of the peer that came first, unless all wait
+/// for the end of the farm: so neither peers from elsewhere nor slow ones of this machine ever keep out one from this machine.
 #[derive(Drop)]
 pub struct Places {
-    taken: Mutex<Taken>,
+    held: Mutex<Held>,
     left: Condvar,
 }
 
@@ -106,38 +148,68 @@ fn nobody() -> Taken {
 
 impl Places {
     /// Places that nobody has.
-    pub fn new() -> Places {
+    pub fn new(alloc: Global) -> Places {
         Places {
-            taken: Mutex::new(nobody()),
+            held: Mutex::new(Held {
+                taken: nobody(),
+                guests: Guests::new(alloc),
+            }),
             left: Condvar::new(),
         }
     }
 
-    /// Takes a place if there is one for such a peer. Whether there was.
-    pub fn take<R: Wait>(&self, rt: &R, distance: Distance) -> bool {
-        self.taken.lock(rt).take(distance)
+    /// Takes a place for a peer with this connection, if there is one, and memory for its ticket.
+    pub fn take<R: Wait>(
+        &self,
+        rt: &R,
+        distance: Distance,
+        stream: Arc<TcpStream>,
+    ) -> Option<Ticket> {
+        self.held.lock(rt).take(distance, stream)
+    }
+
+    /// The peer waits for the end of the farm, and keeps its place until it has ended.
+    pub fn keep<R: Wait>(&self, rt: &R, ticket: Ticket) {
+        self.held.lock(rt).guests.wait(ticket.number);
     }
 
     /// Gives a place back.
-    pub fn leave<R: Wait>(&self, rt: &R, distance: Distance) {
-        self.taken.lock(rt).leave(distance);
+    pub fn leave<R: Wait>(&self, rt: &R, ticket: Ticket) {
+        self.held.lock(rt).leave(ticket);
         self.left.notify_all();
+    }
+
+    /// Whether there is room for a near peer. If there is none, the connection is ended of the peer that came first among those that do not
+    /// wait for the end of the farm, and room is waited for, but no longer than so many milliseconds.
+    pub fn make_room<R: Wait + Clock>(&self, rt: &R, milliseconds: u32) -> bool {
+        let mut held = self.held.lock(rt);
+        if held.taken.all < MOST {
+            return true;
+        }
+        if !held.guests.cut_off_first() {
+            return false;
+        }
+        let most = Duration::from_millis(milliseconds as u64);
+        let (held, _) = self
+            .left
+            .wait_timeout_while(rt, held, most, |held| held.taken.all >= MOST);
+        held.taken.all < MOST
     }
 
     /// How many are taken.
     pub fn count<R: Wait>(&self, rt: &R) -> u32
         ensures { result ≤ 64 }
     {
-        self.taken.lock(rt).all
+        self.held.lock(rt).taken.all
     }
 
     /// Waits until nobody has one, but no longer than so many milliseconds. Whether nobody has.
     pub fn are_empty<R: Wait + Clock>(&self, rt: &R, milliseconds: u32) -> bool {
-        let held = self.taken.lock(rt);
+        let held = self.held.lock(rt);
         let most = Duration::from_millis(milliseconds as u64);
         let (held, _) = self
             .left
-            .wait_timeout_while(rt, held, most, |taken| taken.all > 0);
-        held.all == 0
+            .wait_timeout_while(rt, held, most, |held| held.taken.all > 0);
+        held.taken.all == 0
     }
 }

@@ -8,7 +8,7 @@ ghost use Rattle.farm_page.specs.declared.replying.Seen.{Seen};
 use crate::answering::{put_answer, put_header};
 use crate::asking::asked_by;
 use crate::limited::Limit;
-use crate::places::Distance;
+use crate::places::Ticket;
 use crate::shared_page::{PageTimes, SharedPage};
 use bytes::{BufMut, Bytes};
 use farm_page::{
@@ -36,8 +36,8 @@ pub struct PageService<'a, R> {
     pub place: Site<'a>,
     /// Until when the peer is served.
     pub limit: &'a Limit,
-    /// Where the peer is.
-    pub distance: Distance,
+    /// The peer's place.
+    pub ticket: Ticket,
     /// The times of the farm.
     pub times: PageTimes,
 }
@@ -87,6 +87,7 @@ impl<'a, R: Wait + Clock> PageService<'a, R> {
 
     /// Ends the farm, and answers with what it came to.
     fn drain(&self, response: &mut Response) -> Result<(), AllocError> {
+        self.page.places.keep(self.rt, self.ticket);
         self.page.end.raise(self.rt);
         let text = self
             .page
@@ -116,14 +117,14 @@ impl<'a, R: Wait + Clock> Service for PageService<'a, R> {
     ghost use Rattle.std.specs.Prelude.{◌≡◌};
     ghost use Rattle.page_server.specs.Answers.{IsAnswered};
 
-    ghost answers = { λ old request response new. (new ≡ old) × IsAnswered old.place old.distance request response };
+    ghost answers = { λ old request response new. (new ≡ old) × IsAnswered old.place old.ticket.distance request response };
 
     fn call(
         &mut self,
         request: &Request<Bytes>,
         response: &mut Response,
     ) -> Result<(), AllocError> {
-        let asked = asked_by(request, self.distance);
+        let asked = asked_by(request, self.ticket.distance);
         match self.reply(&asked)? {
             Reply::Told(answer) => put_answer(self.alloc, answer, response),
             Reply::Drain => self.drain(response),

@@ -1,20 +1,23 @@
 //! The threads of a page: one that lets peers in, and one for each of them.
 
 use crate::limited::{Limit, Limited};
-use crate::places::Distance;
+use crate::places::{Distance, Places, Ticket};
 use crate::service::PageService;
 use crate::shared_page::{Door, PageTimes, SharedPage};
 use farm_page::Site;
 use http_server::{Config, Connection, serve};
 use std::alloc::{AllocError, Global};
 use std::hash::RandomState;
-use std::net::{TcpListener, TcpStream};
+use std::net::{IpAddr, TcpListener, TcpStream};
 use std::sync::{Arc, Wait};
 use std::thread::{Builder, Threads};
 use std::time::Clock;
 
 /// How long a peer is served, in milliseconds from its accept on, over all that it asks.
 pub const PEER_MS: u32 = 10_000;
+
+/// For how many milliseconds a peer that was cut off is waited for at most. All that it waited for has failed by then.
+const LEAVE_MS: u32 = 1_000;
 
 /// For how many milliseconds the page rests if nobody knocks.
 const POLL_MS: u32 = 50;
@@ -41,7 +44,7 @@ fn serve_peer<R: Wait + Clock>(
     alloc: Global,
     hall: &Hall,
     stream: &TcpStream,
-    distance: Distance,
+    ticket: Ticket,
 ) {
     let Ok(limit) = Limit::from_now(rt, PEER_MS) else {
         return;
@@ -59,7 +62,7 @@ fn serve_peer<R: Wait + Clock>(
             hosts: &hall.hosts,
         },
         limit: &limit,
-        distance,
+        ticket,
         times: hall.times,
     };
     let mut reader = Limited {
@@ -80,14 +83,14 @@ fn welcome<R: Threads + Wait + Clock + Copy + Send + Sync + Drop + 'static>(
     rt: R,
     alloc: Global,
     hall: &Arc<Hall>,
-    stream: TcpStream,
-    distance: Distance,
+    stream: Arc<TcpStream>,
+    ticket: Ticket,
 ) -> Result<(), AllocError> {
     let theirs = Arc::try_clone(hall)?;
     let begun = Builder::new().stack_size(STACK).spawn(&rt, move || {
-        serve_peer(&rt, alloc, &theirs, &stream, distance);
+        serve_peer(&rt, alloc, &theirs, &stream, ticket);
         drop(stream);
-        theirs.page.places.leave(&rt, distance);
+        theirs.page.places.leave(&rt, ticket);
     });
     match begun {
         Ok(_) => Ok(()),
@@ -95,7 +98,42 @@ fn welcome<R: Threads + Wait + Clock + Copy + Send + Sync + Drop + 'static>(
     }
 }
 
-/// Lets peers in until the page is closed. A peer that finds no place, or no thread, is turned away at once.
+/// A place for a peer with this connection. A near one that finds none is given that of another.
+fn place_for<R: Wait + Clock>(
+    rt: &R,
+    places: &Places,
+    distance: Distance,
+    stream: &Arc<TcpStream>,
+) -> Option<Ticket> {
+    let ticket = places.take(rt, distance, Arc::try_clone(stream).ok()?);
+    if ticket.is_some() || !distance.is_near() || !places.make_room(rt, LEAVE_MS) {
+        return ticket;
+    }
+    places.take(rt, distance, Arc::try_clone(stream).ok()?)
+}
+
+/// Serves a peer that knocked from there, if there are a place and a thread for it. Else it is turned away at once.
+fn receive<R: Threads + Wait + Clock + Copy + Send + Sync + Drop + 'static>(
+    rt: R,
+    alloc: Global,
+    hall: &Arc<Hall>,
+    stream: TcpStream,
+    peer: IpAddr,
+) {
+    let called = stream.local_addr().ok().map(|called| called.ip());
+    let distance = Distance::of_peer(peer, called);
+    let Ok(stream) = Arc::new(alloc, stream) else {
+        return;
+    };
+    let Some(ticket) = place_for(&rt, &hall.page.places, distance, &stream) else {
+        return;
+    };
+    if welcome(rt, alloc, hall, stream, ticket).is_err() {
+        hall.page.places.leave(&rt, ticket);
+    }
+}
+
+/// Lets peers in until the page is closed.
 fn let_in<R: Threads + Wait + Clock + Copy + Send + Sync + Drop + 'static>(
     rt: R,
     alloc: Global,
@@ -104,14 +142,7 @@ fn let_in<R: Threads + Wait + Clock + Copy + Send + Sync + Drop + 'static>(
 ) {
     for _ in rt.forever() {
         match listener.accept() {
-            Ok((stream, peer)) => {
-                let called = stream.local_addr().ok().map(|called| called.ip());
-                let distance = Distance::of_peer(peer.ip(), called);
-                let has_place = hall.page.places.take(&rt, distance);
-                if has_place && welcome(rt, alloc, hall, stream, distance).is_err() {
-                    hall.page.places.leave(&rt, distance);
-                }
-            }
+            Ok((stream, peer)) => receive(rt, alloc, hall, stream, peer.ip()),
             Err(_) => hall.page.closed.rest(&rt, POLL_MS),
         }
         if hall.page.closed.is_raised(&rt) {

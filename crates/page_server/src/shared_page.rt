@@ -5,6 +5,7 @@ use crate::end_text::EndText;
 use crate::places::Places;
 use crate::shown::Shown;
 use farm_page::FarmView;
+use std::alloc::Global;
 use std::net::TcpListener;
 use std::sync::{Arc, Condvar, Mutex, Wait};
 use std::time::Clock;
@@ -75,12 +76,12 @@ impl Access {
 
 impl SharedPage {
     /// A page without a door, of a farm that has this flag.
-    pub fn new(end: Arc<EndFlag>) -> SharedPage {
+    pub fn new(alloc: Global, end: Arc<EndFlag>) -> SharedPage {
         SharedPage {
             end,
             shown: Shown::new(),
             end_text: EndText::new(),
-            places: Places::new(),
+            places: Places::new(alloc),
             closed: EndFlag::new(),
             access: Mutex::new(shut()),
             changed: Condvar::new(),

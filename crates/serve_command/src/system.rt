@@ -33,7 +33,7 @@ impl Edges {
     /// Those of a farm that goes on, before its first line. The only error is out of memory.
     pub fn new(alloc: Global) -> Result<Edges, AllocError> {
         let end = Arc::new(alloc, EndFlag::new())?;
-        let page = SharedPage::new(Arc::try_clone(&end)?);
+        let page = SharedPage::new(alloc, Arc::try_clone(&end)?);
         Ok(Edges {
             end,
             lines: LineQueue::new(alloc),
