@@ -8,6 +8,7 @@ use page_server::PageTimes;
 use run_command::Host;
 use service_settings::Page;
 use std::alloc::AllocError;
+use std::io;
 
 /// What a farm is lent by the machine that it is run on: what a run is, and connections to services, an end, and somebody who reads its
 /// lines.
@@ -58,8 +59,10 @@ pub trait FarmHost: Host {
         }
     }
 
-    /// Lets peers ask for the page of the farm at its address. A page that cannot be opened is told of in a line.
-    fn open_page(&self, _page: &Page, _times: PageTimes) {}
+    /// Lets peers ask for the page of the farm at its address. The error says why it cannot be opened.
+    fn open_page(&self, _page: &Page, _times: PageTimes) -> io::Result<()> {
+        Ok(())
+    }
 
     /// Shows this on the page from now on.
     fn show(&self, _view: FarmView) {}

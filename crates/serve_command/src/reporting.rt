@@ -9,6 +9,7 @@ use crate::host::FarmHost;
 use crate::host_state::{BeforeJob, lets_go_on, said_of_host};
 use crate::job_lines::{Uncompleted, line_of, lost_job};
 use crate::last_jobs::AnsweredJob;
+use crate::page_door::PageDoor;
 use farm_notes::{Known, PageNotes};
 use farm_page::FarmView;
 use http_jobs::try_dial;
@@ -92,18 +93,26 @@ pub struct Reporting<'e, H> {
     host: &'e H,
     alloc: Global,
     books: Books<'e>,
+    door: Option<PageDoor<'e>>,
     notes: Option<PageNotes>,
     outlook: Mutex<Outlook>,
 }
 
 impl<'e, H: Wait> Reporting<'e, H> {
     /// A run's, before its first attempt. The farm may have a page.
-    pub fn new(host: &'e H, alloc: Global, books: Books<'e>, has_page: bool) -> Reporting<'e, H> {
+    pub fn new(
+        host: &'e H,
+        alloc: Global,
+        books: Books<'e>,
+        door: Option<PageDoor<'e>>,
+    ) -> Reporting<'e, H> {
+        let notes = door.is_some().then(|| PageNotes::new(alloc));
         Reporting {
             host,
             alloc,
             books,
-            notes: has_page.then(|| PageNotes::new(alloc)),
+            door,
+            notes,
             outlook: Mutex::new(Outlook::Nothing),
         }
     }
@@ -111,6 +120,15 @@ impl<'e, H: Wait> Reporting<'e, H> {
     /// What the attempts came to so far.
     pub fn outlook(&self) -> Outlook {
         *self.outlook.lock(self)
+    }
+
+    /// The door of the page, if that is not open yet.
+    fn shut_door(&self) -> Option<&PageDoor<'e>> {
+        let door = self.door.as_ref()?;
+        if door.is_open(self) {
+            return None;
+        }
+        Some(door)
     }
 
     /// What the page shows after an attempt. None if there is no page, or no memory.
@@ -142,6 +160,16 @@ impl<'e, H: Wait> Reporting<'e, H> {
     fn note(&self, attempt: &Attempt) {
         let mut held = self.outlook.lock(self);
         *held = held.after(attempt);
+    }
+}
+
+impl<'e, H: FarmHost> Reporting<'e, H> {
+    /// Opens the page of the farm if it has one that is not open yet.
+    pub fn open_page(&self) {
+        if let Some(door) = self.shut_door() {
+            let came = self.host.open_page(door.page, door.times);
+            self.host.tell_if(door.was_tried(self, self.alloc, &came));
+        }
     }
 }
 
@@ -208,6 +236,7 @@ impl<'e, H: FarmHost> Watch for Reporting<'e, H> {
 impl<'e, H: FarmHost> Progress for Reporting<'e, H> {
     fn attempted(&self, made: &Attempted<'_>) {
         self.note(made.attempt);
+        self.open_page();
         self.books.hosts.begin_attempt(self);
         if let Some(news) = self.books.files.begin_attempt(self) {
             self.host.tell(String::from_str(self.alloc, news.line()));

@@ -11,6 +11,7 @@ use crate::file_room::FileRoom;
 use crate::host::FarmHost;
 use crate::hosts::Hosts;
 use crate::last_jobs::LastJobs;
+use crate::page_door::PageDoor;
 use crate::reporting::{Outlook, Reporting};
 use crate::thread_room::ThreadRoom;
 use farm_notes::Tally;
@@ -85,10 +86,12 @@ fn run_until_end<'x, H: FarmHost>(
         threads: &threads,
     };
     let source = FarmSource { host, alloc, books };
-    if let Some(page) = farm.services.page() {
-        host.open_page(page, page_times(farm));
-    }
-    let watch = Reporting::new(host, alloc, books, farm.services.page().is_some());
+    let door = farm
+        .services
+        .page()
+        .map(|page| PageDoor::new(page, page_times(farm)));
+    let watch = Reporting::new(host, alloc, books, door);
+    watch.open_page();
     let lent = Lent {
         rt: &watch,
         alloc,

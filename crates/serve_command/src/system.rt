@@ -119,12 +119,6 @@ fn free_files<R: Net>(rt: &R, alloc: Global, most: u32) -> u32 {
     most
 }
 
-/// The line of a page that cannot be opened. The only error is out of memory.
-fn no_page_line(alloc: Global, page: &Page, error: &io::Error) -> Result<String, AllocError> {
-    let listen = page.listen();
-    format!(in alloc; "nopage {listen} ({error})")
-}
-
 impl<'m, R: Threads> Threads for FarmSystem<'m, R> {}
 
 impl<'m, R: Wait> Wait for FarmSystem<'m, R> {}
@@ -227,11 +221,10 @@ impl<
         self.edges.lines.put(&self.rt, self.stamped(line));
     }
 
-    fn open_page(&self, page: &Page, times: PageTimes) {
-        match door_of(&self.rt, self.rt.alloc(), page, times) {
-            Ok(door) => self.edges.page.open(&self.rt, door),
-            Err(error) => self.tell(no_page_line(self.rt.alloc(), page, &error)),
-        }
+    fn open_page(&self, page: &Page, times: PageTimes) -> io::Result<()> {
+        let door = door_of(&self.rt, self.rt.alloc(), page, times)?;
+        self.edges.page.open(&self.rt, door);
+        Ok(())
     }
 
     fn show(&self, view: FarmView) {
