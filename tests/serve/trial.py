@@ -1,8 +1,8 @@
 """A farm of six hosts, three of which misbehave: trial.py PROGRAM FOLDER [long]
 
 tests/serve/run calls this. Three hosts run the service of examples/serve with four functions more. The others never answer, answer what
-is no HTTP, or send without an end. Clients ask for jobs of six functions. Meanwhile each healthy host is killed in mid job, a plan
-gives its functions to others, and it is started again and gets jobs; and the server is killed and started again. Each job
+is no HTTP, or send without an end. Clients ask for jobs of six functions. Meanwhile each healthy host is killed in mid job, the next
+plan but one gives its functions to others, and it is started again and gets jobs; and the server is killed and started again. Each job
 has to be answered rightly, and to be in a service's log. The page has to refuse what is asked wrongly, and to give the evidence of a plan
 that `poolman check` finds shown. A drain ends the farm; its totals have to account for each job. SIGTERM has to end the unit's script as
 a drain does, and a services file without a URL has to be refused before anything is dialled.
@@ -42,6 +42,9 @@ class Scale:
     jobs: int
     kills: int
 
+
+# The line of an attempt that led to a plan.
+PLAN = re.compile(r"attempt (\d+) round \d+ (?!noplan)")
 
 SHORT, LONG = Scale(8, 500, 1), Scale(20, 5000, 3)
 
@@ -191,14 +194,31 @@ class Farm:
         self.services[name] = self.start_service(name)
         wait_until(lambda: not self.is_away(name) and len(self.done(name)) > before, PATIENCE, f"{name} does jobs again")
 
-    def served_without(self, name):
-        """The functions that the last plan gives to other hosts."""
-        places = [line.split()[1:] for line in self.page.text("/report").splitlines() if line.startswith("work ")]
-        return {function for worker, function in places if not worker.startswith(f"{name}/")}
+    def plans_without(self, name):
+        """The attempts that led to a plan since a host was lost, by their numbers."""
+        lines = self.lines()
+        loss = max(place for place, line in enumerate(lines) if line.startswith(f"unreached {name} "))
+        return [int(found[1]) for line in lines[loss:] if (found := PLAN.match(line))]
+
+    def plan_from(self, attempt):
+        """Who has which function by the plan of this attempt, or of a later one: pairs of a worker and a function."""
+        places = []
+
+        def is_there():
+            status, headers, body = self.page.ask("GET", "/report")
+            if status == 200 and int(headers["poolman-attempt"]) >= attempt:
+                places[:] = [line.split()[1:] for line in body.decode().splitlines() if line.startswith("work ")]
+            return places
+
+        wait_until(is_there, PATIENCE, f"there is the plan of attempt {attempt}")
+        return places
 
     def hold_that_others_have_all(self, name):
-        """A plan gives each function to other hosts than the one that is lost, whose idle workers live on until they get a job."""
-        wait_until(lambda: self.served_without(name) == set(LEAST), PATIENCE, f"without {name} each function has a worker")
+        """The next plan but one after a host was lost gives each of its functions to others."""
+        wait_until(lambda: len(self.plans_without(name)) >= 2, PATIENCE, f"there are two plans without {name}")
+        second = self.plans_without(name)[1]
+        served = {function for worker, function in self.plan_from(second) if not worker.startswith(f"{name}/")}
+        held(served == set(LEAST), f"without {name} from attempt {second} on others have only {served}")
 
     def look_at_its_page(self):
         """A peer sees that it is well, and can check its plan."""
