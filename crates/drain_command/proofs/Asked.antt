@@ -1,20 +1,20 @@
 -- The request for a drain, and what comes of it.
-use Rattle.std.proofs.Common.{◌≡◌, ℕ, Bool, true, false, List, [], ◌∷◌, ◌++◌, codes, count_by, take, Option, Some, None, Result, Ok, Err, refl, ap, sym, subst, ◌∙◌, inl, inr, append_assoc, length}
+use Rattle.std.proofs.Common.{◌≡◌, ℕ, Bool, true, false, List, [], ◌∷◌, ◌++◌, codes, count_by, take, Option, Some, None, Result, Ok, Err, refl, ap, sym, subst, ◌∙◌, inl, inr, append_assoc}
 use Rattle.std.proofs.lemmas.List.{append-nil}
-use Rattle.std.specs.Prelude.{MatchResult, OnOk, Vec}
+use Rattle.std.specs.Prelude.{IfOk, MatchResult, Vec}
 use Rattle.std.specs.List.{list_all}
 use Rattle.std.specs.declared.alloc.Global.{Global}
 use Rattle.httparse.specs.Grammar.{is_token_byte}
 use Rattle.http1.specs.Text.{eq_ignore_case}
-use Rattle.http1.specs.Fields.{is_framing_field, is_named}
+use Rattle.http1.specs.Fields.{is_named}
 use Rattle.http1.specs.Head.{is_header}
 use Rattle.byte_io.specs.Sides.{and_then}
 use Rattle.job_runner.specs.Run.{Link}
-use Rattle.http_jobs.specs.Exchange.{Explains, IsReceived}
+use Rattle.http_jobs.specs.Exchange.{Explains, IsReceived, Refuses, Sends}
 use Rattle.http_jobs.specs.Post.{AreOrdinary, CanBeSent}
 use Rattle.http_jobs.specs.Reasons.{Seen}
-use Rattle.http_jobs.specs.Response.{head_limits}
-use Rattle.http_jobs.specs.Serving.{DialCall, IsNew, closed, failed, opened, then_called}
+use Rattle.http_jobs.specs.Response.{head_limits, is_success}
+use Rattle.http_jobs.specs.Serving.{DialCall, IsNew, closed, opened, then_called}
 use Rattle.http_jobs.specs.declared.answers.Answer.{Answer}
 use Rattle.http_jobs.specs.declared.answers.Received.{Received}
 use Rattle.http_jobs.specs.declared.answers.Received.TheVariants as received
@@ -25,7 +25,7 @@ use Rattle.plan_commands.specs.declared.fault.Fault.{Fault}
 use Rattle.plan_commands.specs.declared.fault.Fault.TheVariants as fault
 use Rattle.plan_commands.specs.declared.fault.PageError.{PageError}
 use Rattle.plan_commands.specs.declared.fault.PageError.TheVariants as page
-use Rattle.drain_command.specs.Drain.{drain_target, drain_headers, drain_request, most_totals, Carried, IsTold, IsRefused, IsUnanswered, IsToldIn, IsNotToldIn, ComesTo, TakesAnswer, TakesWhatCame, as_fault, came_to, is_last, AfterTries, BeginsOver}
+use Rattle.drain_command.specs.Drain.{drain_target, drain_headers, drain_request, most_totals, Carried, IsUnanswered, IsToldIn, IsNotToldIn, ComesTo, TakesAnswer, TakesWhatCame, as_fault, came_to, is_last, AfterTries}
 
 -- ---- HTTP allows the request
 
@@ -54,7 +54,7 @@ module _ (before after : Link) (seen : Seen) (deadline : Option ℕ) (fresh : Is
   carried : Carried (take count drain_request) seen.read before after
   carried = record { fresh = fresh; out = part; back = back }
 
-  unanswered_by : (e : NotDone) → TakesWhatCame (Err e) (Err (fault.Page page.Unanswered)) → Explains deadline seen before after e → IsUnanswered after
+  unanswered_by : (e : NotDone) → TakesWhatCame (Err e) (Err (fault.Page page.Unanswered)) → Explains most_totals deadline seen before after e → IsUnanswered after
   unanswered_by (Not (why.Unreachable reason)) t h = absurd h
   unanswered_by (Not why.Write) t h = (before, count, deadline, seen, carried, inl (why.Write, h))
   unanswered_by (Not why.Read) t h = (before, count, deadline, seen, carried, inl (why.Read, h))
@@ -65,7 +65,7 @@ module _ (before after : Link) (seen : Seen) (deadline : Option ℕ) (fresh : Is
   unanswered_by (Not why.Endless) t h = (before, count, deadline, seen, carried, inl (why.Endless, h))
   unanswered_by NoMemory t h = cc
 
-  by_error : (e : NotDone) (came : Came) → TakesWhatCame (Err e) came → Explains deadline seen before after e → ComesTo after came
+  by_error : (e : NotDone) (came : Came) → TakesWhatCame (Err e) came → Explains most_totals deadline seen before after e → ComesTo after came
   by_error (Not (why.Status status)) came t h = subst (ComesTo after) (sym t) (before, count, seen.read, carried, inr h)
   by_error NoMemory came t h = subst (ComesTo after) (sym t) tt
   by_error (Not (why.Unreachable reason)) came t h = absurd h
@@ -76,14 +76,23 @@ module _ (before after : Link) (seen : Seen) (deadline : Option ℕ) (fresh : Is
   by_error (Not (why.NoResponse e)) came t h = subst (ComesTo after) (sym t) (unanswered_by (Not (why.NoResponse e)) refl h)
   by_error (Not why.Endless) came t h = subst (ComesTo after) (sym t) (unanswered_by (Not why.Endless) refl h)
 
-  by_answer : (answer : Answer) (taken : Result (Vec ℕ Global) PageError) → after.output.got ≡ and_then before.output.got drain_request
+  abbrev Sent : Received → Type 0
+  Sent received = Sends drain_request before.output after.output (Refuses received)
+
+  -- a response of status 200 is no refusal
+  sent_whole : (answer : Answer) → answer.status ≡ 200 → Sent (received.Whole answer) → after.output.got ≡ and_then before.output.got drain_request
+  sent_whole answer ok (sent, got, inl (is, none)) = got ∙ ap (and_then before.output.got) is
+  sent_whole answer ok (sent, got, inr (part, one, refused)) =
+      let no : true ≡ false = sym (ap is_success ok) ∙ refused.0 in cc
+
+  by_answer : (answer : Answer) (taken : Result (Vec ℕ Global) PageError) → Sent (received.Whole answer)
       → TakesAnswer answer taken → IsReceived head_limits most_totals seen.read (received.Whole answer) → ComesTo after (as_fault taken)
   by_answer answer (Ok totals) sent t h = record {
     before = before;
     read = seen.read;
     rest = h.rest;
     response = h.response;
-    carried = record { fresh = fresh; out = sent; back = back };
+    carried = record { fresh = fresh; out = sent_whole answer t.0 sent; back = back };
     answers = h.answers;
     status = sym h.status ∙ t.0;
     bounded = sym h.ends ∙ t.1;
@@ -95,8 +104,8 @@ module _ (before after : Link) (seen : Seen) (deadline : Option ℕ) (fresh : Is
       (before, count, seen.read, carried, inl (h.response, h.rest, h.answers, sym h.status ∙ sym t.1, (λ e. t.0 (sym t.1 ∙ e))))
   by_answer answer (Err page.Unreached) sent t h = absurd t
 
-  pub comes : (r : Result Received NotDone) (came : Came) → OnOk r (after.output.got ≡ and_then before.output.got drain_request)
-      → TakesWhatCame r came → MatchResult r (IsReceived head_limits most_totals seen.read) (Explains deadline seen before after) → ComesTo after came
+  pub comes : (r : Result Received NotDone) (came : Came) → IfOk r Sent
+      → TakesWhatCame r came → MatchResult r (IsReceived head_limits most_totals seen.read) (Explains most_totals deadline seen before after) → ComesTo after came
   comes (Ok (received.Whole answer)) came sent t h = subst (ComesTo after) (sym t.2) (by_answer answer t.0 sent t.1 h)
   comes (Ok received.TooLarge) came sent t h =
       subst (ComesTo after) (sym t) (before, count, deadline, seen, carried, inr (inl h))

@@ -78,7 +78,7 @@ IsRefused status after = (before : Link) × (count : ℕ) × (read : List ℕ) �
 -- why what came is no whole answer: no response did, or one that is too large, or one that may be cut
 abbrev pub IsNoAnswer : Option ℕ → Seen → Link → Link → Type 0
 IsNoAnswer deadline seen before after =
-    ((why : Unserved) × Explains deadline seen before after (Not why))
+    ((why : Unserved) × Explains most_totals deadline seen before after (Not why))
     ⊎ (OnlyLarger head_limits most_totals seen.read
     ⊎ ((response : Response) × (rest : List ℕ) × Answers head_limits seen.read response rest × (ends_with_connection response.head ≡ true)))
 

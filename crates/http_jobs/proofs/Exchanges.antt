@@ -10,6 +10,8 @@ use Rattle.http_jobs.specs.declared.answers.Received.{Received}
 use Rattle.http_jobs.specs.declared.fault.NotDone.{NotDone}
 use Rattle.http_jobs.specs.declared.fault.NotDone.TheVariants.{Unserved as Not, Memory}
 use Rattle.http_jobs.specs.declared.fault.Unserved.TheVariants as why
+use Rattle.http_jobs.specs.declared.sending.Unsent.{Unsent}
+use Rattle.http_jobs.specs.declared.sending.Unsent.TheVariants as unsent
 use Rattle.byte_io.specs.Deadline.{is_past}
 use Rattle.http_jobs.specs.Clock.{shown_then, InTime, IsLate}
 use Rattle.http_jobs.specs.Reasons.{Seen, NotReceived, NotSent}
@@ -88,7 +90,7 @@ in_time_both : (deadline : Option ℕ) (times more : List (Option ℕ)) → InTi
 in_time_both deadline [] more before after = after
 in_time_both deadline (t ∷ times) more before after = (before.0, in_time_both deadline times more before.1 after)
 
-pub in_time_after : {A : Type 0} (deadline : Option ℕ) (times more : List (Option ℕ)) (r : Result A NotDone) → InTime deadline times → OnOk r (InTime deadline more) → OnOk r (InTime deadline (times ++ more))
+pub in_time_after : {A E : Type 0} (deadline : Option ℕ) (times more : List (Option ℕ)) (r : Result A E) → InTime deadline times → OnOk r (InTime deadline more) → OnOk r (InTime deadline (times ++ more))
 in_time_after deadline times more (Ok x) before after = in_time_both deadline times more before after
 in_time_after deadline times more (Err e) before after = tt
 
@@ -120,44 +122,40 @@ late_after : (deadline : Option ℕ) (times more : List (Option ℕ)) → InTime
 late_after deadline times more before h = (times ++ h.0, h.1, ap (λ x. times ++ x) h.2 ∙ sym (append_assoc times h.0 (h.1 ∷ [])), in_time_both deadline times h.0 before h.3, h.4)
 
 -- times that were shown before the write that was not made
-pub not_sent_after : (deadline : Option ℕ) (times more : List (Option ℕ)) (old mid new : Output) (r : Result (Unit {0}) NotDone) → InTime deadline times → mid.failures ≡ old.failures → IfErr r (NotSent deadline more mid new) → IfErr r (NotSent deadline (times ++ more) old new)
+pub not_sent_after : (deadline : Option ℕ) (times more : List (Option ℕ)) (old mid new : Output) (r : Result (Unit {0}) Unsent) → InTime deadline times → mid.failures ≡ old.failures → IfErr r (NotSent deadline more mid new) → IfErr r (NotSent deadline (times ++ more) old new)
 not_sent_after deadline times more old mid new (Ok x) before same h = tt
-not_sent_after deadline times more old mid new (Err (Not (why.Unreachable reason))) before same h = absurd h
-not_sent_after deadline times more old mid new (Err (Not why.Write)) before same h = h ∙ ap (λ (n : ℕ). n + 1) same
-not_sent_after deadline times more old mid new (Err (Not why.Read)) before same h = absurd h
-not_sent_after deadline times more old mid new (Err (Not why.Ended)) before same h = absurd h
-not_sent_after deadline times more old mid new (Err (Not why.Late)) before same h = late_after deadline times more before h
-not_sent_after deadline times more old mid new (Err (Not (why.NoResponse e))) before same h = absurd h
-not_sent_after deadline times more old mid new (Err (Not (why.Status status))) before same h = absurd h
-not_sent_after deadline times more old mid new (Err (Not why.Endless)) before same h = absurd h
-not_sent_after deadline times more old mid new (Err Memory) before same h = absurd h
+not_sent_after deadline times more old mid new (Err unsent.Write) before same h =
+    (h.0 ∙ ap (λ (n : ℕ). n + 1) same, in_time_both deadline times more before h.1)
+not_sent_after deadline times more old mid new (Err unsent.Late) before same h = late_after deadline times more before h
 
-pub not_received : (deadline : Option ℕ) (times : List (Option ℕ)) (seen : Seen) (old mid new : Link) (e : NotDone) → InTime deadline times → mid.input ≡ old.input → NotReceived head_limits deadline seen mid.input new.input e → Explains deadline (before_it times seen) old new e
-not_received deadline times seen old mid new (Not (why.Unreachable reason)) before same h = absurd h
-not_received deadline times seen old mid new (Not why.Write) before same h = absurd h
-not_received deadline times seen old mid new (Not why.Read) before same h = h ∙ ap (λ (i : Input). i.failures + 1) same
-not_received deadline times seen old mid new (Not why.Ended) before same h = h
-not_received deadline times seen old mid new (Not why.Late) before same h = late_after deadline times seen.times before h
-not_received deadline times seen old mid new (Not (why.NoResponse e)) before same h = h
-not_received deadline times seen old mid new (Not (why.Status status)) before same h = h
-not_received deadline times seen old mid new (Not why.Endless) before same h = h
-not_received deadline times seen old mid new Memory before same h = tt
+-- times that were shown before the response was not read
+pub not_received_after : (deadline : Option ℕ) (times : List (Option ℕ)) (seen : Seen) (old mid new : Input) (e : NotDone) → InTime deadline times → mid ≡ old → NotReceived head_limits deadline seen mid new e → NotReceived head_limits deadline (before_it times seen) old new e
+not_received_after deadline times seen old mid new (Not (why.Unreachable reason)) before same h = absurd h
+not_received_after deadline times seen old mid new (Not why.Write) before same h = absurd h
+not_received_after deadline times seen old mid new (Not why.Read) before same h = h ∙ ap (λ (i : Input). i.failures + 1) same
+not_received_after deadline times seen old mid new (Not why.Ended) before same h = h
+not_received_after deadline times seen old mid new (Not why.Late) before same h = late_after deadline times seen.times before h
+not_received_after deadline times seen old mid new (Not (why.NoResponse e)) before same h = h
+not_received_after deadline times seen old mid new (Not (why.Status status)) before same h = h
+not_received_after deadline times seen old mid new (Not why.Endless) before same h = h
+not_received_after deadline times seen old mid new Memory before same h = tt
 
-pub not_sent : (deadline : Option ℕ) (times : List (Option ℕ)) (old new : Link) (e : NotDone) → NotSent deadline times old.output new.output e → Explains deadline (only_times times) old new e
-not_sent deadline times old new (Not (why.Unreachable reason)) h = absurd h
-not_sent deadline times old new (Not why.Write) h = h
-not_sent deadline times old new (Not why.Read) h = absurd h
-not_sent deadline times old new (Not why.Ended) h = absurd h
-not_sent deadline times old new (Not why.Late) h = h
-not_sent deadline times old new (Not (why.NoResponse e)) h = absurd h
-not_sent deadline times old new (Not (why.Status status)) h = absurd h
-not_sent deadline times old new (Not why.Endless) h = absurd h
-not_sent deadline times old new Memory h = absurd h
+not_received : (max : ℕ) (deadline : Option ℕ) (seen : Seen) (old new : Link) (e : NotDone) → NotReceived head_limits deadline seen old.input new.input e → Explains max deadline seen old new e
+not_received max deadline seen old new (Not (why.Unreachable reason)) h = absurd h
+not_received max deadline seen old new (Not why.Write) h = absurd h
+not_received max deadline seen old new (Not why.Read) h = h
+not_received max deadline seen old new (Not why.Ended) h = h
+not_received max deadline seen old new (Not why.Late) h = h
+not_received max deadline seen old new (Not (why.NoResponse e)) h = h
+not_received max deadline seen old new (Not (why.Status status)) h = h
+not_received max deadline seen old new (Not why.Endless) h = h
+not_received max deadline seen old new Memory h = tt
 
 -- the result of a receive is that of the whole call
-pub received : (deadline : Option ℕ) (times : List (Option ℕ)) (max : ℕ) (seen : Seen) (old mid new : Link) (r : Result Received NotDone) → InTime deadline times → mid.input ≡ old.input → MatchResult r (IsReceived head_limits max seen.read) (NotReceived head_limits deadline seen mid.input new.input) → MatchResult r (IsReceived head_limits max seen.read) (Explains deadline (before_it times seen) old new)
+pub received : (deadline : Option ℕ) (times : List (Option ℕ)) (max : ℕ) (seen : Seen) (old mid new : Link) (r : Result Received NotDone) → InTime deadline times → mid.input ≡ old.input → MatchResult r (IsReceived head_limits max seen.read) (NotReceived head_limits deadline seen mid.input new.input) → MatchResult r (IsReceived head_limits max seen.read) (Explains max deadline (before_it times seen) old new)
 received deadline times max seen old mid new (Ok done) before same h = h
-received deadline times max seen old mid new (Err e) before same h = not_received deadline times seen old mid new e before same h
+received deadline times max seen old mid new (Err e) before same h =
+    not_received max deadline (before_it times seen) old new e (not_received_after deadline times seen old.input mid.input new.input e before same h)
 
 -- the limits are those of the client
 pub received_at : (limits now : Limits) (max : ℕ) (deadline : Option ℕ) (seen : Seen) (old new : Input) (r : Result Received NotDone) → limits ≡ now → MatchResult r (IsReceived limits max seen.read) (NotReceived limits deadline seen old new) → MatchResult r (IsReceived now max seen.read) (NotReceived now deadline seen old new)

@@ -1,10 +1,11 @@
 -- A whole exchange: one request, and one response.
-use Rattle.std.specs.Prelude.{◌≡◌, ℕ, ◌+◌, ◌-◌, ◌^◌, ◌≤◌, ◌⊎◌, List, [], length, Option, Some, Bool, true, false, IsTrue}
+use Rattle.std.specs.Prelude.{◌≡◌, ℕ, ◌+◌, ◌-◌, ◌^◌, ◌≤◌, ◌⊎◌, List, [], length, take, Option, Some, Bool, true, false, IsTrue}
 use Rattle.httparse.specs.Grammar.{ResponseHead, status_code}
 use Rattle.http1.specs.Message.{Response}
 use Rattle.http1.specs.declared.conn.Limits.{Limits}
-use Rattle.byte_io.specs.Sides.{Input, and_then, counted}
+use Rattle.byte_io.specs.Sides.{Input, Output, and_then, counted}
 use Rattle.job_runner.specs.Run.{Link}
+use Rattle.job_runner.specs.Told.{fail}
 use Rattle.http_jobs.specs.declared.answers.Answer.{Answer}
 use Rattle.http_jobs.specs.declared.answers.Received.{Received}
 use Rattle.http_jobs.specs.declared.answers.Received.TheVariants as received
@@ -12,11 +13,11 @@ use Rattle.http_jobs.specs.declared.exchanging.Done.{Done}
 use Rattle.http_jobs.specs.declared.fault.NotDone.{NotDone}
 use Rattle.http_jobs.specs.declared.fault.NotDone.TheVariants.{Unserved as Not, Memory}
 use Rattle.http_jobs.specs.declared.fault.Unserved.TheVariants as why
-use Rattle.http_jobs.specs.declared.outcome.Failure.TheVariants.{TooLarge}
+use Rattle.http_jobs.specs.declared.outcome.Failure.TheVariants.{Status, TooLarge}
 use Rattle.http_jobs.specs.Clock.{IsLate, shown_then}
-use Rattle.http_jobs.specs.Reasons.{Seen, HasStatus}
-use Rattle.http_jobs.specs.Response.{Answers, Replied, Reports, OnlyLarger, HoldsNoAnswer, NeverAnswers, failed_with, is_unserved}
-use Rattle.http_jobs.specs.Response.{ends_with_connection, head_limits, keeps_connection, reply_of}
+use Rattle.http_jobs.specs.Reasons.{Seen, HasStatus, HoldsNoRefusal}
+use Rattle.http_jobs.specs.Response.{Answers, Replied, Reports, OnlyLarger, HoldsNoAnswer, NeverAnswers, failed_with, is_success}
+use Rattle.http_jobs.specs.Response.{ends_with_connection, head_limits, is_unserved, keeps_connection, reply_of}
 
 -- the source gave what was seen, and the clock showed it
 abbrev pub Sees : Input → Option (List (Option ℕ)) → Seen → Input → Option (List (Option ℕ)) → Type 0
@@ -50,14 +51,42 @@ IsAnswered limits max read reply is_kept =
 abbrev pub IsDone : Limits → ℕ → List ℕ → Done → Type 0
 IsDone limits max read done = IsAnswered limits max read (reply_of done.reply) done.is_kept
 
--- why an exchange was not done, by what was seen and by what the link shows of its sides before and after
-abbrev pub Explains : Option ℕ → Seen → Link → Link → NotDone → Type 0
-Explains deadline seen old new (Not (why.Unreachable reason)) = ⊥
-Explains deadline seen old new (Not why.Write) = new.output.failures ≡ old.output.failures + 1
-Explains deadline seen old new (Not why.Read) = new.input.failures ≡ old.input.failures + 1
-Explains deadline seen old new (Not why.Ended) = (new.input.has_ended ≡ true) × HoldsNoAnswer head_limits seen.read
-Explains deadline seen old new (Not why.Late) = IsLate deadline seen.times
-Explains deadline seen old new (Not (why.NoResponse e)) = NeverAnswers head_limits seen.read
-Explains deadline seen old new (Not (why.Status status)) = HasStatus head_limits seen.read status
-Explains deadline seen old new (Not why.Endless) = 2 ^ 64 - 1 ≤ length seen.read + seen.lulls
-Explains deadline seen old new Memory = Unit {0}
+-- ---- how much of the request went out
+
+-- What was sent of a request that was answered, by the sink before and after: all of it, and no write failed. Or one failed after a prefix
+-- of it. Then what came back is a refusal.
+abbrev pub IsSent : List ℕ → List ℕ → Output → Output → Type 0 → Type 0
+IsSent request sent old new is_refusal =
+    ((sent ≡ request) × (new.failures ≡ old.failures))
+    ⊎ (((count : ℕ) × (sent ≡ take count request)) × (new.failures ≡ old.failures + 1) × is_refusal)
+
+-- a request that was answered went to this sink, all of it, or a prefix, after which a write failed and it was refused
+abbrev pub Sends : List ℕ → Output → Output → Type 0 → Type 0
+Sends request old new is_refusal = (sent : List ℕ) × (new.got ≡ and_then old.got sent) × IsSent request sent old new is_refusal
+
+-- A whole response refuses a request that did not go out whole, if its status is none of success. Success says that a request was received
+-- and accepted (RFC 9110, section 15.3), and one that lacks a part of its body was not received (RFC 9112, section 8). The connection is
+-- not kept, since the rest of the request is missing on it.
+abbrev pub Refuses : Received → Type 0
+Refuses (received.Whole answer) = (is_success answer.status ≡ false) × (answer.is_kept ≡ false)
+Refuses received.TooLarge = ⊥
+
+-- The reply is a refusal: the job failed, for the status of the response, and the connection is not kept.
+abbrev pub IsRefusal : Replied → Bool → Type 0
+IsRefusal reply is_kept = (reply.told.finish ≡ fail) × ((status : ℕ) × (reply.failure ≡ Some (Status status))) × (is_kept ≡ false)
+
+-- ---- why it was not done
+
+-- Why an exchange was not done, by what was seen and by what the link shows of its sides before and after. A body may have so many bytes.
+-- If a write failed, no refusal was read after it.
+abbrev pub Explains : ℕ → Option ℕ → Seen → Link → Link → NotDone → Type 0
+Explains max deadline seen old new (Not (why.Unreachable reason)) = ⊥
+Explains max deadline seen old new (Not why.Write) =
+    (new.output.failures ≡ old.output.failures + 1) × HoldsNoRefusal head_limits max deadline seen old.input new.input
+Explains max deadline seen old new (Not why.Read) = new.input.failures ≡ old.input.failures + 1
+Explains max deadline seen old new (Not why.Ended) = (new.input.has_ended ≡ true) × HoldsNoAnswer head_limits seen.read
+Explains max deadline seen old new (Not why.Late) = IsLate deadline seen.times
+Explains max deadline seen old new (Not (why.NoResponse e)) = NeverAnswers head_limits seen.read
+Explains max deadline seen old new (Not (why.Status status)) = HasStatus head_limits seen.read status
+Explains max deadline seen old new (Not why.Endless) = 2 ^ 64 - 1 ≤ length seen.read + seen.lulls
+Explains max deadline seen old new Memory = Unit {0}

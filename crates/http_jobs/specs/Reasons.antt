@@ -1,13 +1,17 @@
 -- Why a job was not done.
-use Rattle.std.specs.Prelude.{◌≡◌, ℕ, ◌+◌, ◌-◌, ◌^◌, ◌≤◌, List, length, Option, true, IsTrue}
+use Rattle.std.specs.Prelude.{◌≡◌, ℕ, ◌+◌, ◌-◌, ◌^◌, ◌≤◌, ◌⊎◌, List, length, Option, true, IsTrue}
 use Rattle.httparse.specs.Grammar.{ResponseHead, status_code}
+use Rattle.http1.specs.Message.{Response}
 use Rattle.http1.specs.declared.conn.Limits.{Limits}
 use Rattle.byte_io.specs.Sides.{Input, Output}
 use Rattle.http_jobs.specs.declared.fault.NotDone.{NotDone}
 use Rattle.http_jobs.specs.declared.fault.NotDone.TheVariants.{Unserved as Not, Memory}
+use Rattle.http_jobs.specs.declared.fault.Unserved.{Unserved}
 use Rattle.http_jobs.specs.declared.fault.Unserved.TheVariants as why
-use Rattle.http_jobs.specs.Clock.{IsLate}
-use Rattle.http_jobs.specs.Response.{Begins, HoldsNoAnswer, NeverAnswers, is_unserved}
+use Rattle.http_jobs.specs.declared.sending.Unsent.{Unsent}
+use Rattle.http_jobs.specs.declared.sending.Unsent.TheVariants as unsent
+use Rattle.http_jobs.specs.Clock.{InTime, IsLate}
+use Rattle.http_jobs.specs.Response.{Answers, Begins, HoldsNoAnswer, NeverAnswers, OnlyLarger, is_success, is_unserved}
 
 -- what an exchange has seen: the bytes that it read, in order, the timeouts of its reads, and the times that its clock showed
 pub record Seen : Type 0 where
@@ -32,9 +36,26 @@ NotReceived limits deadline seen old new (Not (why.Status status)) = HasStatus l
 NotReceived limits deadline seen old new (Not why.Endless) = 2 ^ 64 - 1 ≤ length seen.read + seen.lulls
 NotReceived limits deadline seen old new Memory = Unit {0}
 
+-- the status of a whole response is one of success
+abbrev pub HasSuccess : Limits → List ℕ → Type 0
+HasSuccess limits read =
+    (response : Response) × (rest : List ℕ) × Answers limits read response rest × (is_success (status_code response.head) ≡ true)
+
+-- Nothing that was read refuses a request of which a write failed: no response was read, for this reason, or one that is too large, or one
+-- of success.
+abbrev pub HoldsNoRefusal : Limits → ℕ → Option ℕ → Seen → Input → Input → Type 0
+HoldsNoRefusal limits max deadline seen old new =
+    ((reason : Unserved) × NotReceived limits deadline seen old new (Not reason))
+    ⊎ (OnlyLarger limits max seen.read ⊎ HasSuccess limits seen.read)
+
+-- why a request was not refused of which a write failed
+abbrev pub NotRefused : Limits → ℕ → Option ℕ → Seen → Input → Input → NotDone → Type 0
+NotRefused limits max deadline seen old new (Not why.Write) = HoldsNoRefusal limits max deadline seen old new
+NotRefused limits max deadline seen old new (Not (why.Status status)) = HasStatus limits seen.read status
+NotRefused limits max deadline seen old new (Not other) = ⊥
+NotRefused limits max deadline seen old new Memory = Unit {0}
+
 -- why a request was not sent, by the times that were shown and by the sink before and after
-abbrev pub NotSent : Option ℕ → List (Option ℕ) → Output → Output → NotDone → Type 0
-NotSent deadline times old new (Not why.Write) = new.failures ≡ old.failures + 1
-NotSent deadline times old new (Not why.Late) = IsLate deadline times
-NotSent deadline times old new (Not other) = ⊥
-NotSent deadline times old new Memory = ⊥
+abbrev pub NotSent : Option ℕ → List (Option ℕ) → Output → Output → Unsent → Type 0
+NotSent deadline times old new unsent.Write = (new.failures ≡ old.failures + 1) × InTime deadline times
+NotSent deadline times old new unsent.Late = IsLate deadline times

@@ -18,7 +18,7 @@ use Rattle.http_jobs.specs.Clock.{InTime, shown_then}
 use Rattle.http_jobs.specs.Reasons.{Seen}
 use Rattle.http_jobs.specs.Request.{has_no_path, most_body, request_of}
 use Rattle.http_jobs.specs.Response.{Replied, head_limits, told_in}
-use Rattle.http_jobs.specs.Exchange.{IsAnswered, Explains}
+use Rattle.http_jobs.specs.Exchange.{IsAnswered, IsRefusal, IsSent, Explains}
 
 -- ---- connections
 
@@ -126,14 +126,17 @@ pub record Uses (old new : Visible) (sent : List ℕ) (is_kept : Bool) (seen : S
   pub calls : new.calls ≡ then_called old.calls (first ++ last)
   pub shown : new.shown ≡ shown_then old.shown (start ∷ seen.times)
 
--- The job was served: its request went out, once, and what came back after it comes to this.
+-- The job was served: its request went out, once, and what came back after it comes to this. Or a prefix of it went out, once, since a
+-- write failed, and what came back refuses it.
 pub record Served (s : Service) (timeout : ℕ) (old new : Visible) (j : AssignedJob) (reply : Replied) : Type 0 where
   pub is_kept : Bool
+  pub sent : List ℕ
   pub seen : Seen
   pub start : Option ℕ
   pub before : Link
   pub after : Link
-  pub uses : Uses old new (request_of s j) is_kept seen start before after
+  pub uses : Uses old new sent is_kept seen start before after
+  pub is_sent : IsSent (request_of s j) sent before.output after.output (IsRefusal reply is_kept)
   pub in_time : InTime (deadline_from timeout start) seen.times
   pub answered : IsAnswered head_limits (most_body j) seen.read reply is_kept
 
@@ -150,7 +153,7 @@ pub record Failed (s : Service) (timeout : ℕ) (old new : Visible) (j : Assigne
   pub before : Link
   pub after : Link
   pub uses : Uses old new (take count (request_of s j)) false seen start before after
-  pub explained : Explains (deadline_from timeout start) seen before after e
+  pub explained : Explains (most_body j) (deadline_from timeout start) seen before after e
 
 -- why a job was not done
 abbrev pub NotServed : Service → ℕ → Visible → Visible → AssignedJob → NotDone → Type 0

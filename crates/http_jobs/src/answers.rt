@@ -1,24 +1,26 @@
 //! A request by POST and the response to it.
 
-ghost use Rattle.std.specs.Prelude.{◌≡◌, ◌<◌, ◌≤◌, ◌-◌, ◌^◌, ℕ, List, length, take, IsSome, MatchResult, OnOk};
+ghost use Rattle.std.specs.Prelude.{◌≡◌, ◌<◌, ◌≤◌, ◌-◌, ◌^◌, ℕ, List, Option, length, take, true, IsSome, IfErr, IfOk, MatchResult, OnOk};
 ghost use Rattle.http1.specs.Head.{pairs};
 ghost use Rattle.http1.specs.declared.conn.Limits.{Limits as Heads};
 ghost use Rattle.http1.specs.declared.conn.Reading.TheVariants as Reads;
-ghost use Rattle.byte_io.specs.Sides.{and_then};
+ghost use Rattle.byte_io.specs.Sides.{Input, and_then};
 ghost use Rattle.job_runner.specs.Run.{seen_link};
 ghost use Rattle.http_jobs.specs.Clock.{InTime};
-ghost use Rattle.http_jobs.specs.Exchange.{Explains, IsAnswerIn, IsReceived, Sees};
+ghost use Rattle.http_jobs.specs.Exchange.{Explains, IsAnswerIn, IsReceived, Refuses, Sees, Sends};
 ghost use Rattle.http_jobs.specs.Post.{CanBeSent, text_of};
 ghost use Rattle.http_jobs.specs.Reading.{HasAsked, IsComplete};
-ghost use Rattle.http_jobs.specs.Reasons.{NotReceived, Seen};
+ghost use Rattle.http_jobs.specs.Reasons.{NotReceived, NotRefused, Seen};
+ghost use Rattle.http_jobs.specs.Response as spec;
 ghost use Rattle.http_jobs.specs.Response.{head_limits};
 
 use crate::clock::{Clock, is_late};
 use crate::fault::{NotDone, Unserved};
 use crate::look::Look;
+use crate::outcome::is_success;
 use crate::posts::{Post, encode_post};
 use crate::reader::{Fill, ResponseReader, Stage};
-use crate::sending::send_request;
+use crate::sending::{Unsent, send_request};
 use byte_io::{Sink, Source};
 use http1::{Client, Limits};
 use httparse::spans::EMPTY_HEADER_SPAN;
@@ -119,7 +121,67 @@ fn receive<L: Source, C: Clock>(
     Err(NotDone::Unserved(Unserved::Endless))
 }
 
+/// A whole response as a refusal, of a request of which a write failed. The error is `Write` if it says success, since the service accepted
+/// what it did not have.
+fn refusal_in(answer: Answer) -> Result<Received, NotDone>
+    ensures refuses { IfOk result Refuses }
+    ensures is_answer { IfOk result (λ received. (limits : Heads) (max : ℕ) (read : List ℕ) → IsAnswerIn limits read answer
+        → IsReceived limits max read received) }
+    ensures success { IfErr result (λ e. (e ≡ NotDone.Unserved Unserved.Write) × (spec.is_success answer.status ≡ true)) }
+{
+    if is_success(answer.status) {
+        return Err(NotDone::Unserved(Unserved::Write));
+    }
+    Ok(Received::Whole(Answer {
+        is_kept: false,
+        ..answer
+    }))
+}
+
+/// Why a request was not refused of which a write failed, by why no response was read.
+fn not_refused(e: NotDone) -> NotDone
+    ensures { (limits : Heads) (max : ℕ) (deadline : Option ℕ) (seen : Seen) (old new : Input) → NotReceived limits deadline seen old new e
+        → NotRefused limits max deadline seen old new result }
+{
+    match e {
+        NotDone::Unserved(Unserved::Status(status)) => {
+            NotDone::Unserved(Unserved::Status(status))
+        }
+        NotDone::Unserved(_) => NotDone::Unserved(Unserved::Write),
+        NotDone::Memory => NotDone::Memory,
+    }
+}
+
+/// Reads what came after a write failed: the service may have refused the request before it had read all of it, and closed. The error is
+/// `Write` if it did not.
+fn receive_refusal<L: Source, C: Clock>(
+    alloc: Global,
+    link: &mut L,
+    clock: &mut C,
+    client: Client,
+    bounds: Bounds,
+) -> Result<Received, NotDone>
+    requires count { (L.input link.old).failures < 2 ^ 64 - 1 }
+    requires reading { client.reading ≡ Reads.Head }
+    requires asked { HasAsked client.limits client }
+    ensures received { (seen : Seen) × Sees (L.input link.old) (C.shown clock.old) seen (L.input link.new) (C.shown clock.new)
+        × OnOk result (InTime bounds.deadline seen.times) × MatchResult result (IsReceived client.limits bounds.max_body seen.read)
+        (NotRefused client.limits bounds.max_body bounds.deadline seen (L.input link.old) (L.input link.new)) }
+    ensures refused { IfOk result Refuses }
+    ensures no_failure { OnOk result ((L.input link.new).failures ≡ (L.input link.old).failures) }
+    ensures output { L.output link.new ≡ L.output link.old }
+{
+    match receive(alloc, link, clock, client, bounds) {
+        Ok(Received::Whole(answer)) => refusal_in(answer),
+        Ok(Received::TooLarge) => Err(NotDone::Unserved(Unserved::Write)),
+        Err(e) => Err(not_refused(e)),
+    }
+}
+
 /// Sends a request, once, over a connection that carries nothing else, and reads the response to it.
+///
+/// If a write fails, the response may have come before: it is what came back if it is whole and its status is none of 200 to 299. Then a
+/// prefix of the request went out, and the connection is not kept.
 ///
 /// Its error says why none came: `Unserved`, with the reason, also for the statuses 408, 429, 502, 503 and 504, or `Memory`. Then a prefix
 /// of the request went out, and the connection is of no more use.
@@ -135,14 +197,16 @@ pub fn ask<L: Source + Sink + Look, C: Clock>(
     requires sendable { CanBeSent post.now.target.now (pairs post.now.headers.now) }
     ensures answered { (seen : Seen) × Sees (L.input link.old) (C.shown clock.old) seen (L.input link.new) (C.shown clock.new)
         × OnOk result (InTime bounds.deadline seen.times) × MatchResult result (IsReceived head_limits bounds.max_body seen.read)
-        (Explains bounds.deadline seen (seen_link L.input L.output link.old) (seen_link L.input L.output link.new)) }
-    ensures request { OnOk result ((L.output link.new).got ≡ and_then (L.output link.old).got (text_of post.now)) }
+        (Explains bounds.max_body bounds.deadline seen (seen_link L.input L.output link.old) (seen_link L.input L.output link.new)) }
+    ensures request { IfOk result (λ received. Sends (text_of post.now) (L.output link.old) (L.output link.new) (Refuses received)) }
     ensures prefix { (count : ℕ) × ((L.output link.new).got ≡ and_then (L.output link.old).got (take count (text_of post.now))) }
-    ensures no_failure { OnOk result (((L.input link.new).failures ≡ (L.input link.old).failures)
-        × ((L.output link.new).failures ≡ (L.output link.old).failures)) }
+    ensures no_failure { OnOk result ((L.input link.new).failures ≡ (L.input link.old).failures) }
 {
     let mut client = Client::new(HEAD_LIMITS);
     let request = encode_post(alloc, &mut client, post)?;
-    send_request(link, clock, bounds.deadline, &request)?;
-    receive(alloc, link, clock, client, bounds)
+    match send_request(link, clock, bounds.deadline, &request) {
+        Ok(()) => receive(alloc, link, clock, client, bounds),
+        Err(Unsent::Write) => receive_refusal(alloc, link, clock, client, bounds),
+        Err(Unsent::Late) => Err(NotDone::Unserved(Unserved::Late)),
+    }
 }

@@ -6,10 +6,10 @@ ghost use Rattle.byte_io.specs.Sides.{and_then};
 ghost use Rattle.gear_packets.specs.Reading.{job_of};
 ghost use Rattle.job_runner.specs.Run.{seen_link};
 ghost use Rattle.http_jobs.specs.Clock.{InTime};
-ghost use Rattle.http_jobs.specs.Exchange.{Explains, IsDone, IsReceived, Sees};
+ghost use Rattle.http_jobs.specs.Exchange.{Explains, IsDone, IsReceived, IsRefusal, Refuses, Sees, Sends};
 ghost use Rattle.http_jobs.specs.Reasons.{Seen};
 ghost use Rattle.http_jobs.specs.Request.{most_body, request_of};
-ghost use Rattle.http_jobs.specs.Response.{head_limits};
+ghost use Rattle.http_jobs.specs.Response.{head_limits, reply_of};
 
 use crate::answers::{Bounds, Received, ask};
 use crate::clock::Clock;
@@ -34,8 +34,9 @@ pub struct Done {
 
 /// What an exchange came to, by what came back. The only error is out of memory.
 fn done_of(alloc: Global, received: Received) -> Result<Done, AllocError>
-    ensures { (limits : Heads) (max : ℕ) (read : List ℕ) → IsReceived limits max read received
+    ensures done { (limits : Heads) (max : ℕ) (read : List ℕ) → IsReceived limits max read received
         → IfOk result (IsDone limits max read) }
+    ensures refused { Refuses received → IfOk result (λ done. IsRefusal (reply_of done.reply) done.is_kept) }
 {
     match received {
         Received::Whole(answer) => {
@@ -63,12 +64,12 @@ pub fn exchange<L: Source + Sink + Look, C: Clock>(
     requires writes { (L.output link.old).failures < 2 ^ 64 - 1 }
     ensures exchanged { (seen : Seen) × Sees (L.input link.old) (C.shown clock.old) seen (L.input link.new) (C.shown clock.new)
         × OnOk result (InTime deadline seen.times) × MatchResult result (IsDone head_limits (most_body (job_of job.now)) seen.read)
-        (Explains deadline seen (seen_link L.input L.output link.old) (seen_link L.input L.output link.new)) }
-    ensures request { OnOk result ((L.output link.new).got ≡ and_then (L.output link.old).got (request_of service.now (job_of job.now))) }
+        (Explains (most_body (job_of job.now)) deadline seen (seen_link L.input L.output link.old) (seen_link L.input L.output link.new)) }
+    ensures request { IfOk result (λ done. Sends (request_of service.now (job_of job.now)) (L.output link.old) (L.output link.new)
+        (IsRefusal (reply_of done.reply) done.is_kept)) }
     ensures prefix { (count : ℕ) × ((L.output link.new).got
         ≡ and_then (L.output link.old).got (take count (request_of service.now (job_of job.now)))) }
-    ensures no_failure { OnOk result (((L.input link.new).failures ≡ (L.input link.old).failures)
-        × ((L.output link.new).failures ≡ (L.output link.old).failures)) }
+    ensures no_failure { OnOk result ((L.input link.new).failures ≡ (L.input link.old).failures) }
 {
     let target = target(alloc, service, job)?;
     let headers = headers(alloc, service, job)?;

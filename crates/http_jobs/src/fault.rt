@@ -11,7 +11,7 @@ pub enum Unserved {
     /// No connection was opened, for this reason.
     #[error("no connection was opened: {why}", why = dial_words(*.0))]
     Unreachable(DialError),
-    /// A write failed. A prefix of the request went out.
+    /// A write failed, and no response came that refuses the job. A prefix of the request went out.
     #[error("a write failed")]
     Write,
     /// A read failed.

@@ -4,6 +4,7 @@ ghost use Rattle.std.specs.Prelude.{◌≡◌, [], IfOk, Some};
 ghost use Rattle.std.specs.Option.{option_map};
 ghost use Rattle.job_runner.specs.Told.{told_of};
 ghost use Rattle.http_jobs.specs.Response.{body_as_warning, failed_with, failure_by, reply_of, told_by, told_in};
+ghost use Rattle.http_jobs.specs.Response as spec;
 ghost use Rattle.http_jobs.specs.declared.outcome.Failure.TheVariants.{TooLarge};
 
 use job_runner::{End, Note, Outcome};
@@ -46,6 +47,13 @@ impl Reply {
             None => None,
         }
     }
+}
+
+/// Whether the service says by this status that it received the request and accepted it: 200 to 299.
+pub fn is_success(status: u16) -> bool
+    ensures { result ≡ spec.is_success status }
+{
+    status >= 200 && status < 300
 }
 
 /// A job that failed without a warning.
@@ -91,7 +99,7 @@ pub fn reply_to(
     ensures told { IfOk result (λ reply. told_of reply.outcome ≡ told_by status is_unbounded body.items) }
     ensures failure { IfOk result (λ reply. reply.failure ≡ failure_by status is_unbounded) }
 {
-    if status < 200 || status >= 300 {
+    if !is_success(status) {
         return Ok(Reply {
             outcome: failure_with(alloc, body)?,
             failure: Some(Failure::Status(status)),

@@ -6,10 +6,18 @@ ghost use Rattle.http_jobs.specs.Clock.{InTime, shown_then};
 ghost use Rattle.http_jobs.specs.Reasons.{NotSent};
 
 use crate::clock::{Clock, is_late};
-use crate::fault::{NotDone, Unserved};
 use crate::look::Look;
 use crate::posts::EncodedRequest;
 use byte_io::{Sink, is_past};
+
+/// Why bytes were not sent, or only a prefix of them.
+#[derive(Clone, Copy, Debug, PartialEq, Eq)]
+pub enum Unsent {
+    /// A write failed, before the deadline.
+    Write,
+    /// The deadline came.
+    Late,
+}
 
 /// Lets the next write wait until the deadline, and no longer. Without a deadline, or if the time is not known, writes wait as long as
 /// before.
@@ -31,7 +39,7 @@ pub fn send<L: Sink + Look, C: Clock>(
     clock: &mut C,
     deadline: Option<u64>,
     bytes: &[u8],
-) -> Result<(), NotDone>
+) -> Result<(), Unsent>
     requires count { (L.output link.old).failures < 2 ^ 64 - 1 }
     ensures sent { OnOk result (HasText (L.output link.old) bytes.now (L.output link.new)) }
     ensures prefix { (count : ℕ) × ((L.output link.new).got ≡ and_then (L.output link.old).got (take count bytes.now)) }
@@ -43,7 +51,7 @@ pub fn send<L: Sink + Look, C: Clock>(
     while count < bytes.len() {
         let now = clock.now_ms();
         if is_past(deadline, now) {
-            return Err(NotDone::Unserved(Unserved::Late));
+            return Err(Unsent::Late);
         }
         limit_write(link, deadline, now);
         match link.give(&bytes[count..]) {
@@ -51,9 +59,9 @@ pub fn send<L: Sink + Look, C: Clock>(
             Err(_) => {
                 // Such as a write that waited for all the time that was left.
                 if is_late(clock, deadline) {
-                    return Err(NotDone::Unserved(Unserved::Late));
+                    return Err(Unsent::Late);
                 }
-                return Err(NotDone::Unserved(Unserved::Write));
+                return Err(Unsent::Write);
             }
         }
     }
@@ -67,7 +75,7 @@ pub fn send_request<L: Sink + Look, C: Clock>(
     clock: &mut C,
     deadline: Option<u64>,
     request: &EncodedRequest<'_>,
-) -> Result<(), NotDone>
+) -> Result<(), Unsent>
     requires count { (L.output link.old).failures < 2 ^ 64 - 1 }
     ensures sent { OnOk result (HasText (L.output link.old) (request.now.text.items ++ request.now.rest.now) (L.output link.new)) }
     ensures prefix { (count : ℕ) × ((L.output link.new).got

@@ -32,4 +32,4 @@ pub returns-clause-exchanged : goal.returns-clause-exchanged
 returns-clause-exchanged g c =
     let got = c.in_ok-received.ensures.answered in
     let most = c.most_body.result in
-    (got.0, got.1, got.2, subst (λ (n : ℕ). IsDone head_limits n got.0.read c.in_ok-done_of.field-0) c.most_body.ensures (c.in_ok-done_of.ensures head_limits most got.0.read got.3))
+    (got.0, got.1, got.2, subst (λ (n : ℕ). IsDone head_limits n got.0.read c.in_ok-done_of.field-0) c.most_body.ensures (c.in_ok-done_of.ensures.done head_limits most got.0.read got.3))

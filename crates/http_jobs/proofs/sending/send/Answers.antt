@@ -44,7 +44,12 @@ returns-in-Err-clause-why g c =
     let times = so_far.0 ++ now ∷ [] in
     let shown = c.now_ms-now.ensures ∙ ap (λ (o : Shown). shown_then o (now ∷ [])) so_far.1 ∙ shown_twice _ so_far.0 (now ∷ []) in
     let unfailed = ap (λ (o : Output). o.failures) c.limit_write.ensures.output in
-    (times ++ again.0 ∷ [], again.1 ∙ ap (λ (o : Shown). shown_then o (again.0 ∷ [])) shown ∙ shown_twice _ times (again.0 ∷ []), tt, omega (arith, c.in-Err.ensures.fails, unfailed, c.loop-count.invariant.unfailed))
+    let in_time = in_time_more c.args.deadline so_far.0 now so_far.2 (sym c.is_past.ensures.past ∙ c.if-is_past.false) in (
+      times ++ again.0 ∷ [],
+      again.1 ∙ ap (λ (o : Shown). shown_then o (again.0 ∷ [])) shown ∙ shown_twice _ times (again.0 ∷ []),
+      tt,
+      (omega (arith, c.in-Err.ensures.fails, unfailed, c.loop-count.invariant.unfailed), in_time_more c.args.deadline times again.0 in_time (sym again.2 ∙ c.if-is_late.false)),
+    )
 
 pub returns-clause-why : goal.returns-clause-why
 returns-clause-why g c =
