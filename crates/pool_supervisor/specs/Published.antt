@@ -1,6 +1,5 @@
 -- The orders that are published.
 use Rattle.std.specs.Prelude.{◌≡◌, ◌⊎◌, ℕ, nat_lt, List, [], ◌∷◌, ◌++◌, length, if◌then◌else◌, is_some}
-use Rattle.std.specs.List.{AllByRecursion}
 use Rattle.worker_state.specs.OrderParts.{OrderParts}
 use Rattle.worker_state.specs.Slots.{is_live}
 use Rattle.worker_state.specs.declared.order.What.TheVariants.{Stop}
@@ -30,6 +29,13 @@ ArePosted orders before now = (slot : ℕ) → posts_of slot now ≡ posts_of sl
 abbrev pub IsRead : List OrderParts → OrderParts → Type 0
 IsRead seen order = (order ≡ latest seen) ⊎ (order ≡ record (latest seen) { what = Stop })
 
--- Each of the orders is what a reader is told that has seen a beginning of these posts of its slot.
+-- A seat that had seen the first of these posts of its slot was told these orders, one after the other, and has seen the last of these
+-- posts now: at each order it had seen as many as before or more, and was told of them.
+abbrev pub AreReadFrom : List OrderParts → List OrderParts → List OrderParts → Type 0
+AreReadFrom first [] last = BeginsWith last first
+AreReadFrom first (order ∷ orders) last =
+    (seen : List OrderParts) × BeginsWith seen first × IsRead seen order × AreReadFrom seen orders last
+
+-- The orders, in turn, are what a reader is told that had seen no post of its slot at first and has seen these now.
 abbrev pub AreSeen : List OrderParts → List OrderParts → Type 0
-AreSeen seen orders = ∥ AllByRecursion (λ order. (earlier : List OrderParts) × BeginsWith seen earlier × IsRead earlier order) orders ∥₁
+AreSeen seen orders = ∥ AreReadFrom [] orders seen ∥₁

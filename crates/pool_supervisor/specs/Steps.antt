@@ -15,6 +15,7 @@ use Rattle.pool_core.specs.Machine.{State, slot_in}
 use Rattle.pool_core.specs.Book.{Book, IsInputOf, expire_refusal, grab_refusal, ran_of}
 use Rattle.pool_core.specs.Calls.{Adopts, EndsChapter, Grabs, Views}
 use Rattle.pool_core.specs.declared.error.AdoptError.{AdoptError}
+use Rattle.pool_core.specs.declared.error.ChapterError.{ChapterError}
 use Rattle.pool_core.specs.declared.error.GrabError.{GrabError}
 use Rattle.pool_core.specs.declared.error.GrabError.TheVariants as grab
 use Rattle.pool_core.specs.declared.error.ViewError.{ViewError}
@@ -33,16 +34,18 @@ abbrev pub IsChapterDue : Until → Book → Type 0
 IsChapterDue (Rounds rounds) book = book.settings.history < 2 * length book.events
 IsChapterDue Ended book = 0 < length book.events
 
--- The history had no room for a job of the worker, in a run until its watch ends it. So the chapter was ended.
-abbrev pub IsCutFor : Until → WorkerName → Book → Book → Chapter → Type 0
-IsCutFor until worker old new chapter =
-    (until ≡ Ended) × (grab_refusal old worker ≡ Some grab.HistoryFull) × EndsChapter old new (Ok chapter)
+-- A job ends the chapter: in a run until its watch ends it, if the history has events and no room for a job of the worker.
+abbrev pub IsCutDue : Until → WorkerName → Book → Type 0
+IsCutDue until worker book = (until ≡ Ended) × (grab_refusal book worker ≡ Some grab.HistoryFull) × (0 < length book.events)
 
--- The worker's job was booked, or refused: at once, or after a chapter was ended for it.
-abbrev pub GrabsOrCuts : Until → WorkerName → List ℕ → List ℕ → ℕ → Book → Book → Result ℕ GrabError → Option Chapter → Type 0
-GrabsOrCuts until worker handle function now old new answer None = Grabs worker handle function now old new answer
-GrabsOrCuts until worker handle function now old new answer (Some chapter) =
-    (between : Book) × IsCutFor until worker old between chapter × Grabs worker handle function now between new answer
+-- The worker's job was booked or refused: at once if no cut of the history was due, and else after the chapter was ended, or the pool
+-- refused to end it.
+abbrev pub GrabsOrCuts : Until → WorkerName → List ℕ → List ℕ → ℕ → Book → Book → Result ℕ GrabError
+    → Option (Result Chapter ChapterError) → Type 0
+GrabsOrCuts until worker handle function now old new answer None =
+    (IsCutDue until worker old → ⊥) × Grabs worker handle function now old new answer
+GrabsOrCuts until worker handle function now old new answer (Some cut) =
+    (between : Book) × IsCutDue until worker old × EndsChapter old between cut × Grabs worker handle function now between new answer
 
 -- the worker in the slot, or the last one that was
 abbrev pub worker_of : State → ℕ → WorkerName

@@ -1,6 +1,6 @@
 //! The steps of an attempt, each on what lies under the lock in one hold of it.
-ghost use Rattle.std.specs.Prelude.{◌≡◌, ◌↔◌, ◌+◌, ◌<◌, ◌≤◌, ◌++◌, ◌∷◌, [], ℕ, true, false, not, count_by};
-ghost use Rattle.std.specs.Prelude.{IsSome, IfSome, IfNone, IfOk, OnOk, OnErr, Ok};
+ghost use Rattle.std.specs.Prelude.{◌≡◌, ◌↔◌, ◌+◌, ◌<◌, ◌≤◌, ◌++◌, ◌∷◌, [], ℕ, true, false, not, count_by, length};
+ghost use Rattle.std.specs.Prelude.{IsSome, IfSome, IfNone, IfOk, OnOk, OnErr, Ok, Err};
 ghost use Rattle.pool_settings.specs.Slots.{slots as slot_count};
 ghost use Rattle.worker_state.specs.Slots.{is_live};
 ghost use Rattle.worker_state.specs.declared.slot.Slot.TheVariants.{Empty};
@@ -8,7 +8,7 @@ ghost use Rattle.pool_core.specs.Machine.{slot_in};
 ghost use Rattle.pool_core.specs.Book.{has_closed_prefix};
 ghost use Rattle.pool_core.specs.Calls.{Adopts, EndsChapter, Expires};
 ghost use Rattle.pool_supervisor.specs.Published.{ArePosted, round_order, stop_order};
-ghost use Rattle.pool_supervisor.specs.Reached.{IsReached, IsRoundOf};
+ghost use Rattle.pool_supervisor.specs.Reached.{IsRoundOf};
 ghost use Rattle.pool_supervisor.specs.Steps.{GrabsOrCuts, IsChapterDue, IsLate, most_forgotten, worker_of};
 
 use crate::attempts::Until;
@@ -64,27 +64,39 @@ impl<'e, N: RunId> RunBoard<'e, N> {
         }
     }
 
-    /// Ends the chapter of a run that goes on until its watch ends it, if there is any event. None if it goes on.
-    fn cut(&self, held: &mut Booked<Grabs<N>, Reports<N>>) -> Option<Chapter>
-        ensures cut { IfSome result (λ chapter. (self.now.until ≡ Until.Ended) × EndsChapter held.old held.new (Ok chapter)) }
+    /// Ends the chapter for a job that was answered so, if that is due: in a run until its watch ends it, if there was no room for the job
+    /// and there is any event. None if it goes on.
+    fn cut_for(
+        &self,
+        held: &mut Booked<Grabs<N>, Reports<N>>,
+        answer: &Result<Ticket, GrabError>,
+    ) -> Option<Result<Chapter, ChapterError>>
+        ensures due { IsSome result
+            ↔ (self.now.until ≡ Until.Ended) × (answer.now ≡ Err GrabError.HistoryFull) × (0 < length held.old.events) }
+        ensures ends { IfSome result (EndsChapter held.old held.new) }
         ensures goes_on { IfNone result (held.new ≡ held.old) }
     {
+        let Err(GrabError::HistoryFull) = answer else {
+            return None;
+        };
         match self.until {
             Until::Rounds(_) => None,
-            // A refusal changes nothing.
-            Until::Ended => self.end_if_due(held)?.ok(),
+            Until::Ended => self.end_if_due(held),
         }
     }
 
     /// Books a job as [`Booked::grab`] does. If the history has no room for it, and the run goes on until its watch ends it, the chapter is
-    /// ended first. Its events are handed out, to be dropped once the lock is free.
+    /// ended first. Its events are handed out, to be dropped once the lock is free; the error says why the pool did not end it.
     pub fn grab(
         &self,
         held: &mut Booked<Grabs<N>, Reports<N>>,
         mine: &mut Share<Grabs<N>>,
         pass: &Pass,
         job: GivenJob<'_>,
-    ) -> (Result<Ticket, GrabError>, Option<Chapter>)
+    ) -> (
+        Result<Ticket, GrabError>,
+        Option<Result<Chapter, ChapterError>>,
+    )
         requires part { 0 < mine.old.parts }
         ensures pool { GrabsOrCuts self.now.until pass.now job.entry.handle.now job.entry.function.now job.entry.now_ms
             held.old held.new result.0 result.1 }
@@ -98,14 +110,11 @@ impl<'e, N: RunId> RunBoard<'e, N> {
             now_ms,
         } = job;
         let answer = held.grab(mine, pass, handle.copy(), function, now_ms);
-        let Err(GrabError::HistoryFull) = answer else {
-            return (answer, None);
-        };
-        let Some(chapter) = self.cut(held) else {
+        let Some(cut) = self.cut_for(held, &answer) else {
             return (answer, None);
         };
         let again = held.grab(mine, pass, handle.copy(), function, now_ms);
-        (again, Some(chapter))
+        (again, Some(cut))
     }
 
     /// Whether no worker is in the slot.
