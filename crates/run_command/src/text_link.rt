@@ -1,6 +1,6 @@
 //! A link to a job server on which each text has a deadline.
 
-ghost use Rattle.std.specs.Prelude.{◌≡◌, ◌+◌, ◌-◌, ◌<◌, ◌≤◌, ◌^◌, IfOk, None, false, length, true};
+ghost use Rattle.std.specs.Prelude.{◌≡◌, ◌+◌, ◌-◌, ◌<◌, ◌≤◌, ◌^◌, IfOk, None, Ok, false, length, true};
 ghost use Rattle.byte_io.specs.Deadline.{deadline_from, is_past};
 ghost use Rattle.byte_io.specs.Device.{failure_of, gone};
 ghost use Rattle.byte_io.specs.Sides.{and_then};
@@ -57,6 +57,7 @@ impl<'e, L: Source + Sink, H: Watch> TextLink<'e, L, H> {
         ensures fresh { IsNew (seen_link ⟦<TextLink<'e, L, H> as Device>⟧.input ⟦<TextLink<'e, L, H> as Device>⟧.output result) }
         ensures unwritten { result.deadline ≡ None }
         ensures unlimited { result.read_until ≡ None }
+        ensures link { result.link ≡ link }
         ensures limit { result.limit_ms ≡ limit_ms }
     {
         TextLink {
@@ -119,7 +120,9 @@ impl<'e, L, H> TextLink<'e, L, H> {
 
 impl<'e, L, H: Watch> TextLink<'e, L, H> {
     /// Whether all had to be read by now, or nobody waits for it any more.
-    fn is_read_late(&self) -> bool {
+    fn is_read_late(&self) -> bool
+        ensures unhurried { self.now.read_until ≡ None → result ≡ false }
+    {
         self.read_until.is_some()
             && (self.watch.has_to_end() || byte_io::is_past(self.read_until, self.watch.now_ms()))
     }
@@ -139,7 +142,24 @@ impl<'e, L: Device, H> Device for TextLink<'e, L, H> {
 }
 
 impl<'e, L: Source, H: Watch> Source for TextLink<'e, L, H> {
-    fn take(&mut self, buffer: &mut [u8]) -> Result<Took, DeviceFault> {
+    ghost use Rattle.byte_io.specs.Device.{FitsBuffer, failure_of, is_end, lull_of, taken};
+    ghost use Rattle.byte_io.specs.Sides.{and_then, counted};
+
+    fn take(&mut self, buffer: &mut [u8]) -> Result<Took, DeviceFault>
+        requires room { 0 < length buffer.old }
+        requires count { (L.input self.old.link).failures + self.old.late_reads < 2 ^ 64 - 1 }
+        ensures within { IfOk result (FitsBuffer (length buffer.new)) }
+        ensures bytes { (L.input self.new.link).given ≡ and_then (L.input self.old.link).given (taken buffer.new result) }
+        ensures pauses { (L.input self.new.link).lulls ≡ counted (L.input self.old.link).lulls (lull_of result) }
+        ensures fails { (L.input self.new.link).failures + self.new.late_reads
+            ≡ ((L.input self.old.link).failures + self.old.late_reads) + failure_of result }
+        ensures ends { self.new.has_ended ≡ is_end result }
+        ensures output { ⟦<TextLink<'e, L, H> as Device>⟧.output self.new ≡ ⟦<TextLink<'e, L, H> as Device>⟧.output self.old }
+        ensures unhurried { self.old.read_until ≡ None → self.new.late_reads ≡ self.old.late_reads }
+        ensures writing { (self.new.deadline ≡ self.old.deadline) × (self.new.limit_ms ≡ self.old.limit_ms)
+            × (self.new.late ≡ self.old.late) }
+        ensures limit { self.new.read_until ≡ self.old.read_until }
+    {
         self.has_ended = false;
         if self.is_read_late() {
             self.late_reads += 1;
@@ -152,7 +172,20 @@ impl<'e, L: Source, H: Watch> Source for TextLink<'e, L, H> {
 }
 
 impl<'e, L: Sink, H: Watch> Sink for TextLink<'e, L, H> {
-    fn give(&mut self, bytes: &[u8]) -> Result<usize, DeviceFault> {
+    fn give(&mut self, bytes: &[u8]) -> Result<usize, DeviceFault>
+        requires some { 0 < length bytes.now }
+        requires count { (L.output self.old.link).failures + self.old.late < 2 ^ 64 - 1 }
+        ensures within { IfOk result (λ n. (1 ≤ n) × (n ≤ length bytes.now)) }
+        ensures bytes { (L.output self.new.link).got ≡ and_then (L.output self.old.link).got (gone bytes.now result) }
+        ensures fails { (L.output self.new.link).failures + self.new.late
+            ≡ ((L.output self.old.link).failures + self.old.late) + failure_of result }
+        ensures input { ⟦<TextLink<'e, L, H> as Device>⟧.input self.new ≡ ⟦<TextLink<'e, L, H> as Device>⟧.input self.old }
+        ensures reading { (self.new.read_until ≡ self.old.read_until) × (self.new.late_reads ≡ self.old.late_reads)
+            × (self.new.has_ended ≡ self.old.has_ended) }
+        ensures first { self.old.deadline ≡ None → self.new.late ≡ self.old.late }
+        ensures whole { self.old.deadline ≡ None → result ≡ Ok (length bytes.now) → self.new.deadline ≡ None }
+        ensures limit { self.new.limit_ms ≡ self.old.limit_ms }
+    {
         if self.deadline.is_some() {
             let now = self.watch.now_ms();
             return self.give_at(bytes, now);
