@@ -163,16 +163,6 @@ impl<'e, H: Wait> Reporting<'e, H> {
     }
 }
 
-impl<'e, H: FarmHost> Reporting<'e, H> {
-    /// Opens the page of the farm if it has one that is not open yet.
-    pub fn open_page(&self) {
-        if let Some(door) = self.shut_door() {
-            let came = self.host.open_page(door.page, door.times);
-            self.host.tell_if(door.was_tried(self, self.alloc, &came));
-        }
-    }
-}
-
 impl<'e, H: Threads> Threads for Reporting<'e, H> {}
 
 impl<'e, H: Wait> Wait for Reporting<'e, H> {}
@@ -236,7 +226,10 @@ impl<'e, H: FarmHost> Watch for Reporting<'e, H> {
 impl<'e, H: FarmHost> Progress for Reporting<'e, H> {
     fn attempted(&self, made: &Attempted<'_>) {
         self.note(made.attempt);
-        self.open_page();
+        if let Some(door) = self.shut_door() {
+            let came = self.host.open_page(door.page, door.times);
+            self.host.tell_if(door.was_tried(self, self.alloc, &came));
+        }
         self.books.hosts.begin_attempt(self);
         if let Some(news) = self.books.files.begin_attempt(self) {
             self.host.tell(String::from_str(self.alloc, news.line()));

@@ -90,8 +90,11 @@ fn run_until_end<'x, H: FarmHost>(
         .services
         .page()
         .map(|page| PageDoor::new(page, page_times(farm)));
+    if let Some(door) = &door {
+        let came = host.open_page(door.page, door.times);
+        host.tell_if(door.was_tried(host, alloc, &came));
+    }
     let watch = Reporting::new(host, alloc, books, door);
-    watch.open_page();
     let lent = Lent {
         rt: &watch,
         alloc,
