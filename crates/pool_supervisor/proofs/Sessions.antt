@@ -7,7 +7,6 @@ use Rattle.byte_io.specs.Sides.{and_then}
 use Rattle.gear_packets.specs.Response.{AssignedJob}
 use Rattle.worker_state.specs.declared.slot.WorkerName.{WorkerName}
 use Rattle.std.specs.Prelude.{sum_by, IfSome, IfNone}
-use Rattle.pool_core.specs.declared.answer.Totals.{Totals}
 use Rattle.pool_settings.specs.Settings.{Settings}
 use Rattle.pool_settings.specs.Slots.{slots}
 use Rattle.job_runner.specs.declared.end.SessionEnd.{SessionEnd}
@@ -19,8 +18,11 @@ use Rattle.job_runner.specs.Run.{Link, Served, EndTold}
 use Rattle.job_runner.specs.Told.{Told, Telling, AreTold, IsMeant}
 use Rattle.worker_state.specs.OrderParts.{OrderParts}
 use Rattle.pool_supervisor.specs.Dials.{IsNew}
+use Rattle.pool_supervisor.specs.EndCounts.{with_cause}
+use Rattle.pool_supervisor.specs.declared.ends.EndCounts.{EndCounts}
+use Rattle.pool_supervisor.specs.declared.run_end.RunEnd.{RunEnd}
 use Rattle.pool_supervisor.specs.Published.{AreSeen}
-use Rattle.pool_supervisor.specs.Sessions.{Counts, no_counts, counts_of, counted, PastSession, past_session, turned_away, HasEnded, HadJobs, HadNamedJobs, IsPast, AllHad, AreSums, Covers}
+use Rattle.pool_supervisor.specs.Sessions.{Counts, no_counts, counts_of, counted, ends_after, PastSession, past_session, turned_away, HasEnded, HadJobs, HadNamedJobs, IsPast, AllHad, AreSums, Covers}
 
 -- a session of a worker of the run, by what its run promises
 pub is_past : {L F : Type 0} (see : L → Link) (tells : F → F → AssignedJob → Option Told → Type 0) (fails : F → F → AssignedJob → NotDone → Type 0)
@@ -61,14 +63,20 @@ is_past see tells fails gives denies had_jobs settings own worker end seen old n
 
 -- ---- what they counted
 
-abbrev counts : ℕ → ℕ → Counts
-counts grabbed reported = record { grabbed = grabbed; reported = reported }
+abbrev counts : ℕ → ℕ → EndCounts → Counts
+counts grabbed reported ends = record { grabbed = grabbed; reported = reported; ends = ends }
 
-pub same_counts : (one other : Counts) → one.grabbed ≡ other.grabbed → one.reported ≡ other.reported → one ≡ other
-same_counts one other grabs reports = ap (λ (g : ℕ). counts g one.reported) grabs ∙ ap (λ (r : ℕ). counts other.grabbed r) reports
+pub same_counts : (one other : Counts) → one.grabbed ≡ other.grabbed → one.reported ≡ other.reported → one.ends ≡ other.ends → one ≡ other
+same_counts one other grabs reports ends =
+    ap (λ (g : ℕ). counts g one.reported one.ends) grabs
+    ∙ (ap (λ (r : ℕ). counts other.grabbed r one.ends) reports ∙ ap (λ (e : EndCounts). counts other.grabbed other.reported e) ends)
 
 pub counted_none : (before : Counts) → counted before [] ≡ before
-counted_none before = same_counts (counted before []) before (omega arith) (omega arith)
+counted_none before = same_counts (counted before []) before (omega arith) (omega arith) refl
+
+ends_both : (before : EndCounts) (xs ys : List PastSession) → ends_after (ends_after before xs) ys ≡ ends_after before (xs ++ ys)
+ends_both before [] ys = refl
+ends_both before (x ∷ xs) ys = ends_both (with_cause x.end.cause before) xs ys
 
 -- what some sessions counted, and then more
 pub counted_both : (before between now : Counts) (xs ys : List PastSession) → between ≡ counted before xs → now ≡ counted between ys → now ≡ counted before (xs ++ ys)
@@ -77,15 +85,18 @@ counted_both before between now xs ys first then =
     = omega (arith, ap (λ (c : Counts). c.grabbed) first, ap (λ (c : Counts). c.grabbed) then, sum_by-append (λ (s : PastSession). s.end.grabbed) xs ys) in
     let reports : now.reported ≡ before.reported + sum_by (λ (s : PastSession). s.end.reported) (xs ++ ys)
     = omega (arith, ap (λ (c : Counts). c.reported) first, ap (λ (c : Counts). c.reported) then, sum_by-append (λ (s : PastSession). s.end.reported) xs ys) in
-    same_counts now (counted before (xs ++ ys)) grabs reports
+    let ends : now.ends ≡ ends_after before.ends (xs ++ ys)
+    = ap (λ (c : Counts). c.ends) then ∙ (ap (λ (c : Counts). ends_after c.ends ys) first ∙ ends_both before.ends xs ys) in
+    same_counts now (counted before (xs ++ ys)) grabs reports ends
 
 -- the sums of sessions, where none was counted before
-pub are_sums : (settings : Settings) (sessions : List PastSession) (totals : Totals) → AllByRecursion (HasEnded settings) sessions → counts_of totals ≡ counted no_counts sessions
-    → AreSums settings sessions totals.grabbed totals.reported
-are_sums settings sessions totals ended counts = record {
+pub are_sums : (settings : Settings) (sessions : List PastSession) (run : RunEnd) → AllByRecursion (HasEnded settings) sessions → counts_of run ≡ counted no_counts sessions
+    → AreSums settings sessions run
+are_sums settings sessions run ended counts = record {
   ended = ended;
   grabs = omega (arith, ap (λ (c : Counts). c.grabbed) counts);
   reports = omega (arith, ap (λ (c : Counts). c.reported) counts);
+  causes = ap (λ (c : Counts). c.ends) counts;
 }
 
 -- ---- jobs by name

@@ -4,7 +4,6 @@ use Rattle.std.specs.Prelude.{Result, IfErr}
 use Rattle.std.specs.List.{flat_map, AllByRecursion}
 use Rattle.std.proofs.lemmas.List.{append-nil, map-append}
 use Rattle.gear_status.specs.Status.{Line}
-use Rattle.pool_core.specs.declared.answer.Totals.{Totals}
 use Rattle.pool_settings.specs.Settings.{Settings}
 use Rattle.pool_settings.specs.Slots.{slots}
 use Rattle.pool_supervisor.specs.declared.attempt.Attempt.{Attempt}
@@ -13,6 +12,8 @@ use Rattle.job_runner.specs.declared.end.SessionEnd.{SessionEnd}
 use Rattle.job_runner.specs.Run.{Link}
 use Rattle.worker_state.specs.declared.slot.WorkerName.{WorkerName}
 use Rattle.pool_supervisor.specs.Dials.{DialCall, closed, then_called}
+use Rattle.pool_supervisor.specs.EndCounts.{with_cause}
+use Rattle.pool_supervisor.specs.declared.run_end.RunEnd.{RunEnd}
 use Rattle.pool_supervisor.specs.Joined.{Joins}
 use Rattle.pool_supervisor.specs.Sessions.{Counts, no_counts, counts_of, counted, PastSession, past_session, AllHad, HasEnded, IsPast, Covers}
 use Rattle.pool_supervisor.specs.Tries.{Rule, Look, dials_of, IsOneDial, DialsOnce, FillsSlot, FillFrom, IsSeenAs, FillsOne, Fills, Try, calls_of, joined_of, joined_by, line_of, IsTry, Attempts, Dials}
@@ -77,14 +78,14 @@ no_joins settings had_jobs counts before = record { sessions = []; ended = tt; j
 -- one session was joined
 pub one_join : (settings : Settings) (had_jobs : PastSession → Type 0) (worker : WorkerName) (end : SessionEnd) (link : Link) (old new : Counts) (before now : Option (List DialCall))
     → IsPast settings had_jobs worker end → new.grabbed ≡ old.grabbed + end.grabbed → new.reported ≡ old.reported + end.reported
-    → now ≡ then_called before (closed link ∷ []) → Joins settings had_jobs old new before now
-one_join settings had_jobs worker end link old new before now past grabs reports calls = record {
+    → new.ends ≡ with_cause end.cause old.ends → now ≡ then_called before (closed link ∷ []) → Joins settings had_jobs old new before now
+one_join settings had_jobs worker end link old new before now past grabs reports ends calls = record {
   sessions = past_session worker end past.0 ∷ [];
   ended = (past.1, tt);
   jobs = (past.2, tt);
   links = link ∷ [];
   one_each = refl;
-  counts = same_counts new (counted old (past_session worker end past.0 ∷ [])) (omega (arith, grabs)) (omega (arith, reports));
+  counts = same_counts new (counted old (past_session worker end past.0 ∷ [])) (omega (arith, grabs)) (omega (arith, reports)) ends;
   calls = calls;
 }
 
@@ -101,11 +102,11 @@ more_joins settings had_jobs old mid new before between now first then = record 
       ∙ ap (λ l. then_called before l) (sym (map-append closed first.links then.links));
 }
 
--- the same, told by the totals
-pub same_joins : (settings : Settings) (had_jobs : PastSession → Type 0) (old new : Counts) (totals : Totals) (before now : Option (List DialCall)) → Joins settings had_jobs old new before now
-    → totals.grabbed ≡ new.grabbed → totals.reported ≡ new.reported → Joins settings had_jobs old (counts_of totals) before now
-same_joins settings had_jobs old new totals before now joins grabs reports =
-    record { sessions = joins.sessions; ended = joins.ended; jobs = joins.jobs; links = joins.links; one_each = joins.one_each; counts = same_counts (counts_of totals) new grabs reports ∙ joins.counts; calls = joins.calls }
+-- the same, told by the end of a run
+pub same_joins : (settings : Settings) (had_jobs : PastSession → Type 0) (old new : Counts) (run : RunEnd) (before now : Option (List DialCall)) → Joins settings had_jobs old new before now
+    → run.totals.grabbed ≡ new.grabbed → run.totals.reported ≡ new.reported → run.ends ≡ new.ends → Joins settings had_jobs old (counts_of run) before now
+same_joins settings had_jobs old new run before now joins grabs reports ends =
+    record { sessions = joins.sessions; ended = joins.ended; jobs = joins.jobs; links = joins.links; one_each = joins.one_each; counts = same_counts (counts_of run) new grabs reports ends ∙ joins.counts; calls = joins.calls }
 
 -- ---- lines
 
@@ -169,19 +170,19 @@ joined_had settings allows had_jobs (try ∷ tries) all =
     let one = all.0 in all_of_both (λ (s : PastSession). ∥ had_jobs s ∥₁) try.joined (flat_map joined_of tries) one.jobs (joined_had settings allows had_jobs tries all.1)
 
 -- a whole run
-pub dials_of_run : (settings : Settings) (allows : Rule) (had_jobs : PastSession → Type 0) (old new : List Attempt) (first middle : Counts) (totals : Totals) (before between now : Option (List DialCall))
-    → first ≡ no_counts → Attempts settings allows had_jobs old new first middle before between → Joins settings had_jobs middle (counts_of totals) between now
-    → Dials settings allows had_jobs old new totals before now
-dials_of_run settings allows had_jobs old new first middle totals before between now none attempts last =
+pub dials_of_run : (settings : Settings) (allows : Rule) (had_jobs : PastSession → Type 0) (old new : List Attempt) (first middle : Counts) (run : RunEnd) (before between now : Option (List DialCall))
+    → first ≡ no_counts → Attempts settings allows had_jobs old new first middle before between → Joins settings had_jobs middle (counts_of run) between now
+    → Dials settings allows had_jobs old new run before now
+dials_of_run settings allows had_jobs old new first middle run before between now none attempts last =
     let from_none = subst (λ (c : Counts). Attempts settings allows had_jobs old new c middle before between) none attempts in
     let ended = all_of_both (HasEnded settings) (flat_map joined_of from_none.tries) last.sessions (joined_ended settings allows had_jobs from_none.tries from_none.each) last.ended in
-    let counts = counted_both no_counts middle (counts_of totals) (flat_map joined_of from_none.tries) last.sessions from_none.counts last.counts in
+    let counts = counted_both no_counts middle (counts_of run) (flat_map joined_of from_none.tries) last.sessions from_none.counts last.counts in
     record {
       middle = middle;
       between = between;
       attempts = from_none;
       last = last;
-      sums = are_sums settings (joined_by from_none.tries last.sessions) totals ended counts;
+      sums = are_sums settings (joined_by from_none.tries last.sessions) run ended counts;
       jobs = all_of_both (λ (s : PastSession). ∥ had_jobs s ∥₁) (flat_map joined_of from_none.tries) last.sessions
           (joined_had settings allows had_jobs from_none.tries from_none.each) last.jobs;
     }
@@ -197,9 +198,9 @@ tries_covered settings allows wide narrow (try ∷ tries) covers all =
       tries_covered settings allows wide narrow tries covers all.1,
     )
 
-pub dials_covered : (settings : Settings) (allows : Rule) (wide narrow : PastSession → Type 0) (old new : List Attempt) (totals : Totals) (before now : Option (List DialCall)) → Covers wide narrow
-    → Dials settings allows narrow old new totals before now → Dials settings allows wide old new totals before now
-dials_covered settings allows wide narrow old new totals before now covers dials =
+pub dials_covered : (settings : Settings) (allows : Rule) (wide narrow : PastSession → Type 0) (old new : List Attempt) (run : RunEnd) (before now : Option (List DialCall)) → Covers wide narrow
+    → Dials settings allows narrow old new run before now → Dials settings allows wide old new run before now
+dials_covered settings allows wide narrow old new run before now covers dials =
     let made = dials.attempts in
     let last = dials.last in
     record {

@@ -2,6 +2,7 @@ pub mod Asking
 pub mod Boards
 pub mod Counted
 pub mod Dials
+pub mod EndCounts
 pub mod JobCounts
 pub mod Joined
 pub mod Lines

@@ -7,6 +7,7 @@ use Rattle.pool_core.specs.declared.answer.Totals.{Totals}
 use Rattle.pool_supervisor.specs.declared.attempt.Attempt.{Attempt}
 use Rattle.pool_supervisor.specs.declared.attempts.Until.{Until}
 use Rattle.pool_supervisor.specs.declared.attempts.Until.TheVariants.{Rounds, Ended}
+use Rattle.pool_supervisor.specs.declared.run_end.RunEnd.{RunEnd}
 use Rattle.pool_supervisor.specs.Counted.{CountAHistory}
 use Rattle.pool_supervisor.specs.Dials.{DialCall}
 use Rattle.pool_supervisor.specs.Rounds.{AreNoted, TellRun}
@@ -31,10 +32,10 @@ AreOfOneHistory settings totals chapters lines =
 
 -- Attempts were made, one after the other, and added these lines, of which some are kept. Then Stop was posted, and the sessions that were
 -- left were joined. Lines, totals and chapters are of one history, and the totals are the sums of what the joined sessions counted.
-pub record IsRun (settings : Settings) (allows : Rule) (had_jobs : PastSession → Type 0) (until : Until) (old kept : List Attempt)
-    (totals : Totals) (chapters : ℕ) (posts : List Post) (before now : Option (List DialCall)) : Type 0 where
+pub record IsRun (settings : Settings) (allows : Rule) (had_jobs : PastSession → Type 0) (until : Until) (old : List Attempt)
+    (run : RunEnd) (posts : List Post) (before now : Option (List DialCall)) : Type 0 where
   pub lines : List Attempt
-  pub keeps : Keeps until lines kept
+  pub keeps : Keeps until lines run.lines.items
   pub tells : TellRun settings old lines posts
-  pub dials : Dials settings allows had_jobs old lines totals before now
-  pub history : AreOfOneHistory settings totals chapters lines
+  pub dials : Dials settings allows had_jobs old lines run before now
+  pub history : AreOfOneHistory settings run.totals run.chapters lines

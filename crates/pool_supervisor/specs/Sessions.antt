@@ -1,10 +1,9 @@
 -- What contracts see of a run's sessions.
-use Rattle.std.specs.Prelude.{◌≡◌, ℕ, ◌+◌, ◌<◌, List, Option, Some, IfSome, IfNone, sum_by}
+use Rattle.std.specs.Prelude.{◌≡◌, ℕ, ◌+◌, ◌<◌, List, [], ◌∷◌, Option, Some, IfSome, IfNone, sum_by}
 use Rattle.std.specs.List.{AllByRecursion}
 use Rattle.byte_io.specs.Sides.{and_then}
 use Rattle.gear_packets.specs.Response.{AssignedJob}
 use Rattle.worker_state.specs.declared.slot.WorkerName.{WorkerName}
-use Rattle.pool_core.specs.declared.answer.Totals.{Totals}
 use Rattle.pool_settings.specs.Settings.{Settings}
 use Rattle.pool_settings.specs.Slots.{slots}
 use Rattle.job_runner.specs.declared.end.EndCause.TheVariants as cause
@@ -16,14 +15,18 @@ use Rattle.job_runner.specs.Loop.{duty_of}
 use Rattle.job_runner.specs.Run.{Link, Served, EndTold}
 use Rattle.job_runner.specs.Told.{Told, Telling, IsMeant}
 use Rattle.pool_supervisor.specs.Dials.{IsNew}
+use Rattle.pool_supervisor.specs.EndCounts.{no_ends, with_cause}
+use Rattle.pool_supervisor.specs.declared.ends.EndCounts.{EndCounts}
+use Rattle.pool_supervisor.specs.declared.run_end.RunEnd.{RunEnd}
 
--- how many jobs were grabbed, and how many were reported
+-- how many jobs were grabbed, how many were reported, and how many sessions ended for each cause
 pub record Counts : Type 0 where
   pub grabbed : ℕ
   pub reported : ℕ
+  pub ends : EndCounts
 
 abbrev pub no_counts : Counts
-no_counts = record { grabbed = 0; reported = 0 }
+no_counts = record { grabbed = 0; reported = 0; ends = no_ends }
 
 -- how many there are to join, for how many there is room, and what those counted that were joined
 pub record Sessions : Type 0 where
@@ -79,14 +82,21 @@ abbrev pub IsPast : Settings → (PastSession → Type 0) → WorkerName → Ses
 IsPast settings had_jobs worker end =
     (told : Option (List Telling)) × HasEnded settings (past_session worker end told) × ∥ had_jobs (past_session worker end told) ∥₁
 
--- The sessions have ended, and grabbed and reported so many jobs together.
-pub record AreSums (settings : Settings) (sessions : List PastSession) (grabbed reported : ℕ) : Type 0 where
-  pub ended : AllByRecursion (HasEnded settings) sessions
-  pub grabs : grabbed ≡ sum_by (λ session. session.end.grabbed) sessions
-  pub reports : reported ≡ sum_by (λ session. session.end.reported) sessions
+-- how many sessions ended for each cause: so many as before, and one more for the cause of each of these, one after the other
+abbrev pub ends_after : EndCounts → List PastSession → EndCounts
+ends_after before [] = before
+ends_after before (session ∷ sessions) = ends_after (with_cause session.end.cause before) sessions
 
-abbrev pub counts_of : Totals → Counts
-counts_of totals = record { grabbed = totals.grabbed; reported = totals.reported }
+-- The sessions have ended. Together they grabbed as many jobs as the totals of the run, and reported as many, and its counts of causes are
+-- those of their ends.
+pub record AreSums (settings : Settings) (sessions : List PastSession) (run : RunEnd) : Type 0 where
+  pub ended : AllByRecursion (HasEnded settings) sessions
+  pub grabs : run.totals.grabbed ≡ sum_by (λ session. session.end.grabbed) sessions
+  pub reports : run.totals.reported ≡ sum_by (λ session. session.end.reported) sessions
+  pub causes : run.ends ≡ ends_after no_ends sessions
+
+abbrev pub counts_of : RunEnd → Counts
+counts_of run = record { grabbed = run.totals.grabbed; reported = run.totals.reported; ends = run.ends }
 
 -- the counts before, and what these sessions counted
 abbrev pub counted : Counts → List PastSession → Counts
@@ -94,6 +104,7 @@ counted before sessions =
     record {
       grabbed = before.grabbed + sum_by (λ session. session.end.grabbed) sessions;
       reported = before.reported + sum_by (λ session. session.end.reported) sessions;
+      ends = ends_after before.ends sessions;
     }
 
 -- each session had such jobs

@@ -4,7 +4,7 @@ use Rattle.std.specs.List.{flat_map, AllByRecursion}
 use Rattle.worker_state.specs.Slots.{is_live}
 use Rattle.job_runner.specs.Run.{Link}
 use Rattle.pool_core.specs.Machine.{State, slot_in}
-use Rattle.pool_core.specs.declared.answer.Totals.{Totals}
+use Rattle.pool_supervisor.specs.declared.run_end.RunEnd.{RunEnd}
 use Rattle.pool_settings.specs.Settings.{Settings}
 use Rattle.pool_settings.specs.Slots.{slots}
 use Rattle.pool_supervisor.specs.declared.attempt.Attempt.{Attempt}
@@ -103,15 +103,15 @@ pub record Attempts (settings : Settings) (allows : Rule) (had_jobs : PastSessio
 abbrev pub joined_by : List Try → List PastSession → List PastSession
 joined_by tries last = flat_map joined_of tries ++ last
 
--- What a run does with links: attempts, one after the other, and then the sessions that are left are joined. The totals are the sums of
--- what just these sessions counted, each of which was joined once and had such jobs.
-pub record Dials (settings : Settings) (allows : Rule) (had_jobs : PastSession → Type 0) (old new : List Attempt) (totals : Totals)
+-- What a run does with links: attempts, one after the other, and then the sessions that are left are joined. What the run came to has the
+-- sums of what just these sessions counted, each of which was joined once and had such jobs.
+pub record Dials (settings : Settings) (allows : Rule) (had_jobs : PastSession → Type 0) (old new : List Attempt) (run : RunEnd)
     (before now : Option (List DialCall)) : Type 0 where
   pub middle : Counts
   pub between : Option (List DialCall)
   pub attempts : Attempts settings allows had_jobs old new no_counts middle before between
-  pub last : Joins settings had_jobs middle (counts_of totals) between now
-  pub sums : AreSums settings (joined_by attempts.tries last.sessions) totals.grabbed totals.reported
+  pub last : Joins settings had_jobs middle (counts_of run) between now
+  pub sums : AreSums settings (joined_by attempts.tries last.sessions) run
   pub jobs : AllHad had_jobs (joined_by attempts.tries last.sessions)
 
 -- of each slot it is said that it may have a worker

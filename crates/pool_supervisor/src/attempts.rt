@@ -1,5 +1,5 @@
 //! The supervisor of a run, and the steps of an attempt, one after the other.
-ghost use Rattle.std.specs.Prelude.{◌≡◌, ◌+◌, ◌-◌, ◌<◌, ◌≤◌, ◌^◌, ◌∷◌, [], List, not, IfOk, OnOk, vec_len, vec_capacity};
+ghost use Rattle.std.specs.Prelude.{◌≡◌, ◌+◌, ◌-◌, ◌<◌, ◌≤◌, ◌∷◌, [], List, not, IfOk, OnOk, vec_len, vec_capacity};
 ghost use Rattle.pool_settings.specs.Slots.{slots as slot_count};
 ghost use Rattle.job_runner.specs.Run.{seen_link};
 ghost use Rattle.order_board.specs.declared.view.Post.{Post};
@@ -19,7 +19,7 @@ use crate::place::{Place, RunId, RunRounds};
 use crate::planner::Planner;
 use crate::port::Watch;
 use crate::queue::Queue;
-use crate::run::RunEnd;
+use crate::run_end::RunEnd;
 use crate::session::{Enrolled, Site};
 use byte_io::{Sink, Source};
 use order_board::{PublisherSeat, SeatSource};
@@ -416,8 +416,8 @@ impl<
         requires noted { AreNoted lines.told.items self.rounds }
         requires none_joined { self.crew.counts ≡ no_counts }
         requires until { self.site.run.until ≡ lines.until }
-        ensures runs { IfOk result (λ ended. IsRun N.settings N.allows N.had_jobs lines.until lines.told.items ended.0.lines.items
-            ended.0.totals ended.0.chapters self.entry.seats.publisher.posts (Y.calls self.entry.dial) (Y.calls ended.1)) }
+        ensures runs { IfOk result (λ ended. IsRun N.settings N.allows N.had_jobs lines.until lines.told.items ended.0
+            self.entry.seats.publisher.posts (Y.calls self.entry.dial) (Y.calls ended.1)) }
     {
         let attempted = self.attempt_and_stop(scope, &mut lines);
         let Supervisor {
@@ -439,8 +439,8 @@ impl<
         requires noted { AreNoted lines.told.items self.rounds }
         requires none_joined { self.crew.counts ≡ no_counts }
         requires until { self.site.run.until ≡ lines.until }
-        ensures runs { IfOk result (λ ended. IsRun N.settings N.allows N.had_jobs lines.until lines.told.items ended.0.lines.items
-            ended.0.totals ended.0.chapters self.entry.seats.publisher.posts (Y.calls self.entry.dial) (Y.calls ended.1)) }
+        ensures runs { IfOk result (λ ended. IsRun N.settings N.allows N.had_jobs lines.until lines.told.items ended.0
+            self.entry.seats.publisher.posts (Y.calls self.entry.dial) (Y.calls ended.1)) }
     {
         thread::scope(
             thread::scope_env(),
@@ -449,8 +449,8 @@ impl<
                 requires noted { AreNoted lines.told.items self.rounds }
                 requires none_joined { self.crew.counts ≡ no_counts }
                 requires until { self.site.run.until ≡ lines.until }
-                ensures runs { IfOk result (λ ended. IsRun N.settings N.allows N.had_jobs lines.until lines.told.items ended.0.lines.items
-                    ended.0.totals ended.0.chapters self.entry.seats.publisher.posts (Y.calls self.entry.dial) (Y.calls ended.1)) }
+                ensures runs { IfOk result (λ ended. IsRun N.settings N.allows N.had_jobs lines.until lines.told.items ended.0
+                    self.entry.seats.publisher.posts (Y.calls self.entry.dial) (Y.calls ended.1)) }
             { self.supervise(scope, lines) },
         )
     }

@@ -17,7 +17,7 @@ use crate::jobs::JobSource;
 use crate::news::{EndedWorker, Progress};
 use crate::place::{Grabs, Place, Reports, RunId, RunRounds};
 use crate::port::Watch;
-use crate::run::RunEnd;
+use crate::run_end::RunEnd;
 use crate::session::{Enrolled, Papers, Returned, Site, Unused, give_up};
 use byte_io::{Sink, Source};
 use core::thread::{Anything, Stack};
@@ -98,7 +98,7 @@ impl<N: RunId, L: Source + Sink> Model for Crew<N, L> {
     ghost view = { λ c. record {
       running = vec_len c.running;
       room = vec_capacity c.running;
-      counts = record { grabbed = c.grabbed; reported = c.reported };
+      counts = record { grabbed = c.grabbed; reported = c.reported; ends = c.ends };
     } };
 
     ghost invariant = { λ c.
@@ -255,7 +255,7 @@ impl<N: RunId, L: Source + Sink> Crew<N, L> {
         lines: Lines,
     ) -> RunEnd
         requires board { source.old.board ≡ N.board }
-        ensures joins { Joins N.settings N.had_jobs self.counts (counts_of result.totals) (Y.calls dial.old) (Y.calls dial.new) }
+        ensures joins { Joins N.settings N.had_jobs self.counts (counts_of result) (Y.calls dial.old) (Y.calls dial.new) }
         ensures lines { vec_len result.lines ≡ vec_len lines.told }
         ensures told { result.lines.items ≡ lines.told.items }
         ensures counts { CountAHistory N.settings result.totals result.chapters rounds }

@@ -5,7 +5,7 @@ ghost use Rattle.pool_supervisor.specs.Steps.{IsMadeOf};
 
 use crate::attempt::Attempt;
 use crate::queue::Queue;
-use crate::run::RunEnd;
+use crate::run_end::RunEnd;
 use job_runner::SessionEnd;
 use plan_model::{Certified, FuncId, SlotId};
 use pool_core::JoinError;

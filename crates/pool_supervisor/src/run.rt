@@ -1,24 +1,22 @@
 //! A run of the pool: what it makes, and what it came to.
-ghost use Rattle.std.specs.Prelude.{◌≡◌, ◌+◌, ◌≤◌, ◌^◌, [], List, IfOk, vec_len};
+ghost use Rattle.std.specs.Prelude.{◌≡◌, ◌≤◌, ◌^◌, [], List, IfOk, vec_len};
 ghost use Rattle.pool_settings.specs.Slots.{slots as slot_count};
 ghost use Rattle.pool_core.specs.Book.{totals_of};
-ghost use Rattle.pool_supervisor.specs.JobCounts.{answered};
+ghost use Rattle.pool_supervisor.specs.declared.attempt.Attempt.{Attempt};
 ghost use Rattle.pool_supervisor.specs.Rounds.{TellRun};
 ghost use Rattle.pool_supervisor.specs.Runs.{AreOfOneHistory, IsRun};
 ghost use Rattle.pool_supervisor.specs.Sessions.{Covers, HadJobs, HadNamedJobs};
 ghost use Rattle.pool_supervisor.specs.Tries.{Dials, all_slots};
 
-use crate::attempt::Attempt;
 use crate::attempts::{Lines, Seats, Supervisor, Until};
 use crate::crew::{Crew, PARTS};
 use crate::dial::Dial;
-use crate::ends::EndCounts;
-use crate::job_counts::JobCounts;
 use crate::jobs::JobSource;
 use crate::news::Progress;
 use crate::place::{Grabs, Reports, RunBoard, RunId};
 use crate::planner::Planner;
 use crate::port::Watch;
+use crate::run_end::RunEnd;
 use crate::session::{Lent, Site};
 use crate::shared::Shared;
 use agreed_rounds::NoRounds;
@@ -26,39 +24,13 @@ use byte_io::{Sink, Source};
 use job_runner::NamedJobs;
 use order_board::Board;
 use plan_model::FuncId;
-use pool_core::{Pool, Totals};
+use pool_core::Pool;
 use pool_settings::Settings;
 use std::alloc::{AllocError, Global};
 use std::marker::{Brand, PhantomData};
 use std::sync::Wait;
 use std::sync::ledger::Blank;
 use std::thread::Threads;
-
-/// How a run ended. The totals of the pool account for each job, and the numbers that the run adds up beside the pool are equal to them.
-#[derive(Debug, Drop)]
-pub struct RunEnd {
-    /// The totals of the pool after the last session.
-    pub totals: Totals,
-    /// How many jobs the sessions grabbed, added up.
-    pub grabbed: u64,
-    /// How many jobs they reported, added up.
-    pub reported: u64,
-    /// What became of the jobs that they were given, added up.
-    pub jobs: JobCounts,
-    /// Why the sessions ended.
-    pub ends: EndCounts,
-    /// How many chapters of the history ended.
-    pub chapters: u32,
-    /// What each attempt came to, the first one first. Nothing if the run went on until its watch ended it.
-    pub lines: Vec<Attempt>,
-    /// Each job that was grabbed is running, reported or lost.
-    pub ghost accounts: { totals.grabbed ≡ totals.running + totals.reported + totals.lost },
-    /// The sums are the totals.
-    pub ghost grabs_agree: { totals.grabbed ≡ grabbed },
-    pub ghost reports_agree: { totals.reported ≡ reported },
-    /// Each job that was reported was completed or failed.
-    pub ghost ends_agree: { answered jobs ≡ reported },
-}
 
 /// What a run makes before its first session starts.
 #[derive(Drop)]
@@ -110,8 +82,8 @@ impl<'e, L: Source + Sink + Send + Drop, Y: Dial<L> + Drop, P: Planner> Tools<'e
         requires rounds { made.rounds ≡ N.rounds }
         requires rule { J.allows lent.jobs.now ≡ N.allows }
         requires source { Covers N.had_jobs (HadJobs J.Jobs.tells J.Jobs.fails (J.gives lent.jobs.now) (J.denies lent.jobs.now)) }
-        ensures runs { IfOk result (λ ended. IsRun made.pool.settings N.allows N.had_jobs made.lines.until [] ended.0.lines.items
-            ended.0.totals ended.0.chapters [] (Y.calls self.entry.dial) (Y.calls ended.1)) }
+        ensures runs { IfOk result (λ ended. IsRun made.pool.settings N.allows N.had_jobs made.lines.until [] ended.0 []
+            (Y.calls self.entry.dial) (Y.calls ended.1)) }
     {
         let Tools {
             settings,
@@ -158,7 +130,7 @@ impl<'e, L: Source + Sink + Send + Drop, Y: Dial<L> + Drop, P: Planner> Tools<'e
     ) -> Result<(RunEnd, Y), AllocError>
         ensures runs { IfOk result (λ e. IsRun self.entry.settings.now (J.allows lent.entry.jobs.now)
             (HadJobs J.Jobs.tells J.Jobs.fails (J.gives lent.entry.jobs.now) (J.denies lent.entry.jobs.now))
-            until [] e.0.lines.items e.0.totals e.0.chapters [] (Y.calls self.entry.dial) (Y.calls e.1)) }
+            until [] e.0 [] (Y.calls self.entry.dial) (Y.calls e.1)) }
     {
         report_lacking(lent.watch, lent.jobs, self.settings);
         let made = make(lent.alloc, self.settings, until)?;
@@ -224,7 +196,7 @@ pub fn run_sessions<
     ensures one_history { IfOk result (λ e. AreOfOneHistory settings e.0.totals e.0.chapters e.0.lines.items) }
     ensures dials { IfOk result (λ e. Dials settings (S.allows lent.entry.jobs.now)
         (HadJobs S.Jobs.tells S.Jobs.fails (S.gives lent.entry.jobs.now) (S.denies lent.entry.jobs.now))
-        [] e.0.lines.items e.0.totals (Y.calls dial) (Y.calls e.1)) }
+        [] e.0.lines.items e.0 (Y.calls dial) (Y.calls e.1)) }
 {
     let tools: Tools<'_, L, Y, P> = Tools {
         settings: &settings,
@@ -252,7 +224,7 @@ pub fn run_until_ended<
     ensures attempts { IfOk result (λ e. (lines : List Attempt) × TellRun settings [] lines []
         × Dials settings (S.allows lent.entry.jobs.now)
         (HadJobs S.Jobs.tells S.Jobs.fails (S.gives lent.entry.jobs.now) (S.denies lent.entry.jobs.now)) [] lines
-        e.0.totals (Y.calls dial) (Y.calls e.1)
+        e.0 (Y.calls dial) (Y.calls e.1)
         × AreOfOneHistory settings e.0.totals e.0.chapters lines) }
     ensures none_kept { IfOk result (λ e. e.0.lines.items ≡ []) }
 {
@@ -287,7 +259,7 @@ pub fn run_pool<
     ensures lines { IfOk result (λ e. vec_len e.0.lines ≡ rounds) }
     ensures told { IfOk result (λ e. TellRun settings [] e.0.lines.items []) }
     ensures one_history { IfOk result (λ e. AreOfOneHistory settings e.0.totals e.0.chapters e.0.lines.items) }
-    ensures dials { IfOk result (λ e. Dials settings all_slots (HadNamedJobs (J.told jobs.now)) [] e.0.lines.items e.0.totals
+    ensures dials { IfOk result (λ e. Dials settings all_slots (HadNamedJobs (J.told jobs.now)) [] e.0.lines.items e.0
         (Y.calls dial) (Y.calls e.1)) }
 {
     let tools: Tools<'_, L, Y, P> = Tools {

@@ -17,7 +17,7 @@ use Rattle.pool_supervisor.specs.Runs.{AreOfOneHistory}
 use Rattle.pool_supervisor.specs.Sessions.{PastSession, AllHad, AreSums, HadNamedJobs}
 use Rattle.pool_supervisor.specs.declared.attempt.Attempt.{Attempt}
 use Rattle.pool_supervisor.specs.declared.attempt.Attempt.TheVariants.{NoPlan}
-use Rattle.pool_supervisor.specs.declared.run.RunEnd.{RunEnd}
+use Rattle.pool_supervisor.specs.declared.run_end.RunEnd.{RunEnd}
 use Rattle.stock_jobs.specs.Stock.{told_by_name}
 
 -- the lines of attempts, of which the first has this number
@@ -52,7 +52,7 @@ abbrev pub IsRunBy : List ℕ → (PastSession → Type 0) → RunEnd → Type 0
 IsRunBy settings_text had_jobs ended =
     (settings : Settings) × (reading settings_text ≡ Ok settings) × TellRun settings [] ended.lines.items []
     × AreOfOneHistory settings ended.totals ended.chapters ended.lines.items
-    × (sessions : List PastSession) × AreSums settings sessions ended.totals.grabbed ended.totals.reported × AllHad had_jobs sessions
+    × (sessions : List PastSession) × AreSums settings sessions ended × AllHad had_jobs sessions
 
 -- The settings mean something, a run by them with such jobs ended after so many attempts, and what it came to is written. Or it is kept
 -- from that by a fault, and nothing is written.

@@ -30,7 +30,7 @@ fn run_with<H: Host, J: JobSource + Sync>(
     ensures told { IfOk result (λ ended. TellRun settings [] ended.lines.items []) }
     ensures one_history { IfOk result (λ ended. AreOfOneHistory settings ended.totals ended.chapters ended.lines.items) }
     ensures sums { IfOk result (λ ended. (sessions : List PastSession)
-        × AreSums settings sessions ended.totals.grabbed ended.totals.reported
+        × AreSums settings sessions ended
         × AllHad (HadJobs J.Jobs.tells J.Jobs.fails (J.gives jobs.now) (J.denies jobs.now)) sessions) }
 {
     let route = Route::new(host, alloc, &settings)?;

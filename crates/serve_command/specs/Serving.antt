@@ -9,7 +9,7 @@ use Rattle.pool_supervisor.specs.Runs.{AreOfOneHistory}
 use Rattle.pool_supervisor.specs.Sessions.{PastSession, AreSums}
 use Rattle.pool_supervisor.specs.declared.attempt.Attempt.{Attempt}
 use Rattle.pool_supervisor.specs.declared.attempt.Attempt.TheVariants as attempt
-use Rattle.pool_supervisor.specs.declared.run.RunEnd.{RunEnd}
+use Rattle.pool_supervisor.specs.declared.run_end.RunEnd.{RunEnd}
 use Rattle.run_command.specs.Texts.{text_ms, write_ms}
 use Rattle.serve_command.specs.Farm.{Farm, IsOf, IsRefused}
 use Rattle.serve_command.specs.declared.reporting.Outlook.{Outlook}
@@ -21,7 +21,7 @@ use Rattle.service_settings.specs.Services.{Services}
 abbrev pub IsFarmRun : Settings → RunEnd → Type 0
 IsFarmRun settings ended =
     (lines : List Attempt) × TellRun settings [] lines [] × AreOfOneHistory settings ended.totals ended.chapters lines
-    × (sessions : List PastSession) × AreSums settings sessions ended.totals.grabbed ended.totals.reported
+    × (sessions : List PastSession) × AreSums settings sessions ended
 
 -- How many milliseconds workers may take to end, and 2^32 - 1 at most: to open a connection, to do a job, and to write an answer, for which
 -- there is the time of an answer and three writes.

@@ -24,9 +24,9 @@ returns g c =
     let called = g.Y.Dial.calls c.args.self.dial in
     let posts = c.args.made.seats.publisher.posts in
     let from_first =
-    subst (λ (l : List Attempt). IfOk c.run.result (λ e. IsRun settings g.N.RunId.allows g.N.RunId.had_jobs until l e.0.lines.items e.0.totals e.0.chapters posts called (g.Y.Dial.calls e.1))) c.args.made.none_told c.run.ensures.runs
+    subst (λ (l : List Attempt). IfOk c.run.result (λ e. IsRun settings g.N.RunId.allows g.N.RunId.had_jobs until l e.0 posts called (g.Y.Dial.calls e.1))) c.args.made.none_told c.run.ensures.runs
     in
     let from_empty =
-    subst (λ (p : List Post). IfOk c.run.result (λ e. IsRun settings g.N.RunId.allows g.N.RunId.had_jobs until [] e.0.lines.items e.0.totals e.0.chapters p called (g.Y.Dial.calls e.1))) c.args.made.none_posted from_first
+    subst (λ (p : List Post). IfOk c.run.result (λ e. IsRun settings g.N.RunId.allows g.N.RunId.had_jobs until [] e.0 p called (g.Y.Dial.calls e.1))) c.args.made.none_posted from_first
     in
-    record { runs = subst (λ (s : Settings). IfOk c.run.result (λ e. IsRun s g.N.RunId.allows g.N.RunId.had_jobs until [] e.0.lines.items e.0.totals e.0.chapters [] called (g.Y.Dial.calls e.1))) (sym c.requires.settings.1) from_empty }
+    record { runs = subst (λ (s : Settings). IfOk c.run.result (λ e. IsRun s g.N.RunId.allows g.N.RunId.had_jobs until [] e.0 [] called (g.Y.Dial.calls e.1))) (sym c.requires.settings.1) from_empty }

@@ -12,8 +12,8 @@ returns g c =
     let called = g.Y.Dial.calls c.args.self.dial in
     let made = c.in_ok-made.made in
     let of_settings =
-    subst (λ (s : Settings). IfOk c.run-ran.result (λ e. IsRun s (g.J.JobSource.allows c.args.lent.jobs.now) had made.lines.until [] e.0.lines.items e.0.totals e.0.chapters [] called (g.Y.Dial.calls e.1))) c.in_ok-made.ensures.settings c.run-ran.ensures.runs
+    subst (λ (s : Settings). IfOk c.run-ran.result (λ e. IsRun s (g.J.JobSource.allows c.args.lent.jobs.now) had made.lines.until [] e.0 [] called (g.Y.Dial.calls e.1))) c.in_ok-made.ensures.settings c.run-ran.ensures.runs
     in
     record {
-      runs = subst (λ (u : Until). IfOk c.run-ran.result (λ e. IsRun c.args.self.settings.now (g.J.JobSource.allows c.args.lent.jobs.now) had u [] e.0.lines.items e.0.totals e.0.chapters [] called (g.Y.Dial.calls e.1))) c.in_ok-made.ensures.until of_settings;
+      runs = subst (λ (u : Until). IfOk c.run-ran.result (λ e. IsRun c.args.self.settings.now (g.J.JobSource.allows c.args.lent.jobs.now) had u [] e.0 [] called (g.Y.Dial.calls e.1))) c.in_ok-made.ensures.until of_settings;
     }
