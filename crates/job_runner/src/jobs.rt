@@ -28,7 +28,7 @@ pub enum NotDone {
 pub enum Readiness {
     /// Nothing is known that speaks against one more job.
     Ready,
-    /// What was kept for the next job is lost, such as a connection that the other side has closed. Whether there can be another is not known.
+    /// What was kept for the next job is lost, such as a connection that the other side closed. Whether there can be another is not known.
     Lost,
 }
 

@@ -32,8 +32,8 @@ pub trait Watch {
         false
     }
 
-    /// Whether the worker, whose jobs are run by what is so, may ask for one more job. Its session looks at this whenever it reads its order:
-    /// before each request for a job and at each timeout. If not, the order is to stop.
+    /// Whether the worker, whose jobs are run by what is so, may ask for one more job. Its session looks at this whenever it reads its
+    /// order: before each request for a job and at each timeout. If not, the order is to stop.
     fn may_go_on(&self, _worker: WorkerName, _readiness: Readiness) -> bool {
         true
     }

@@ -39,8 +39,8 @@ pub enum BeforeJob {
     Ask,
     /// It dials its host, to which a dial failed before, and asks if that is reached, or if nothing is learnt of it.
     Dial,
-    /// It dials its host to see whether it is still there: the worker's connection was closed, or nothing was heard of the host for long. It
-    /// asks as after a dial.
+    /// It dials its host to see whether it is still there: the worker's connection was closed, or nothing was heard of the host for long.
+    /// It asks as after a dial.
     Look,
     /// It ends.
     End,
