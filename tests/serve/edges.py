@@ -455,12 +455,12 @@ def idle_workers_see_that_their_service_closed(program, processes):
     edge.start()
     wait_until(lambda: edge.sessions() == WORKERS * len(HOSTS), PATIENCE, "the job server knows all workers")
     edge.kill("north")
-    wait_until(lambda: len(edge.causes(r"north/\d#1")) == WORKERS, PATIENCE, "the workers of the host end")
+    wait_until(lambda: edge.sessions() == WORKERS, PATIENCE, "the workers of the host leave the job server")
     lines = edge.lines()
     held(lines.count("unreached north Unreachable") == 1, "the host is not missed once")
-    held(edge.causes() == ["Stopped"] * WORKERS, f"they ended so: {edge.causes()}")
     held(sum(line.startswith("attempt ") for line in lines) == 1, "they ended after a further attempt")
     edge.end(0)
+    held(edge.causes() == ["Stopped"] * WORKERS * len(HOSTS), f"the workers ended so: {edge.causes()}")
 
 
 def one_job_is_never_served(program, processes):
