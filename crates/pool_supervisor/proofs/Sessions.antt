@@ -1,5 +1,5 @@
 -- Sessions that have ended, and their sums.
-use Rattle.std.proofs.Common.{◌≡◌, ◌⊎◌, ◌+◌, ◌<◌, ℕ, List, [], ◌∷◌, ◌++◌, Option, Some, None, refl, subst, ap, ◌∙◌, arith, inl, inr}
+use Rattle.std.proofs.Common.{◌≡◌, ◌⊎◌, ◌+◌, ◌<◌, ℕ, List, [], ◌∷◌, ◌++◌, Option, Some, None, refl, subst, sym, ap, ◌∙◌, arith, inl, inr}
 use Rattle.std.proofs.Math.Logic.{∥∥₁_elim, ∥∥₁_prop}
 use Rattle.std.specs.List.{AllByRecursion}
 use Rattle.std.proofs.lemmas.List.Sums.{sum_by-append}
@@ -33,21 +33,20 @@ pub is_past : {L F : Type 0} (see : L → Link) (tells : F → F → AssignedJob
     ⊎ ((read bytes : List ℕ) × (told : List Telling) × (book : Ledger) × (first last : F) × gives worker first × ((see new).input.given ≡ and_then (see old).input.given read)
     × ((see new).output.got ≡ and_then (see old).output.got bytes) × EndTold tells fails first last end.cause told
     × Served (session_of (duty_of own worker) (see old).output.got read) told bytes (see old) (see new) book end × AreSeen seen book.orders)
-    → IsPast settings had_jobs worker end
+    → IsPast settings had_jobs worker end (see new)
 is_past see tells fails gives denies had_jobs settings own worker end seen old new covers same known fresh (inl away) =
-    let session = past_session worker end None in (
+    let session = past_session worker end (see new) None in (
       None,
-      record { known = known; served = tt; away = away.2 },
+      record { known = known; served = tt; away = (away.2, subst (λ link. IsNew (see link)) (sym away.1) fresh) },
       covers session (record { given = tt; denied = away.0 }),
     )
 is_past see tells fails gives denies had_jobs settings own worker end seen old new covers same known fresh (inr ran) =
-    let session = past_session worker end (Some ran.2) in (
+    let session = past_session worker end (see new) (Some ran.2) in (
       Some ran.2,
       record {
         known = known;
         served = record {
           first = see old;
-          last = see new;
           fresh = fresh;
           read = ran.0;
           bytes = ran.1;

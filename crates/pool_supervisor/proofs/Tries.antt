@@ -15,7 +15,7 @@ use Rattle.pool_supervisor.specs.Dials.{DialCall, closed, then_called}
 use Rattle.pool_supervisor.specs.EndCounts.{with_cause}
 use Rattle.pool_supervisor.specs.declared.run_end.RunEnd.{RunEnd}
 use Rattle.pool_supervisor.specs.Joined.{Joins}
-use Rattle.pool_supervisor.specs.Sessions.{Counts, no_counts, counts_of, counted, PastSession, past_session, AllHad, HasEnded, IsPast, Covers}
+use Rattle.pool_supervisor.specs.Sessions.{Counts, no_counts, counts_of, counted, PastSession, past_session, AllHad, HasEnded, IsPast, Covers, closing_of}
 use Rattle.pool_supervisor.specs.Tries.{Rule, Look, dials_of, IsOneDial, DialsOnce, FillsSlot, FillFrom, IsSeenAs, FillsOne, Fills, Try, calls_of, joined_of, joined_by, line_of, IsTry, Attempts, Dials}
 use Rattle.pool_supervisor.proofs.Sessions.{all_covered, are_sums, counted_both, counted_none, same_counts}
 use Rattle.pool_supervisor.proofs.Called.{called_none, called_both, flat_map_both}
@@ -73,19 +73,17 @@ all_of_both P [] ys all more = more
 all_of_both P (x ∷ xs) ys all more = (all.0, all_of_both P xs ys all.1 more)
 
 pub no_joins : (settings : Settings) (had_jobs : PastSession → Type 0) (counts : Counts) (before : Option (List DialCall)) → Joins settings had_jobs counts counts before before
-no_joins settings had_jobs counts before = record { sessions = []; ended = tt; jobs = tt; links = []; one_each = refl; counts = sym (counted_none counts); calls = sym (called_none before) }
+no_joins settings had_jobs counts before = record { sessions = []; ended = tt; jobs = tt; counts = sym (counted_none counts); calls = sym (called_none before) }
 
 -- one session was joined
 pub one_join : (settings : Settings) (had_jobs : PastSession → Type 0) (worker : WorkerName) (end : SessionEnd) (link : Link) (old new : Counts) (before now : Option (List DialCall))
-    → IsPast settings had_jobs worker end → new.grabbed ≡ old.grabbed + end.grabbed → new.reported ≡ old.reported + end.reported
+    → IsPast settings had_jobs worker end link → new.grabbed ≡ old.grabbed + end.grabbed → new.reported ≡ old.reported + end.reported
     → new.ends ≡ with_cause end.cause old.ends → now ≡ then_called before (closed link ∷ []) → Joins settings had_jobs old new before now
 one_join settings had_jobs worker end link old new before now past grabs reports ends calls = record {
-  sessions = past_session worker end past.0 ∷ [];
+  sessions = past_session worker end link past.0 ∷ [];
   ended = (past.1, tt);
   jobs = (past.2, tt);
-  links = link ∷ [];
-  one_each = refl;
-  counts = same_counts new (counted old (past_session worker end past.0 ∷ [])) (omega (arith, grabs)) (omega (arith, reports)) ends;
+  counts = same_counts new (counted old (past_session worker end link past.0 ∷ [])) (omega (arith, grabs)) (omega (arith, reports)) ends;
   calls = calls;
 }
 
@@ -95,18 +93,16 @@ more_joins settings had_jobs old mid new before between now first then = record 
   sessions = first.sessions ++ then.sessions;
   ended = all_of_both (HasEnded settings) first.sessions then.sessions first.ended then.ended;
   jobs = all_of_both (λ (s : PastSession). ∥ had_jobs s ∥₁) first.sessions then.sessions first.jobs then.jobs;
-  links = first.links ++ then.links;
-  one_each = omega (arith, length-append first.links then.links, length-append first.sessions then.sessions, first.one_each, then.one_each);
   counts = counted_both old mid new first.sessions then.sessions first.counts then.counts;
-  calls = called_both before between now (map closed first.links) (map closed then.links) first.calls then.calls
-      ∙ ap (λ l. then_called before l) (sym (map-append closed first.links then.links));
+  calls = called_both before between now (map closing_of first.sessions) (map closing_of then.sessions) first.calls then.calls
+      ∙ ap (λ l. then_called before l) (sym (map-append closing_of first.sessions then.sessions));
 }
 
 -- the same, told by the end of a run
 pub same_joins : (settings : Settings) (had_jobs : PastSession → Type 0) (old new : Counts) (run : RunEnd) (before now : Option (List DialCall)) → Joins settings had_jobs old new before now
     → run.totals.grabbed ≡ new.grabbed → run.totals.reported ≡ new.reported → run.ends ≡ new.ends → Joins settings had_jobs old (counts_of run) before now
 same_joins settings had_jobs old new run before now joins grabs reports ends =
-    record { sessions = joins.sessions; ended = joins.ended; jobs = joins.jobs; links = joins.links; one_each = joins.one_each; counts = same_counts (counts_of run) new grabs reports ends ∙ joins.counts; calls = joins.calls }
+    record { sessions = joins.sessions; ended = joins.ended; jobs = joins.jobs; counts = same_counts (counts_of run) new grabs reports ends ∙ joins.counts; calls = joins.calls }
 
 -- ---- lines
 
@@ -129,15 +125,15 @@ no_attempts settings allows had_jobs lines counts before = record { tries = []; 
 pub one_attempt : (settings : Settings) (allows : Rule) (had_jobs : PastSession → Type 0) (lines : List Attempt) (line : Attempt) (old mid new : Counts) (before joined filled now : Option (List DialCall)) → Joins settings had_jobs old mid before joined
     → new ≡ mid → Fills settings allows (slots settings) joined filled → Tells settings line filled now → Attempts settings allows had_jobs lines (lines ++ line ∷ []) old new before now
 one_attempt settings allows had_jobs lines line old mid new before joined filled now joins same fills tells =
-    let try : Try = record { joined = joins.sessions; links = joins.links; looks = fills.looks; asked = tells.asked; line = line } in
+    let try : Try = record { joined = joins.sessions; looks = fills.looks; asked = tells.asked; line = line } in
     let after = called_both joined filled now (flat_map dials_of fills.looks) tells.asked fills.calls tells.calls in
-    let all = called_both before joined now (map closed joins.links) (flat_map dials_of fills.looks ++ tells.asked) joins.calls after in
+    let all = called_both before joined now (map closing_of joins.sessions) (flat_map dials_of fills.looks ++ tells.asked) joins.calls after in
     record {
       tries = try ∷ [];
       lines = refl;
       counts = same ∙ (joins.counts ∙ ap (λ l. counted old l) (sym (append-nil joins.sessions)));
       calls = all ∙ ap (λ l. then_called before l) (sym (append-nil (calls_of try)));
-      each = (record { ended = joins.ended; jobs = joins.jobs; one_each = joins.one_each; all = fills.all; fills = fills.each; follows = tells.follows }, tt);
+      each = (record { ended = joins.ended; jobs = joins.jobs; all = fills.all; fills = fills.each; follows = tells.follows }, tt);
     }
 
 -- the same attempts, after other lines
@@ -194,7 +190,7 @@ tries_covered : (settings : Settings) (allows : Rule) (wide narrow : PastSession
 tries_covered settings allows wide narrow [] covers all = tt
 tries_covered settings allows wide narrow (try ∷ tries) covers all =
     let one = all.0 in (
-      record { ended = one.ended; jobs = all_covered wide narrow try.joined covers one.jobs; one_each = one.one_each; all = one.all; fills = one.fills; follows = one.follows },
+      record { ended = one.ended; jobs = all_covered wide narrow try.joined covers one.jobs; all = one.all; fills = one.fills; follows = one.follows },
       tries_covered settings allows wide narrow tries covers all.1,
     )
 
@@ -207,7 +203,7 @@ dials_covered settings allows wide narrow old new run before now covers dials =
       middle = dials.middle;
       between = dials.between;
       attempts = record { tries = made.tries; lines = made.lines; counts = made.counts; calls = made.calls; each = tries_covered settings allows wide narrow made.tries covers made.each };
-      last = record { sessions = last.sessions; ended = last.ended; jobs = all_covered wide narrow last.sessions covers last.jobs; links = last.links; one_each = last.one_each; counts = last.counts; calls = last.calls };
+      last = record { sessions = last.sessions; ended = last.ended; jobs = all_covered wide narrow last.sessions covers last.jobs; counts = last.counts; calls = last.calls };
       sums = dials.sums;
       jobs = all_covered wide narrow (joined_by made.tries last.sessions) covers dials.jobs;
     }

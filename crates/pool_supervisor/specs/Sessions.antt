@@ -14,7 +14,7 @@ use Rattle.job_runner.specs.Course.{session_of}
 use Rattle.job_runner.specs.Loop.{duty_of}
 use Rattle.job_runner.specs.Run.{Link, Served, EndTold}
 use Rattle.job_runner.specs.Told.{Told, Telling, IsMeant}
-use Rattle.pool_supervisor.specs.Dials.{IsNew}
+use Rattle.pool_supervisor.specs.Dials.{DialCall, IsNew, closed}
 use Rattle.pool_supervisor.specs.EndCounts.{no_ends, with_cause}
 use Rattle.pool_supervisor.specs.declared.ends.EndCounts.{EndCounts}
 use Rattle.pool_supervisor.specs.declared.run_end.RunEnd.{RunEnd}
@@ -38,32 +38,37 @@ pub record Sessions : Type 0 where
 abbrev pub turned_away : SessionEnd
 turned_away = record { cause = cause.Unserved; grabbed = 0; answered = 0; reported = 0 }
 
--- A session that has ended: its worker, how it ended, and what its jobs reported, if it was given jobs.
+-- A session that has ended: its worker, how it ended, what its link shows of its two sides then, and what its jobs reported, if it was
+-- given jobs.
 pub record PastSession : Type 0 where
   pub worker : WorkerName
   pub end : SessionEnd
+  pub link : Link
   pub told : Option (List Telling)
 
-abbrev pub past_session : WorkerName → SessionEnd → Option (List Telling) → PastSession
-past_session worker end told = record { worker = worker; end = end; told = told }
+abbrev pub past_session : WorkerName → SessionEnd → Link → Option (List Telling) → PastSession
+past_session worker end link told = record { worker = worker; end = end; link = link; told = told }
+
+-- its link is closed, as it was at its end
+abbrev pub closing_of : PastSession → DialCall
+closing_of session = closed session.link
 
 -- The session began on a new link, and what a session promises of what it reads and writes holds of it.
 pub record WasServed (settings : Settings) (session : PastSession) (told : List Telling) : Type 0 where
   pub first : Link
-  pub last : Link
   pub fresh : IsNew first
   pub read : List ℕ
   pub bytes : List ℕ
   pub book : Ledger
-  pub reads : last.input.given ≡ and_then first.input.given read
-  pub writes : last.output.got ≡ and_then first.output.got bytes
-  pub served : Served (session_of (duty_of settings session.worker) first.output.got read) told bytes first last book session.end
+  pub reads : session.link.input.given ≡ and_then first.input.given read
+  pub writes : session.link.output.got ≡ and_then first.output.got bytes
+  pub served : Served (session_of (duty_of settings session.worker) first.output.got read) told bytes first session.link book session.end
 
--- The session was of a worker of a pool of these settings. It was served; or it had no jobs, and ended before it began.
+-- The session was of a worker of a pool of these settings. It was served; or it had no jobs, and ended before it began, on a new link.
 pub record HasEnded (settings : Settings) (session : PastSession) : Type 0 where
   pub known : session.worker.slot < slots settings
   pub served : IfSome session.told (WasServed settings session)
-  pub away : IfNone session.told (session.end ≡ turned_away)
+  pub away : IfNone session.told ((session.end ≡ turned_away) × IsNew session.link)
 
 -- The session's jobs were such as its source may give its worker, and reported what such jobs may. It had none only if the source may deny
 -- its worker jobs.
@@ -77,10 +82,11 @@ pub record HadJobs {J : Type 0} (tells : J → J → AssignedJob → Option Told
 abbrev pub HadNamedJobs : (List ℕ → List ℕ → Option Told) → PastSession → Type 0
 HadNamedJobs meaning session = (told : List Telling) × (session.told ≡ Some told) × AllByRecursion (IsMeant meaning) told
 
--- A session of this worker has ended so, with such jobs.
-abbrev pub IsPast : Settings → (PastSession → Type 0) → WorkerName → SessionEnd → Type 0
-IsPast settings had_jobs worker end =
-    (told : Option (List Telling)) × HasEnded settings (past_session worker end told) × ∥ had_jobs (past_session worker end told) ∥₁
+-- A session of this worker has ended so, with such jobs, over a link that shows this then.
+abbrev pub IsPast : Settings → (PastSession → Type 0) → WorkerName → SessionEnd → Link → Type 0
+IsPast settings had_jobs worker end link =
+    (told : Option (List Telling)) × HasEnded settings (past_session worker end link told)
+    × ∥ had_jobs (past_session worker end link told) ∥₁
 
 -- how many sessions ended for each cause: so many as before, and one more for the cause of each of these, one after the other
 abbrev pub ends_after : EndCounts → List PastSession → EndCounts

@@ -1,5 +1,5 @@
 -- What the steps of an attempt look at in the pool.
-use Rattle.std.specs.Prelude.{◌≡◌, ℕ, ◌*◌, ◌<◌, Bool, List, length, Option, None, Some, Result, Ok, Err, IfSome, ⊤}
+use Rattle.std.specs.Prelude.{◌≡◌, ℕ, ◌*◌, ◌<◌, Bool, List, length, Option, None, Some, Result, Err, IfSome, ⊤}
 use Rattle.byte_io.specs.Sides.{Input, Met, Meets}
 use Rattle.gear_status.specs.Status.{Line}
 use Rattle.gear_status.specs.Stream.{AnswersStatus}

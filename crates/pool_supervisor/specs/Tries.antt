@@ -2,17 +2,16 @@
 use Rattle.std.specs.Prelude.{◌≡◌, ◌⊎◌, ◌+◌, ℕ, List, [], ◌∷◌, ◌++◌, Bool, true, false, length, map, Option, ⊤}
 use Rattle.std.specs.List.{flat_map, AllByRecursion}
 use Rattle.worker_state.specs.Slots.{is_live}
-use Rattle.job_runner.specs.Run.{Link}
 use Rattle.pool_core.specs.Machine.{State, slot_in}
 use Rattle.pool_supervisor.specs.declared.run_end.RunEnd.{RunEnd}
 use Rattle.pool_settings.specs.Settings.{Settings}
 use Rattle.pool_settings.specs.Slots.{slots}
 use Rattle.pool_supervisor.specs.declared.attempt.Attempt.{Attempt}
 use Rattle.pool_supervisor.specs.Asking.{Follows}
-use Rattle.pool_supervisor.specs.Dials.{DialCall, failed, opened, closed, then_called}
+use Rattle.pool_supervisor.specs.Dials.{DialCall, failed, opened, then_called}
 use Rattle.pool_supervisor.specs.Joined.{Joins}
 use Rattle.pool_supervisor.specs.Reached.{IsReached}
-use Rattle.pool_supervisor.specs.Sessions.{Counts, PastSession, AllHad, HasEnded, AreSums, counted, counts_of, no_counts}
+use Rattle.pool_supervisor.specs.Sessions.{Counts, PastSession, AllHad, HasEnded, AreSums, closing_of, counted, counts_of, no_counts}
 
 -- a look at a slot: the pool as it stood then, and the dials that were made for the slot
 pub record Look : Type 0 where
@@ -62,16 +61,15 @@ pub record Fills (settings : Settings) (allows : Rule) (count : ℕ) (before now
   pub all : length looks ≡ count
   pub each : FillFrom settings allows 0 looks
 
--- An attempt: the sessions that it joined, their links at the end, its looks at the slots, its calls for the load, and its line.
+-- An attempt: the sessions that it joined, its looks at the slots, its calls for the load, and its line.
 pub record Try : Type 0 where
   pub joined : List PastSession
-  pub links : List Link
   pub looks : List Look
   pub asked : List DialCall
   pub line : Attempt
 
 abbrev pub calls_of : Try → List DialCall
-calls_of try = map closed try.links ++ (flat_map dials_of try.looks ++ try.asked)
+calls_of try = map closing_of try.joined ++ (flat_map dials_of try.looks ++ try.asked)
 
 abbrev pub joined_of : Try → List PastSession
 joined_of try = try.joined
@@ -79,12 +77,11 @@ joined_of try = try.joined
 abbrev pub line_of : Try → Attempt
 line_of try = try.line
 
--- Each session that it joined was one by these settings, and had such jobs, and one link was closed for each. Every slot was looked at,
--- each once and in order. The line follows from the calls for the load.
+-- Each session that it joined was one by these settings, and had such jobs. Every slot was looked at, each once and in order. The line
+-- follows from the calls for the load.
 pub record IsTry (settings : Settings) (allows : Rule) (had_jobs : PastSession → Type 0) (try : Try) : Type 0 where
   pub ended : AllByRecursion (HasEnded settings) try.joined
   pub jobs : AllHad had_jobs try.joined
-  pub one_each : length try.links ≡ length try.joined
   pub all : length try.looks ≡ slots settings
   pub fills : FillFrom settings allows 0 try.looks
   pub follows : Follows settings try.asked try.line

@@ -1,16 +1,16 @@
 //! The sessions of a run: started as threads, and joined as they end.
-ghost use Rattle.std.specs.Prelude.{◌≡◌, ◌+◌, ◌-◌, ◌<◌, ◌≤◌, ◌^◌, IfSome, OnOk, vec_len};
+ghost use Rattle.std.specs.Prelude.{◌≡◌, ◌+◌, ◌-◌, ◌<◌, ◌≤◌, ◌^◌, IfOk, OnOk, vec_len};
 ghost use Rattle.job_runner.specs.Run.{seen_link};
 ghost use Rattle.pool_settings.specs.Slots.{slots as slot_count};
 ghost use Rattle.pool_supervisor.specs.Counted.{CountAHistory};
 ghost use Rattle.pool_supervisor.specs.JobCounts.{answered};
 ghost use Rattle.pool_supervisor.specs.Dials.{IsNew};
 ghost use Rattle.pool_supervisor.specs.Joined.{Joins};
-ghost use Rattle.pool_supervisor.specs.Sessions.{Covers, HadJobs, counts_of, no_counts};
+ghost use Rattle.pool_supervisor.specs.Sessions.{Covers, HadJobs, IsPast, counts_of, no_counts};
 
 use crate::attempts::Lines;
 use crate::dial::Dial;
-use crate::ended::EndedSession;
+use crate::ended::{EndedSession, OfRun, Session, SessionOutcome, Unthreaded};
 use crate::ends::EndCounts;
 use crate::job_counts::JobCounts;
 use crate::jobs::JobSource;
@@ -18,17 +18,16 @@ use crate::news::{EndedWorker, Progress};
 use crate::place::{Grabs, Place, Reports, RunId, RunRounds};
 use crate::port::Watch;
 use crate::run_end::RunEnd;
-use crate::session::{Enrolled, Papers, Returned, Site, Unused, give_up};
+use crate::session::{Enrolled, Papers, Returned, Site, give_up};
 use byte_io::{Sink, Source};
-use core::thread::{Anything, Stack};
+use core::thread::Stack;
 use order_board::SeatSource;
 use std::alloc::{AllocError, Global};
 use std::marker::Model;
-use std::snapshot::Snapshot;
 use std::sync::atomic::{AtomicBool, Ordering};
 use std::sync::ledger::Share;
 use std::sync::{Arc, Wait};
-use std::thread::{JoinHandle, Scope, Threads};
+use std::thread::{Scope, Threads};
 
 /// Into how many parts the ledgers of a run are cut: one for each session that runs, and one at least for the crew.
 pub const PARTS: u64 = 1 << 40;
@@ -36,19 +35,6 @@ pub const PARTS: u64 = 1 << 40;
 /// The stack of a session's thread, in bytes. A session has its reader's buffer of 4,096 bytes there and little else; what a job takes
 /// is on the heap.
 const STACK: usize = 256 * 1024;
-
-/// What a session comes to: it was run to its end, and besides what its link was then; or it never began, since no thread could be started
-/// for it.
-type SessionOutcome<N, L> = Result<(EndedSession<N>, Snapshot<L>), Unused<N>>;
-
-/// A session that was started, or is over since it could not be.
-#[derive(Drop)]
-enum Session<N: RunId, L: Source + Sink> {
-    /// It has a thread, which hands back what it comes to.
-    InThread(JoinHandle<SessionOutcome<N, L>>),
-    /// It came to this.
-    Over(SessionOutcome<N, L>),
-}
 
 /// What a session and its crew tell each other.
 #[derive(Drop)]
@@ -182,10 +168,7 @@ impl<N: RunId, L: Source + Sink> Crew<N, L> {
             session,
             signals: _,
         } = running.swap_remove(at);
-        let outcome = match session {
-            Session::InThread(handle) => handle.join(site.lent.rt),
-            Session::Over(outcome) => outcome,
-        };
+        let outcome = session.join(site.lent.rt);
         let (ended, link) = match outcome {
             Ok(ended) => ended,
             Err(unused) => {
@@ -196,7 +179,7 @@ impl<N: RunId, L: Source + Sink> Crew<N, L> {
                 return;
             }
         };
-        let (worker, returned) = ended.into_parts();
+        let EndedSession { worker, returned } = ended;
         let Returned {
             end,
             jobs: jobs_of_session,
@@ -338,13 +321,14 @@ impl<'e, N: RunId, J: JobSource + Sync, C: Watch + Sync, R: Threads + Wait + Syn
             requires fresh { IsNew (seen_link L.input L.output link) }
             requires source { Covers N.had_jobs
                 (HadJobs J.Jobs.tells J.Jobs.fails (J.gives site.lent.jobs.now) (J.denies site.lent.jobs.now)) }
+            ensures past { IfOk result (λ ended. IsPast N.settings N.had_jobs ended.0.worker ended.0.returned.end
+                (seen_link L.input L.output ended.1.value)) }
         {
             let (mut link, papers) = (link, papers);
             let outcome = if of_session.is_refused.load(Ordering::SeqCst) {
                 Err(give_up(&site, papers))
             } else {
-                let ended = EndedSession::of(&site, &mut link, papers);
-                Ok((ended, Snapshot::of(&link)))
+                Ok(EndedSession::of(&site, &mut link, papers))
             };
             drop(link);
             of_session.has_ended.store(true, Ordering::SeqCst);
@@ -352,17 +336,17 @@ impl<'e, N: RunId, J: JobSource + Sync, C: Watch + Sync, R: Threads + Wait + Syn
         };
         match Stack::new()
             .stack_size(STACK)
-            .spawn_scoped_with(scope, Anything, work)
+            .spawn_scoped_with(scope, OfRun, work)
         {
             Ok(handle) => {
-                let session = Session::InThread(handle.forget_promise());
+                let session = Session::InThread(handle);
                 running.push_reserved(Unjoined { session, signals });
                 Ok(())
             }
             Err(refused) => {
                 signals.is_refused.store(true, Ordering::SeqCst);
                 let work = refused.value;
-                let session = Session::Over(work());
+                let session = Session::Over(Unthreaded::new(work()));
                 running.push_reserved(Unjoined { session, signals });
                 Err(AllocError)
             }

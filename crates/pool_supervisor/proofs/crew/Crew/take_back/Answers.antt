@@ -13,4 +13,4 @@ returns-in-Err-clause-joins g c =
     (ap (λ (s : Sessions). s.counts) (sym c.self.view_is)) (no_joins _ _ _ _)
 
 pub returns-clause-joins : goal.returns-clause-joins
-returns-clause-joins g c = one_join _ _ _ _ _ _ _ _ _ c.into_parts-worker.ensures.past (search rules) (search rules) (search rules) c.hung_up.ensures.calls
+returns-clause-joins g c = one_join _ _ _ _ _ _ _ _ _ c.in-Ok.ensures.past (search rules) (search rules) (search rules) c.hung_up.ensures.calls
