@@ -6,7 +6,7 @@ use Rattle.plan_commands.specs.declared.fault.Fault.{Fault}
 use Rattle.pool_settings.specs.Settings.{Settings}
 use Rattle.pool_supervisor.specs.Rounds.{TellRun}
 use Rattle.pool_supervisor.specs.Runs.{AreOfOneHistory}
-use Rattle.pool_supervisor.specs.Sessions.{PastSession, AreSums}
+use Rattle.pool_supervisor.specs.Sessions.{PastSession, AllHad, AreSums}
 use Rattle.pool_supervisor.specs.declared.attempt.Attempt.{Attempt}
 use Rattle.pool_supervisor.specs.declared.attempt.Attempt.TheVariants as attempt
 use Rattle.pool_supervisor.specs.declared.run_end.RunEnd.{RunEnd}
@@ -14,14 +14,16 @@ use Rattle.run_command.specs.Texts.{text_ms, write_ms}
 use Rattle.serve_command.specs.Farm.{Farm, IsOf, IsRefused}
 use Rattle.serve_command.specs.declared.reporting.Outlook.{Outlook}
 use Rattle.serve_command.specs.declared.reporting.Outlook.TheVariants as outlook
+use Rattle.serve_command.specs.ServiceJobs.{HadServiceJobs}
 use Rattle.service_settings.specs.Services.{Services}
 
--- A run by these settings came to this: its totals are of one history of these settings, which keeps to the promise, and are the sums of
--- what sessions by these settings counted. Some lines, which are not kept, report just the rounds of that history.
-abbrev pub IsFarmRun : Settings → RunEnd → Type 0
-IsFarmRun settings ended =
-    (lines : List Attempt) × TellRun settings [] lines [] × AreOfOneHistory settings ended.totals ended.chapters lines
-    × (sessions : List PastSession) × AreSums settings sessions ended
+-- A run of this farm came to this: its totals are of one history of the farm's settings, which keeps to the promise, and are the sums of
+-- what sessions by these settings counted, whose jobs were done by the services of their workers' machines. Some lines, which are not
+-- kept, report just the rounds of that history.
+abbrev pub IsFarmRun : Farm → RunEnd → Type 0
+IsFarmRun farm ended =
+    (lines : List Attempt) × TellRun farm.settings [] lines [] × AreOfOneHistory farm.settings ended.totals ended.chapters lines
+    × (sessions : List PastSession) × AreSums farm.settings sessions ended × AllHad (HadServiceJobs farm) sessions
 
 -- How many milliseconds workers may take to end, and 2^32 - 1 at most: to open a connection, to do a job, and to write an answer, for which
 -- there is the time of an answer and three writes.
@@ -32,7 +34,8 @@ end_ms farm =
 -- The texts mean a farm, and a run of it came to this.
 abbrev pub IsFarmRunBy : List ℕ → List ℕ → RunEnd → Type 0
 IsFarmRunBy settings_text services_text ended =
-    (settings : Settings) × (services : Services) × IsOf settings_text services_text settings services × IsFarmRun settings ended
+    (settings : Settings) × (services : Services) × IsOf settings_text services_text settings services
+    × IsFarmRun (record { settings = settings; services = services }) ended
 
 -- what the attempts came to after one more round, which had no plan
 abbrev pub after_no_plan : Outlook → Outlook

@@ -16,7 +16,6 @@ use job_runner::{End, Jobs, NotDone, Outcome, Readiness};
 use plan_model::{FuncId, MachineId, SlotId};
 use pool_supervisor::JobSource;
 use std::alloc::{AllocError, Global};
-use std::mem;
 use std::sync::{Mutex, Wait};
 use worker_state::WorkerName;
 
@@ -116,7 +115,7 @@ impl<'e, H: FarmHost> JobSource for FarmSource<'e, H> {
             slot,
             generation,
             jobs,
-            told_lost: Mutex::new(false),
+            next_look: Mutex::new(NextLook::Due),
         })
     }
 
@@ -135,8 +134,19 @@ pub struct FarmJobs<'e, H: FarmHost> {
     slot: SlotId,
     generation: u32,
     jobs: ServiceJobs<H::Call, H::Dials, H::Times>,
-    /// Whether it was told since the last job that the kept connection is lost.
-    told_lost: Mutex<bool>,
+    next_look: Mutex<NextLook>,
+}
+
+/// Whether a worker that is about to ask for a job, or that has waited for one, looks at its kept connection.
+#[derive(Clone, Copy, PartialEq, Eq)]
+enum NextLook {
+    /// It does not: a response has just come over it, and a look is three calls of the system.
+    AfterJob,
+    /// It does.
+    Due,
+    /// It does not: since the last job it was told that the connection is lost. A service may close each one that is idle, and its workers
+    /// are not to dial it at each timeout.
+    ToldLost,
 }
 
 /// What is new of the machine's host after this job, which told so much of it.
@@ -260,10 +270,10 @@ impl<'e, H: FarmHost> Jobs for FarmJobs<'e, H> {
         self.books.tally.begin(self.host, function);
         let timeout_ms = self.books.farm.timeout_ms(&job.function);
         self.jobs.set_timeout(timeout_ms as u64);
-        self.told_lost = Mutex::new(false);
+        self.next_look = Mutex::new(NextLook::AfterJob);
         self.books.hosts.begin_job(self.host, self.machine);
         let done = self.jobs.serve(alloc, &job);
-        self.books.hosts.end_job(self.host, self.machine);
+        self.books.hosts.end_use(self.host, self.machine);
         let sign = sign_of(&done, timeout_ms, farm.services.connect_ms());
         let news = news_of(self.host, self.books.hosts, self.machine, &job.handle, sign);
         self.host
@@ -285,12 +295,17 @@ impl<'e, H: FarmHost> Jobs for FarmJobs<'e, H> {
         Ok(Reply::outcome_in(done?))
     }
 
-    /// A lost connection is told once: a service may close each one that is idle, and its workers are not to dial it at each timeout.
+    /// What the worker's connection is, if it is time to look.
     fn readiness(&self) -> Readiness {
-        if self.jobs.is_lost() && !mem::replace(&mut *self.told_lost.lock(self.host), true) {
-            Readiness::Lost
-        } else {
-            Readiness::Ready
+        let mut next = self.next_look.lock(self.host);
+        match *next {
+            NextLook::AfterJob => *next = NextLook::Due,
+            NextLook::Due if self.jobs.is_lost() => {
+                *next = NextLook::ToldLost;
+                return Readiness::Lost;
+            }
+            NextLook::Due | NextLook::ToldLost => {}
         }
+        Readiness::Ready
     }
 }

@@ -4,14 +4,9 @@ ghost use Rattle.std.specs.Prelude.{◌≡◌, ◌↔◌, ◌≤◌, ◌<◌, �
 ghost use Rattle.serve_command.specs.Hosts as spec;
 ghost use Rattle.serve_command.specs.declared.host_state.Reason.TheVariants.{Unserved};
 
+use crate::waits::{FIRST_WAIT, LONGEST_WAIT, longer_wait};
 use devices::DialError;
 use worker_state::WorkerName;
-
-/// For how many attempts a host is left alone before it is tried again, if it served a job before.
-const FIRST_WAIT: u64 = 1;
-
-/// For how many attempts at most a host is left alone before it is tried again.
-const LONGEST_WAIT: u64 = 64;
 
 /// Why a host is left alone.
 #[derive(Clone, Copy, Debug, PartialEq, Eq)]
@@ -69,7 +64,7 @@ impl Absence {
     {
         let mut after = self;
         if self.due <= attempt {
-            let wait = self.wait.saturating_mul(2).min(LONGEST_WAIT);
+            let wait = longer_wait(self.wait);
             after.wait = wait;
             after.due = attempt.saturating_add(wait);
         }

@@ -70,7 +70,7 @@ impl Hosts {
     }
 
     /// What a worker of the machine, whose jobs are run by what is so, does before it asks for one more job. A worker whose connection was
-    /// closed takes a look at the host, up to `end_look`. So does one worker of a host that has no job to do, and for four attempts has
+    /// closed takes a look at the host, up to `end_use`. So does one worker of a host that has no job to do, and for four attempts has
     /// taken no connection and served no job.
     pub fn before_job<R: Wait>(
         &self,
@@ -95,16 +95,8 @@ impl Hosts {
         }
     }
 
-    /// A job of the host of this machine has ended, however it did.
-    pub fn end_job<R: Wait>(&self, rt: &R, machine: MachineId) {
-        let mut held = self.table.lock(rt);
-        if let Some(host) = held.hosts.get_mut(machine.number() as usize) {
-            host.busy = host.busy.saturating_sub(1);
-        }
-    }
-
-    /// A worker of the machine has taken its look at the host, whatever it saw.
-    pub fn end_look<R: Wait>(&self, rt: &R, machine: MachineId) {
+    /// A job of the host of this machine, or a worker's look at it, has ended, however it did.
+    pub fn end_use<R: Wait>(&self, rt: &R, machine: MachineId) {
         let mut held = self.table.lock(rt);
         if let Some(host) = held.hosts.get_mut(machine.number() as usize) {
             host.busy = host.busy.saturating_sub(1);

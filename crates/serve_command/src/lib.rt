@@ -20,6 +20,7 @@ mod reporting;
 mod serving;
 mod system;
 mod thread_room;
+mod waits;
 
 pub use books::Books;
 pub use farm::{Farm, FarmTexts};

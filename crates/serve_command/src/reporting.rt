@@ -212,7 +212,7 @@ impl<'e, H: FarmHost> Watch for Reporting<'e, H> {
             None => None,
         };
         if does == BeforeJob::Look {
-            self.books.hosts.end_look(self.host, machine);
+            self.books.hosts.end_use(self.host, machine);
         }
         if let Some(dialled) = said {
             let news = self.books.hosts.was_dialled(self.host, machine, dialled);

@@ -66,7 +66,7 @@ fn run_until_end<'x, H: FarmHost>(
     alloc: Global,
     farm: &'x Farm,
 ) -> Result<FarmEnd, AllocError>
-    ensures { IfOk result (λ ended. spec.IsFarmRun farm.now.settings ended.run) }
+    ensures { IfOk result (λ ended. spec.IsFarmRun farm.now ended.run) }
 {
     let settings = farm.settings.copy(alloc)?;
     let route = Route::new(host, alloc, &settings)?;

@@ -3,10 +3,8 @@
 ghost use Rattle.std.specs.Prelude.{◌≡◌, ◌+◌, ◌*◌, ◌^◌, ◌-◌, min};
 ghost use Rattle.std.specs.Option.{option_map_or};
 
+use crate::waits::{FIRST_WAIT, longer_wait};
 use std::sync::{Mutex, Wait};
-
-/// For how many attempts at most no worker starts after a thread was refused.
-const LONGEST_WAIT: u64 = 64;
 
 /// What is new of the threads.
 #[derive(Clone, Copy, Debug, PartialEq, Eq)]
@@ -54,8 +52,8 @@ fn refused_again(before: Option<Refusal>, attempt: u64) -> Refusal
     ensures due { result.due ≡ min (attempt + result.wait) (2 ^ 64 - 1) }
 {
     let wait = match before {
-        None => 1,
-        Some(refusal) => refusal.wait.saturating_mul(2).min(LONGEST_WAIT),
+        None => FIRST_WAIT,
+        Some(refusal) => longer_wait(refusal.wait),
     };
     Refusal {
         wait,
