@@ -29,7 +29,7 @@ th{font-weight:500;color:var(--quiet);font-size:13px;white-space:nowrap}\
 th,td{text-align:right;padding:5px 10px;border-top:1px solid var(--line)}\
 thead th{border-top:0;padding-top:0}th:first-child,td:first-child{padding-left:0}\
 tbody th,.words{text-align:left}tbody th{color:var(--text);font-size:14px;font-family:ui-monospace,monospace}\
-td,tbody th{white-space:nowrap}td.words{white-space:normal;color:var(--quiet)}\
+td,tbody th{white-space:nowrap}td.words{color:var(--quiet)}td.words:last-child{white-space:normal;min-width:20em}\
 td.bad{color:var(--bad);font-weight:600}td.warn{color:var(--warn);font-weight:600}td.none{color:var(--quiet)}\
 summary{color:var(--quiet);padding-top:8px}";
 
@@ -44,5 +44,5 @@ figcaption b{color:var(--text);font-weight:600}svg{display:block;width:100%}.cha
 
 /// What a browser may load for an answer: the style, by its hash, and an icon of no bytes.
 pub const POLICY: &str =
-    "default-src 'none'; style-src 'sha256-A1GOOxxXESrYZQChhotdYT416XyszKRz5hKu/grKR44='; img-src data:; base-uri 'none'; \
+    "default-src 'none'; style-src 'sha256-+RrIhKHkC1zN4i4bWd0JK9GRnOU5/7x7RJ+JRs+djvc='; img-src data:; base-uri 'none'; \
 form-action 'none'; frame-ancestors 'none'";
