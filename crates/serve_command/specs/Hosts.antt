@@ -78,7 +78,7 @@ is_due (state.Away absence) attempt = nat_le absence.due attempt
 abbrev pub is_silent : HostEntry → ℕ → Bool
 is_silent host attempt = (host.busy == 0) && nat_le (min (host.heard + 4) (2 ^ 64 - 1)) attempt
 
--- A worker has cause to look at its host if the connection that it kept was closed, or if the host is silent.
+-- A worker has cause to look at its host if it is told that the connection that it kept was closed, or if the host is silent.
 abbrev pub has_to_look : Readiness → HostEntry → ℕ → Bool
 has_to_look Lost host attempt = true
 has_to_look Ready host attempt = is_silent host attempt

@@ -1,4 +1,4 @@
 pub mod Farm
 pub mod Hosts
-pub mod Serving
 pub mod ServiceJobs
+pub mod Serving

@@ -11,7 +11,8 @@ use Rattle.job_runner.specs.declared.jobs.NotDone as session
 use Rattle.pool_supervisor.specs.Sessions.{PastSession}
 use Rattle.serve_command.specs.Farm.{Farm, IsServiceOf, timeout_in}
 
--- The service did the job in the time of its function, and the job reported what the service answered.
+-- The service did the job over some connection in the time of its function, and the job reported what came back. Or its function has no
+-- path, and nothing was asked.
 abbrev pub Does : Farm → Service → Visible → Visible → AssignedJob → Option Told → Type 0
 Does farm service before after job told =
     (reply : Option Replied) × Tells service (timeout_in farm job.function) before after job reply × (told ≡ told_in reply)
@@ -21,8 +22,8 @@ abbrev pub DoesNot : Farm → Service → Visible → Visible → AssignedJob �
 DoesNot farm service before after job error =
     (why : NotDone) × NotServed service (timeout_in farm job.function) before after job why × (error ≡ as_of_session why)
 
--- If the session had jobs, the service of its worker's machine did them, one after the other, the first over a new connection. Each told
--- what the service answered, and one that was not done ended the session.
+-- If the session had jobs, the service of its worker's machine did them over some connections, one after the other, the first over a new
+-- one. Each told what the service answered, and one that was not done ended the session.
 abbrev pub HadServiceJobs : Farm → PastSession → Type 0
 HadServiceJobs farm past =
     IfSome past.told (λ told. (service : Service) × (first last : Visible) × IsServiceOf farm past.worker service × HasNew first.kept

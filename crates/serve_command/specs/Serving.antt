@@ -18,8 +18,8 @@ use Rattle.serve_command.specs.ServiceJobs.{HadServiceJobs}
 use Rattle.service_settings.specs.Services.{Services}
 
 -- A run of this farm came to this: its totals are of one history of the farm's settings, which keeps to the promise, and are the sums of
--- what sessions by these settings counted, whose jobs were done by the services of their workers' machines. Some lines, which are not
--- kept, report just the rounds of that history.
+-- what sessions by these settings counted, whose jobs were done, over some connections, by the services of their workers' machines. Some
+-- lines, which are not kept, report just the rounds of that history.
 abbrev pub IsFarmRun : Farm → RunEnd → Type 0
 IsFarmRun farm ended =
     (lines : List Attempt) × TellRun farm.settings [] lines [] × AreOfOneHistory farm.settings ended.totals ended.chapters lines

@@ -140,7 +140,7 @@ pub struct FarmJobs<'e, H: FarmHost> {
 /// Whether a worker that is about to ask for a job, or that has waited for one, looks at its kept connection.
 #[derive(Clone, Copy, PartialEq, Eq)]
 enum NextLook {
-    /// It does not: a response has just come over it, and a look is three calls of the system.
+    /// It does not: its job has just ended, and a look is three calls of the system.
     AfterJob,
     /// It does.
     Due,
@@ -295,7 +295,8 @@ impl<'e, H: FarmHost> Jobs for FarmJobs<'e, H> {
         Ok(Reply::outcome_in(done?))
     }
 
-    /// What the worker's connection is, if it is time to look.
+    /// `Lost` if it is time to look and the kept connection is lost. Each call counts: the first one after a job passes without a look, and
+    /// a loss is told once.
     fn readiness(&self) -> Readiness {
         let mut next = self.next_look.lock(self.host);
         match *next {

@@ -97,9 +97,9 @@ impl HostEntry {
         self.busy == 0 && self.heard.saturating_add(LONGEST_SILENCE) <= attempt
     }
 
-    /// What a worker, whose jobs are run by what is so, does before it asks for one more job in this attempt. One whose connection was
-    /// closed takes a look. Of those that find a host silent one does, and until it has looked no other does for that: a look-up may take
-    /// long.
+    /// What a worker, whose jobs are run by what is so, does before it asks for one more job in this attempt. One that is told that its
+    /// connection was closed takes a look. Of those that find a host silent one does, and until it has looked no other does for that: a
+    /// look-up may take long.
     pub fn before_job(
         &mut self,
         worker: WorkerName,

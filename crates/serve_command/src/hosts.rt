@@ -69,9 +69,9 @@ impl Hosts {
         }
     }
 
-    /// What a worker of the machine, whose jobs are run by what is so, does before it asks for one more job. A worker whose connection was
-    /// closed takes a look at the host, up to `end_use`. So does one worker of a host that has no job to do, and for four attempts has
-    /// taken no connection and served no job.
+    /// What a worker of the machine, whose jobs are run by what is so, does before it asks for one more job. A worker that is told that its
+    /// connection was closed takes a look at the host, up to `end_use`. So does one worker of a host that has no job to do, and for four
+    /// attempts has taken no connection and served no job.
     pub fn before_job<R: Wait>(
         &self,
         rt: &R,

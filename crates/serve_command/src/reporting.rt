@@ -180,12 +180,12 @@ impl<'e, H: FarmHost> Watch for Reporting<'e, H> {
         self.host.is_to_end() || self.outlook() == Outlook::SlotUsed
     }
 
-    /// A worker whose host was not reached dials it again, beside the connection that it keeps: that may look open though its host is
-    /// gone, and then the next job would be done in vain. So does a worker whose connection was closed, and one of the workers of a host
-    /// that has no job and was not heard of for some attempts, since else each of them could take a job before it learns that the host is
-    /// gone. Such a worker goes on if the host's name was not found: a resolver that is down ends no worker of a host that is well. If the
-    /// farm has to end, a worker that would dial just ends. So do all workers but one of a host that takes connections and serves no job:
-    /// one by one they would take jobs from others, and give them back.
+    /// A worker whose host was not reached dials it again, beside the connection that it keeps: that may look open though its host is gone,
+    /// and then the next job would be done in vain. So does a worker that is told that its connection was closed, and one of the workers of
+    /// a host that has no job and was not heard of for some attempts, since else each of them could take a job before it learns that the
+    /// host is gone. Such a worker goes on if the host's name was not found: a resolver that is down ends no worker of a host that is well.
+    /// If the farm has to end, a worker that would dial just ends. So do all workers but one of a host that takes connections and serves no
+    /// job: one by one they would take jobs from others, and give them back.
     fn may_go_on(&self, worker: WorkerName, readiness: Readiness) -> bool {
         let slot = worker.slot;
         let Some(machine) = self.books.farm.machine_of(slot) else {

@@ -8,7 +8,7 @@ pub const FIRST_WAIT: u64 = 1;
 /// How many attempts pass before a try, at most.
 pub const LONGEST_WAIT: u64 = 64;
 
-/// The wait for the try after the next: they are 1, 2, 4 .. attempts, and 64 at most.
+/// The wait that comes after this one: waits are 1, 2, 4 .. attempts, and 64 at most.
 pub fn longer_wait(wait: u64) -> u64
     ensures { result ≡ min (wait * 2) 64 }
 {
