@@ -1,5 +1,5 @@
 //! A session that has ended, as its thread hands it back.
-ghost use Rattle.std.specs.Prelude.{◌<◌, IfOk};
+ghost use Rattle.std.specs.Prelude.{◌≡◌, ◌<◌, IfOk};
 ghost use Rattle.job_runner.specs.Run.{seen_link};
 ghost use Rattle.pool_settings.specs.Slots.{slots};
 ghost use Rattle.pool_supervisor.specs.Dials.{IsNew};
@@ -39,6 +39,7 @@ impl<N: RunId> EndedSession<N> {
             (J.denies site.now.lent.jobs.now)) }
         ensures past { IsPast N.settings N.had_jobs result.0.worker result.0.returned.end
             (seen_link L.input L.output result.1.value) }
+        ensures link { result.1.value ≡ link.new }
     {
         let worker = papers.worker.pass.name();
         let returned = run_worker(site, link, papers);
