@@ -74,6 +74,10 @@ class Page:
         held("content-security-policy" in {name.lower() for name in headers}, f"GET {path}: {headers}")
         return body.decode()
 
+    def attempts(self):
+        """How many attempts there were."""
+        return int(re.search(r"^poolman_attempts_total (\d+)$", self.text("/metrics"), re.MULTILINE)[1])
+
     def look(self, functions):
         """The page names each function, and jobs that failed or were lost, and has no script; the metrics have their form."""
         page = self.text("/")
