@@ -36,6 +36,7 @@ impl<'e, H: FarmHost> JobSource for FarmSource<'e, H> {
     ghost use Rattle.job_runner.specs.Run.{seen_link};
     ghost use Rattle.http_jobs.specs.Serving.{HasNew};
     ghost use Rattle.serve_command.specs.Farm.{IsServiceOf};
+    ghost use Rattle.serve_command.specs.ServiceJobs.{IsFirstDial, Shows};
 
     type Jobs = FarmJobs<'e, H>;
 
@@ -43,7 +44,8 @@ impl<'e, H: FarmHost> JobSource for FarmSource<'e, H> {
 
     ghost gives = { λ source worker given. (given.books.farm ≡ source.books.farm)
         × IsServiceOf source.books.farm.now worker given.jobs.service
-        × HasNew (option_map (seen_link H.Call.input H.Call.output) given.jobs.kept) };
+        × HasNew (option_map (seen_link H.Call.input H.Call.output) given.jobs.kept)
+        × IsFirstDial (Shows (H.leads source.host.now) H.Dials.calls) source.books.farm.now worker (H.Dials.calls given.jobs.dial) };
 
     ghost denies = { λ _ _. ⊤ };
 

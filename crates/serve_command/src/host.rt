@@ -13,6 +13,9 @@ use std::io;
 /// What a farm is lent by the machine that it is run on: what a run is, and connections to services, an end, and somebody who reads its
 /// lines.
 pub trait FarmHost: Host {
+    ghost use Rattle.std.specs.Prelude.{ℕ, List, string_bytes, ⊤};
+    ghost use Rattle.http_jobs.specs.Serving.{IsNothing};
+
     /// A connection to a service.
     type Call: Source + Sink + Look + Send + Drop;
 
@@ -22,8 +25,13 @@ pub trait FarmHost: Host {
     /// What shows the time to one worker.
     type Times: Clock + Send + Drop;
 
-    /// What opens connections to this host, `NAME:PORT` or `ADDRESS:PORT`.
-    fn dials(&self, host: String, times: CallTimes) -> Self::Dials;
+    /// What it may give to open connections to a host of this name. Of the system's network nothing is known.
+    ghost leads: { Self → List ℕ → Self.Dials → Type 0 } = { λ _ _ _. ⊤ };
+
+    /// What opens connections to this host, `NAME:PORT` or `ADDRESS:PORT`. It was not called yet.
+    fn dials(&self, host: String, times: CallTimes) -> Self::Dials
+        ensures leads { leads self.now (string_bytes host) result }
+        ensures unused { IsNothing (Self.Dials.calls result) };
 
     /// A clock.
     fn times(&self) -> Self::Times;
