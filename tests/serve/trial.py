@@ -8,8 +8,8 @@ that `poolman check` finds shown. A drain ends the farm; its totals have to acco
 a drain does, and a services file without a URL has to be refused before anything is dialled.
 
 With `long` there is only the farm: 100,000 jobs of 20 clients, which begin once the page keeps as many attempts as it ever does. Each host
-is killed three times, and the farm has to hold no more descriptors and no more memory of its own in the last tenth of the jobs than in
-the second. What its processes write is in the folder.
+is killed three times, and the farm has to hold no more descriptors in the last tenth of the jobs than in the second, and no more memory
+of its own than the jobs of a moment take. What its processes write is in the folder.
 """
 
 import contextlib
@@ -55,8 +55,9 @@ CHUNK = 100
 # The page keeps so many attempts.
 ATTEMPTS = 600
 
-# By one part in so many memory may be more in the last tenth than in the second. 200 bytes a job, if they were kept, would be 14 MiB.
-PART = 50
+# By so many KiB memory may be more in the last tenth than in the second: the jobs that came while a bad host held one for its second, at 200
+# bytes each. If each job were kept, it would be 15,000 more.
+MORE_KIB = 512
 
 HEALTHY = {"east": 6, "north": 6, "south": 6}
 BAD = {"drips": (hosts.never_end, "upper"), "mute": (hosts.say_nothing, "reverse"), "noise": (hosts.make_noise, "digest")}
@@ -293,7 +294,7 @@ class Samples:
         """Of so many jobs."""
         second, last = self.greatest(jobs // 10, jobs // 5), self.greatest(jobs - jobs // 10, jobs)
         print(f"descriptors and KiB in the second tenth {second}, in the last {last}")
-        held(last[0] <= second[0] and last[1] <= second[1] + second[1] // PART, f"descriptors and KiB were {second}, and are {last}")
+        held(last[0] <= second[0] and last[1] <= second[1] + MORE_KIB, f"descriptors and KiB were {second}, and are {last}")
 
 
 def try_farm(program, processes, scale):

@@ -28,26 +28,32 @@ use std::snapshot::Snapshot;
 ///
 /// One in memory can show contracts its calls, as a list. Of the system's network nothing is known, and it shows None.
 pub trait Dial<L: Source + Sink> {
-    ghost use Rattle.std.specs.Prelude.{List, Option};
+    ghost use Rattle.std.specs.Prelude.{◌≡◌, ℕ, List, Option, None};
     ghost use Rattle.http_jobs.specs.Serving.{DialCall};
 
     /// The calls so far, the first one first, or None.
     ghost calls: { Self → Option (List DialCall) };
 
+    /// The host that it dials, as `host:port`, or None if it does not say.
+    ghost host: { Self → Option (List ℕ) } = { λ _. None };
+
     /// A new connection. The error says why none was opened by the deadline, in milliseconds of the clock.
     fn dial(&mut self, deadline: Option<u64>) -> Result<L, DialError>
         ensures calls { Self.calls self.new ≡ then_called (Self.calls self.old) (dialled result ∷ []) }
+        ensures host { Self.host self.new ≡ Self.host self.old }
         ensures fresh { IfOk result (λ link. IsNew (seen_link L.input L.output link)) };
 
     /// A connection was closed. This is what it was then.
     fn hung_up(&mut self, link: Snapshot<L>)
         ensures calls { Self.calls self.new
-            ≡ then_called (Self.calls self.old) (closed (seen_link L.input L.output link.value) ∷ []) };
+            ≡ then_called (Self.calls self.old) (closed (seen_link L.input L.output link.value) ∷ []) }
+        ensures host { Self.host self.new ≡ Self.host self.old };
 }
 
 /// Closes a connection.
 fn hang_up<L: Source + Sink + Drop, D: Dial<L>>(dial: &mut D, link: L)
     ensures calls { D.calls dial.new ≡ then_called (D.calls dial.old) (closed (seen_link L.input L.output link) ∷ []) }
+    ensures host { D.host dial.new ≡ D.host dial.old }
 {
     let left = Snapshot::of(&link);
     drop(link);
@@ -67,6 +73,7 @@ fn limit_untimed<L: Look>(link: &mut L, deadline: Option<u64>, timeout_ms: u64)
 /// Opens a connection, and closes it. The error says why none was opened.
 pub fn try_dial<L: Source + Sink + Drop, D: Dial<L>>(dial: &mut D) -> Result<(), DialError>
     ensures tries { Tries result (D.calls dial.old) (D.calls dial.new) }
+    ensures host { D.host dial.new ≡ D.host dial.old }
 {
     let link = dial.dial(None)?;
     hang_up(dial, link);
@@ -133,6 +140,7 @@ impl<L: Source + Sink + Look + Drop, D: Dial<L>, C: Clock> ServiceJobs<L, D, C> 
     pub fn open(&mut self) -> Result<(), DialError>
         ensures opens { IsOpened (visible L.input L.output L.quiet self.old.kept (D.calls self.old.dial) (C.shown self.old.clock))
             (visible L.input L.output L.quiet self.new.kept (D.calls self.new.dial) (C.shown self.new.clock)) result }
+        ensures host { D.host self.new.dial ≡ D.host self.old.dial }
         ensures service { self.new.service ≡ self.old.service }
         ensures timeout { self.new.timeout_ms ≡ self.old.timeout_ms }
     {
@@ -162,6 +170,7 @@ impl<L: Source + Sink + Look + Drop, D: Dial<L>, C: Clock> ServiceJobs<L, D, C> 
         ensures reuses { (calls : List DialCall) × (D.calls self.new.dial ≡ then_called (D.calls self.old.dial) calls)
             × Reuses (visible L.input L.output L.quiet self.old.kept (D.calls self.old.dial) (C.shown self.old.clock)) calls
             (option_map (seen_link L.input L.output) result) }
+        ensures host { D.host self.new.dial ≡ D.host self.old.dial }
     {
         let link = self.kept.take()?;
         if !is_idle && link.is_quiet() {
@@ -183,6 +192,7 @@ impl<L: Source + Sink + Look + Drop, D: Dial<L>, C: Clock> ServiceJobs<L, D, C> 
             (seen_link L.input L.output link)) }
         ensures fails { IfErr result (λ why. D.calls self.new.dial
             ≡ then_called (D.calls self.old.dial) (closings (option_map (seen_link L.input L.output) self.old.kept) ++ failed why ∷ [])) }
+        ensures host { D.host self.new.dial ≡ D.host self.old.dial }
     {
         if let Some(link) = self.reuse(start.is_idle) {
             return Ok(link);
@@ -196,6 +206,7 @@ impl<L: Source + Sink + Look + Drop, D: Dial<L>, C: Clock> ServiceJobs<L, D, C> 
         requires sound { is_kept ≡ true → (L.input link).failures + (L.output link).failures ≡ 0 }
         ensures leaves { (calls : List DialCall) × (D.calls self.new.dial ≡ then_called (D.calls self.old.dial) calls)
             × Leaves (option_map (seen_link L.input L.output) self.new.kept) calls is_kept (seen_link L.input L.output link) }
+        ensures host { D.host self.new.dial ≡ D.host self.old.dial }
         ensures clock { self.new.clock ≡ self.old.clock }
         ensures service { self.new.service ≡ self.old.service }
         ensures timeout { self.new.timeout_ms ≡ self.old.timeout_ms }
@@ -239,6 +250,7 @@ impl<L: Source + Sink + Look + Drop, D: Dial<L>, C: Clock> ServiceJobs<L, D, C> 
             (visible L.input L.output L.quiet self.old.kept (D.calls self.old.dial) (C.shown self.old.clock))
             (visible L.input L.output L.quiet self.new.kept (D.calls self.new.dial) (C.shown self.new.clock))
             (job_of job.now)) }
+        ensures host { D.host self.new.dial ≡ D.host self.old.dial }
         ensures service { self.new.service ≡ self.old.service }
         ensures timeout { self.new.timeout_ms ≡ self.old.timeout_ms }
     {

@@ -1,5 +1,5 @@
 //! Services over TCP, and the system's clock.
-ghost use Rattle.std.specs.Prelude.{◌≡◌, IfOk};
+ghost use Rattle.std.specs.Prelude.{◌≡◌, IfOk, Some, string_bytes};
 ghost use Rattle.job_runner.specs.Run.{seen_link};
 ghost use Rattle.http_jobs.specs.Serving.{IsNew};
 
@@ -75,7 +75,9 @@ pub struct TcpDial<R> {
 impl<R: Net<Stream = TcpStream> + time::Clock> TcpDial<R> {
     /// What opens connections to this host, `NAME:PORT` or `ADDRESS:PORT`. A name is looked up, for as long as the system takes, at the
     /// first dial, and again once the address that took the last connection takes none.
-    pub fn new(rt: R, host: String, times: CallTimes) -> TcpDial<R> {
+    pub fn new(rt: R, host: String, times: CallTimes) -> TcpDial<R>
+        ensures host { ⟦<TcpDial<R> as Dial<TcpLink>>⟧.host result ≡ Some (string_bytes host) }
+    {
         TcpDial {
             rt,
             host,
@@ -108,7 +110,8 @@ impl<R: Net<Stream = TcpStream> + time::Clock> TcpDial<R> {
         end: Option<u64>,
         count: usize,
     ) -> Result<TcpLink, DialError>
-        ensures { IfOk result (λ link. IsNew (seen_link ⟦<TcpLink as Device>⟧.input ⟦<TcpLink as Device>⟧.output link)) }
+        ensures fresh { IfOk result (λ link. IsNew (seen_link ⟦<TcpLink as Device>⟧.input ⟦<TcpLink as Device>⟧.output link)) }
+        ensures host { self.new.host ≡ self.old.host }
     {
         let Some(left) = self.time_left(end) else {
             return Err(DialError::NoAnswer);
@@ -130,7 +133,8 @@ impl<R: Net<Stream = TcpStream> + time::Clock> TcpDial<R> {
     /// A connection to the first of the host's addresses that takes one. The error is why the last of them was not reached, or why there is
     /// none.
     fn dial_host(&mut self, left: u64, deadline: Option<u64>) -> Result<TcpLink, DialError>
-        ensures { IfOk result (λ link. IsNew (seen_link ⟦<TcpLink as Device>⟧.input ⟦<TcpLink as Device>⟧.output link)) }
+        ensures fresh { IfOk result (λ link. IsNew (seen_link ⟦<TcpLink as Device>⟧.input ⟦<TcpLink as Device>⟧.output link)) }
+        ensures host { self.new.host ≡ self.old.host }
     {
         let addresses = match self.host.as_str().to_socket_addrs(&self.rt) {
             Ok(addresses) => addresses,
@@ -154,9 +158,11 @@ impl<R: Net<Stream = TcpStream> + time::Clock> TcpDial<R> {
 /// looked up, and each of its addresses is tried in turn, for its share of the time that is left, until one accepts. The error is
 /// `NoAnswer` if the time is up, else why the last address was not reached, or why its stream could not be used.
 impl<R: Net<Stream = TcpStream> + time::Clock> Dial<TcpLink> for TcpDial<R> {
-    ghost use Rattle.std.specs.Prelude.{◌≡◌, None};
+    ghost use Rattle.std.specs.Prelude.{◌≡◌, None, Some, string_bytes};
 
     ghost calls = { λ _. None };
+
+    ghost host = { λ d. Some (string_bytes d.host) };
 
     fn dial(&mut self, deadline: Option<u64>) -> Result<TcpLink, DialError> {
         let end = self.end_of_dial(self.times.connect_ms as u64, deadline);

@@ -1,7 +1,8 @@
 -- A farm: the settings of its pool, and the services of its machines.
-use Rattle.std.specs.Prelude.{◌≡◌, ◌⊎◌, ℕ, List, Some, Ok, Err, length, slice_get, slice_index}
+use Rattle.std.specs.Prelude.{◌≡◌, ◌⊎◌, ℕ, List, [], ◌∷◌, Option, IfSome, Some, Ok, Err, length, option_map, slice_get, slice_index}
 use Rattle.std.specs.Option.{option_map_or}
 use Rattle.http_jobs.specs.Service.{address_of}
+use Rattle.http_jobs.specs.Serving.{DialCall, opened}
 use Rattle.http_jobs.specs.declared.service.Service.{Service}
 use Rattle.plan_commands.specs.Mistake.{Reads}
 use Rattle.plan_commands.specs.ServicesMistake.{ReadsServices}
@@ -40,7 +41,7 @@ abbrev pub timeout_in : Farm → List ℕ → ℕ
 timeout_in farm name = option_map_or (λ f. slice_index farm.services.timeouts f) (place_of farm.settings.functions name)
     farm.settings.job_timeout_ms
 
--- where the jobs of the slot's machine go
+-- the host and port in the URL of the slot's machine
 pub record IsHostOf (farm : Farm) (slot : ℕ) (host : List ℕ) : Type 0 where
   pub url : Url
   pub own : slice_get farm.services.urls (machine_of farm.settings slot) ≡ Some url
@@ -52,3 +53,11 @@ pub record IsServiceOf (farm : Farm) (worker : WorkerName) (service : Service) :
   pub own : slice_get farm.services.urls (machine_of farm.settings worker.slot) ≡ Some url
   pub asks : address_of service
       ≡ record { host = url.host; path = url.path; worker = worker_text farm.settings worker.slot worker.generation }
+
+-- If what dials says which host it dials, that is the host of the worker's machine. If it shows its calls, there was one, a dial that
+-- opened a connection.
+pub record HasDialled (farm : Farm) (worker : WorkerName) (named : Option (List ℕ)) (calls : Option (List DialCall)) : Type 0 where
+  pub host : List ℕ
+  pub own : IsHostOf farm worker.slot host
+  pub leads : IfSome named (λ named. named ≡ host)
+  pub once : calls ≡ option_map (λ _. opened ∷ []) calls

@@ -1,6 +1,5 @@
 -- A run of a farm, and how it ends.
-use Rattle.std.specs.Prelude.{◌≡◌, ◌⊎◌, ◌+◌, ◌*◌, ◌^◌, ◌-◌, ℕ, List, [], Option, min, ⊤}
-use Rattle.http_jobs.specs.Serving.{DialCall}
+use Rattle.std.specs.Prelude.{◌≡◌, ◌⊎◌, ◌+◌, ◌*◌, ◌^◌, ◌-◌, ℕ, List, [], min}
 use Rattle.plan_commands.specs.Fault.{answered, refused}
 use Rattle.plan_commands.specs.declared.ending.Exit.{Exit}
 use Rattle.plan_commands.specs.declared.fault.Fault.{Fault}
@@ -19,12 +18,12 @@ use Rattle.serve_command.specs.ServiceJobs.{HadServiceJobs}
 use Rattle.service_settings.specs.Services.{Services}
 
 -- A run of this farm came to this: its totals are of one history of the farm's settings, which keeps to the promise, and are the sums of
--- what sessions by these settings counted, whose jobs were done, over some connections, by the services of their workers' machines, as
--- what leads to these machines dialled them. Some lines, which are not kept, report just the rounds of that history.
-abbrev pub IsFarmRun : (List ℕ → Option (List DialCall) → Type 0) → Farm → RunEnd → Type 0
-IsFarmRun leads farm ended =
+-- what some sessions by these settings counted, each with jobs as `HadServiceJobs` says. Some lines, which are not kept, report just the
+-- rounds of that history.
+abbrev pub IsFarmRun : Farm → RunEnd → Type 0
+IsFarmRun farm ended =
     (lines : List Attempt) × TellRun farm.settings [] lines [] × AreOfOneHistory farm.settings ended.totals ended.chapters lines
-    × (sessions : List PastSession) × AreSums farm.settings sessions ended × AllHad (HadServiceJobs leads farm) sessions
+    × (sessions : List PastSession) × AreSums farm.settings sessions ended × AllHad (HadServiceJobs farm) sessions
 
 -- How many milliseconds workers may take to end, and 2^32 - 1 at most: to open a connection, to do a job, and to write an answer, for which
 -- there is the time of an answer and three writes.
@@ -33,10 +32,10 @@ end_ms farm =
     min (farm.services.connect_ms + farm.settings.job_timeout_ms + text_ms farm.settings + 3 * write_ms farm.settings) (2 ^ 32 - 1)
 
 -- The texts mean a farm, and a run of it came to this.
-abbrev pub IsFarmRunBy : (List ℕ → Option (List DialCall) → Type 0) → List ℕ → List ℕ → RunEnd → Type 0
-IsFarmRunBy leads settings_text services_text ended =
+abbrev pub IsFarmRunBy : List ℕ → List ℕ → RunEnd → Type 0
+IsFarmRunBy settings_text services_text ended =
     (settings : Settings) × (services : Services) × IsOf settings_text services_text settings services
-    × IsFarmRun leads (record { settings = settings; services = services }) ended
+    × IsFarmRun (record { settings = settings; services = services }) ended
 
 -- what the attempts came to after one more round, which had no plan
 abbrev pub after_no_plan : Outlook → Outlook
@@ -69,8 +68,9 @@ status_of outlook.Nothing = 5
 status_of outlook.NoPlan = 5
 status_of outlook.SlotUsed = 6
 
--- The texts mean a farm, and a run of it ended, whatever its machines were dialled by. Or they are refused, or memory is.
+-- The texts mean a farm, a run of it ended, and the exit has the status of some outlook. Or the exit refuses, for the first mistake of the
+-- texts or for memory.
 abbrev pub Serves : List ℕ → List ℕ → Exit → Type 0
 Serves settings_text services_text exit =
-    ((ended : RunEnd) × (seen : Outlook) × IsFarmRunBy (λ _ _. ⊤) settings_text services_text ended × (exit ≡ answered (status_of seen)))
+    ((ended : RunEnd) × (seen : Outlook) × IsFarmRunBy settings_text services_text ended × (exit ≡ answered (status_of seen)))
     ⊎ ((f : Fault) × IsRefused settings_text services_text f × (exit ≡ refused f))

@@ -35,8 +35,8 @@ impl<'e, H: FarmHost> JobSource for FarmSource<'e, H> {
     ghost use Rattle.std.specs.Option.{option_map};
     ghost use Rattle.job_runner.specs.Run.{seen_link};
     ghost use Rattle.http_jobs.specs.Serving.{HasNew};
-    ghost use Rattle.serve_command.specs.Farm.{IsServiceOf};
-    ghost use Rattle.serve_command.specs.ServiceJobs.{IsFirstDial, Shows};
+    ghost use Rattle.pool_settings.specs.Slots.{machine_of};
+    ghost use Rattle.serve_command.specs.Farm.{HasDialled, IsServiceOf};
 
     type Jobs = FarmJobs<'e, H>;
 
@@ -45,7 +45,9 @@ impl<'e, H: FarmHost> JobSource for FarmSource<'e, H> {
     ghost gives = { λ source worker given. (given.books.farm ≡ source.books.farm)
         × IsServiceOf source.books.farm.now worker given.jobs.service
         × HasNew (option_map (seen_link H.Call.input H.Call.output) given.jobs.kept)
-        × IsFirstDial (Shows (H.leads source.host.now) H.Dials.calls) source.books.farm.now worker (H.Dials.calls given.jobs.dial) };
+        × HasDialled source.books.farm.now worker (H.Dials.host given.jobs.dial) (H.Dials.calls given.jobs.dial)
+        × (given.machine ≡ machine_of source.books.farm.now.settings worker.slot) × (given.slot ≡ worker.slot)
+        × (given.generation ≡ worker.generation) };
 
     ghost denies = { λ _ _. ⊤ };
 
@@ -251,6 +253,7 @@ impl<'e, H: FarmHost> Jobs for FarmJobs<'e, H> {
     ghost use Rattle.serve_command.specs.Farm.{timeout_in};
 
     ghost tells = { λ before after job told. (after.books.farm ≡ before.books.farm)
+        × (H.Dials.host after.jobs.dial ≡ H.Dials.host before.jobs.dial)
         × IsDoneBy before.jobs.service (timeout_in before.books.farm.now job.function)
         (visible H.Call.input H.Call.output H.Call.quiet before.jobs.kept (H.Dials.calls before.jobs.dial)
         (H.Times.shown before.jobs.clock))
@@ -259,6 +262,7 @@ impl<'e, H: FarmHost> Jobs for FarmJobs<'e, H> {
         after.jobs.service after.jobs.timeout_ms job told };
 
     ghost fails = { λ before after job error. (after.books.farm ≡ before.books.farm)
+        × (H.Dials.host after.jobs.dial ≡ H.Dials.host before.jobs.dial)
         × IsNotDoneBy before.jobs.service (timeout_in before.books.farm.now job.function)
         (visible H.Call.input H.Call.output H.Call.quiet before.jobs.kept (H.Dials.calls before.jobs.dial)
         (H.Times.shown before.jobs.clock))

@@ -13,7 +13,7 @@ use std::io;
 /// What a farm is lent by the machine that it is run on: what a run is, and connections to services, an end, and somebody who reads its
 /// lines.
 pub trait FarmHost: Host {
-    ghost use Rattle.std.specs.Prelude.{ℕ, List, string_bytes, ⊤};
+    ghost use Rattle.std.specs.Prelude.{◌≡◌, IfSome, string_bytes};
     ghost use Rattle.http_jobs.specs.Serving.{IsNothing};
 
     /// A connection to a service.
@@ -25,12 +25,9 @@ pub trait FarmHost: Host {
     /// What shows the time to one worker.
     type Times: Clock + Send + Drop;
 
-    /// What it may give to open connections to a host of this name. Of the system's network nothing is known.
-    ghost leads: { Self → List ℕ → Self.Dials → Type 0 } = { λ _ _ _. ⊤ };
-
-    /// What opens connections to this host, `NAME:PORT` or `ADDRESS:PORT`. It was not called yet.
+    /// What opens connections to this host, `NAME:PORT` or `ADDRESS:PORT`. If it shows its calls, there are none yet.
     fn dials(&self, host: String, times: CallTimes) -> Self::Dials
-        ensures leads { leads self.now (string_bytes host) result }
+        ensures host { IfSome (Self.Dials.host result) (λ named. named ≡ string_bytes host) }
         ensures unused { IsNothing (Self.Dials.calls result) };
 
     /// A clock.

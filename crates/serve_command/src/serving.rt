@@ -3,7 +3,6 @@
 ghost use Rattle.std.specs.Prelude.{◌≡◌, ◌+◌, ◌^◌, ◌-◌, min, IfErr, IfOk};
 ghost use Rattle.serve_command.specs.Farm as farms;
 ghost use Rattle.serve_command.specs.Serving as spec;
-ghost use Rattle.serve_command.specs.ServiceJobs.{Shows};
 
 use crate::books::Books;
 use crate::farm::{Farm, FarmTexts};
@@ -67,7 +66,7 @@ fn run_until_end<'x, H: FarmHost>(
     alloc: Global,
     farm: &'x Farm,
 ) -> Result<FarmEnd, AllocError>
-    ensures { IfOk result (λ ended. spec.IsFarmRun (Shows (H.leads host.now) H.Dials.calls) farm.now ended.run) }
+    ensures { IfOk result (λ ended. spec.IsFarmRun farm.now ended.run) }
 {
     let settings = farm.settings.copy(alloc)?;
     let route = Route::new(host, alloc, &settings)?;
@@ -121,8 +120,7 @@ pub fn run_farm<H: FarmHost>(
     alloc: Global,
     texts: FarmTexts<'_>,
 ) -> Result<FarmEnd, Fault>
-    ensures run { IfOk result (λ ended. spec.IsFarmRunBy (Shows (H.leads host.now) H.Dials.calls)
-        texts.entry.settings.now texts.entry.services.now ended.run) }
+    ensures run { IfOk result (λ ended. spec.IsFarmRunBy texts.entry.settings.now texts.entry.services.now ended.run) }
     ensures kept { IfErr result (farms.IsRefused texts.entry.settings.now texts.entry.services.now) }
 {
     let farm = Farm::read(alloc, texts)?;
