@@ -360,9 +360,14 @@ def a_service_by_drain(program, processes):
     ends_as_service(program, processes, lambda farm, script: farm.drain())
 
 
-def main(program, folder, *words):
-    # As examples/systemd has it. With a heap for each thread memory settles only after hours.
+def use_one_heap():
+    """As examples/systemd has it, and without a cache for each thread: these fill for hours, so that memory that is lost could not be told."""
     os.environ.setdefault("MALLOC_ARENA_MAX", "1")
+    os.environ.setdefault("GLIBC_TUNABLES", "glibc.malloc.tcache_count=0")
+
+
+def main(program, folder, *words):
+    use_one_heap()
     parts = (a_large_farm,) if words == ("long",) else (a_refused_file, a_service_by_signal, a_service_by_drain, a_farm)
     for part in parts:
         os.mkdir(f"{folder}/{part.__name__}")
