@@ -20,7 +20,7 @@ import time
 
 sys.dont_write_bytecode = True
 
-from trial import HEALTHY, PATIENCE, TOTALS, Farm, Processes, ask_rightly, at_once, drain, held, mixed_jobs, use_one_heap, wait_until
+from trial import HEALTHY, PATIENCE, TOTALS, Farm, Processes, ask_rightly, at_once, drain, held, keep_no_freed_memory, mixed_jobs, wait_until
 
 CLIENTS, JOBS_A_SECOND, ROUND_MS = 4, 50, 1000
 KILL_S, AWAY_S, SAMPLE_S = 120, 10, 5
@@ -124,7 +124,7 @@ class Soak:
 
 def main(program, folder, minutes="60"):
     os.makedirs(folder, exist_ok=True)
-    use_one_heap()
+    keep_no_freed_memory()
     with Processes(folder) as processes:
         soak = Soak(program, processes, 60 * float(minutes))
         soak.run()

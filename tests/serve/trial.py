@@ -360,15 +360,17 @@ def a_service_by_drain(program, processes):
     ends_as_service(program, processes, lambda farm, script: farm.drain())
 
 
-def use_one_heap():
-    """As examples/systemd has it, and without a cache for each thread: these fill for hours, so that memory that is lost could not be told."""
+def keep_no_freed_memory():
+    """One heap, as examples/systemd has it, and no caches of threads: these fill for hours, so that memory that is lost could not be told."""
     os.environ.setdefault("MALLOC_ARENA_MAX", "1")
     os.environ.setdefault("GLIBC_TUNABLES", "glibc.malloc.tcache_count=0")
 
 
 def main(program, folder, *words):
-    use_one_heap()
-    parts = (a_large_farm,) if words == ("long",) else (a_refused_file, a_service_by_signal, a_service_by_drain, a_farm)
+    parts = (a_refused_file, a_service_by_signal, a_service_by_drain, a_farm)
+    if words == ("long",):
+        keep_no_freed_memory()
+        parts = (a_large_farm,)
     for part in parts:
         os.mkdir(f"{folder}/{part.__name__}")
         with Processes(f"{folder}/{part.__name__}") as processes:
