@@ -3,8 +3,9 @@
 
 Measures `plan` on the inputs of bench/planning and a worker's session at Debian's gearmand, OLD and NEW one after the other in each turn,
 and prints the medians and by how many per cent NEW differs. Each program goes first in every second turn. Of `plan` it is the processor
-time, added up over ten calls; of a session the jobs a second of one worker and the processor time of a job, with the server on
-two cores and the client and the worker on one each. Wants what bench/gearmand/measure.py wants, and four cores that do nothing else."""
+time, added up over ten calls; of a session the jobs a second of one worker and the processor time of a job. Each program's worker has a
+server of its own, and the jobs of a turn are asked for in 20 parts, of the two by turns. The servers have two cores, the workers one, and
+the client one. Wants what bench/gearmand/measure.py wants, and four cores that do nothing else."""
 
 import os
 import statistics
@@ -21,6 +22,8 @@ from farm import Gearmand, wait_until
 
 INPUTS = ("all", "half", "triangle", "detour", "steps")
 CALLS = 10
+# Into how many parts the jobs of a turn are cut.
+SLICES = 20
 
 
 def plan_seconds(program, folder):
@@ -34,30 +37,71 @@ def plan_seconds(program, folder):
     return after.children_user + after.children_system - before.children_user - before.children_system
 
 
-def session(program, folder):
-    """Jobs a second of one worker, and the processor microseconds of a job."""
-    server = Gearmand()
-    workers = Poolman(program, server.port, 1)
+class Session:
+    """A worker of a program at a server of its own."""
+
+    def __init__(self, program):
+        self.server = Gearmand()
+        try:
+            self.workers = Poolman(program, self.server.port, 1)
+            wait_until(lambda: self.server.workers("echo") == 1, 30, "the worker is there")
+        except BaseException:
+            self.server.stop()
+            raise
+        pin(self.server.process.pid, "0,1")
+        pin(self.workers.process.pid, "2")
+        self.jobs, self.seconds, self.processor = 0, 0.0, 0.0
+
+    def ask(self, folder, jobs, ahead):
+        """So many jobs in a row, which are added to what was measured."""
+        before = on_processor(self.workers.process.pid)
+        rate = ask(folder, self.server.port, jobs, ahead, "taskset", "-c", "3")[0]
+        self.processor += on_processor(self.workers.process.pid) - before
+        self.jobs += jobs
+        self.seconds += jobs / rate
+
+    def end(self):
+        self.workers.end()
+        self.server.stop()
+
+
+def on_processor(process):
+    """Microseconds that the threads of a process had a processor, as its scheduler counts them."""
+    tasks = f"/proc/{process}/task"
+    return sum(int(open(f"{tasks}/{task}/schedstat").read().split()[0]) for task in os.listdir(tasks)) / 1e3
+
+
+def sessions(programs, folder, turn):
+    """Jobs a second of one worker of each program, and the processor microseconds of a job. The programs are asked for some jobs after each
+    other, many times, so that a machine whose speed changes changes both."""
+    running = {}
     try:
-        wait_until(lambda: server.workers("echo") == 1, 30, "the worker is there")
-        pin(server.process.pid, "0,1")
-        pin(workers.process.pid, "2")
-        ask(folder, server.port, 2000, 100, "taskset", "-c", "3")
-        before = workers.processor()
-        rate = ask(folder, server.port, JOBS[1], 1000, "taskset", "-c", "3")[0]
-        return rate, (workers.processor() - before) / JOBS[1]
+        for name in programs:
+            running[name] = Session(programs[name])
+            ask(folder, running[name].server.port, 2000, 100, "taskset", "-c", "3")
+        for slice in range(SLICES):
+            for name in in_turn(running, turn + slice):
+                running[name].ask(folder, JOBS[1] // SLICES, 1000)
+        return {name: (it.jobs / it.seconds, it.processor / it.jobs) for name, it in running.items()}
     finally:
-        workers.end()
-        server.stop()
+        for it in running.values():
+            it.end()
 
 
-def by_turns(programs, turns, measure):
+def in_turn(names, turn):
+    """The names, the last one first in every second turn."""
+    return list(names)[:: 1 if turn % 2 == 0 else -1]
+
+
+def plans(programs, folder, turn):
+    """The processor milliseconds of a call of `plan` of each program."""
+    return {name: plan_seconds(programs[name], folder) / CALLS * 1000 for name in in_turn(programs, turn)}
+
+
+def by_turns(turns, measure):
     """What is measured of each program, turn by turn."""
-    found = {name: [] for name in programs}
-    for turn in range(turns):
-        for name in list(programs)[:: 1 if turn % 2 == 0 else -1]:
-            found[name].append(measure(programs[name]))
-    return found
+    found = [measure(turn) for turn in range(turns)]
+    return {name: [it[name] for it in found] for name in found[0]}
 
 
 def row(what, old, new, form):
@@ -72,9 +116,9 @@ def main(old, new, turns):
         build(folder)
         for kind in INPUTS:
             subprocess.run([sys.executable, f"{HERE}/planning/generate.py", kind, f"{folder}/{kind}"], check=True)
-            found = by_turns(programs, turns, lambda program: plan_seconds(program, f"{folder}/{kind}") / CALLS * 1000)
+            found = by_turns(turns, lambda turn: plans(programs, f"{folder}/{kind}", turn))
             rows.append(row(f"plan, {kind}: milliseconds", found["old"], found["new"], "{:.1f}"))
-        found = by_turns(programs, turns, lambda program: session(program, folder))
+        found = by_turns(turns, lambda turn: sessions(programs, folder, turn))
         for at, (what, form) in enumerate([("session: jobs/s", "{:,.0f}"), ("session: processor µs a job", "{:.2f}")]):
             rows.append(row(what, [it[at] for it in found["old"]], [it[at] for it in found["new"]], form))
     table(["median of " + str(turns), "old", "new", "difference"], rows)

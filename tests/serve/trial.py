@@ -9,7 +9,7 @@ a drain does, and a services file without a URL has to be refused before anythin
 
 With `long` there is only the farm: 100,000 jobs of 20 clients, which begin once the page keeps as many attempts as it ever does. Each host
 is killed three times, and the farm has to hold no more descriptors in the last tenth of the jobs than in the second, and no more memory
-of its own than the jobs of a moment take. What its processes write is in the folder.
+of its own than the jobs of a moment take, each by its median. What its processes write is in the folder.
 """
 
 import contextlib
@@ -17,6 +17,7 @@ import dataclasses
 import os
 import re
 import socket
+import statistics
 import subprocess
 import sys
 import threading
@@ -32,7 +33,6 @@ import hosts
 from asking import ask_rightly, mixed_jobs, wanted
 from page import Page
 from starting import PATIENCE, Processes, drain, ports, untimed
-
 
 
 @dataclasses.dataclass
@@ -284,17 +284,17 @@ class Samples:
         with open(f"/proc/{self.farm.poolman.pid}/status") as it:
             return int(re.search(r"RssAnon:\s+(\d+) kB", it.read())[1])
 
-    def greatest(self, first, last):
-        """The greatest numbers while so many jobs were answered."""
+    def medians(self, first, last):
+        """The medians while so many jobs were answered. A look for free files opens sockets for a moment, so one sample says little."""
         some = [(descriptors, memory) for answered, descriptors, memory in self.taken if first <= answered < last]
         held(some, "no sample")
-        return tuple(map(max, zip(*some)))
+        return tuple(map(statistics.median, zip(*some)))
 
     def hold_that_none_grew(self, jobs):
         """Of so many jobs."""
-        second, last = self.greatest(jobs // 10, jobs // 5), self.greatest(jobs - jobs // 10, jobs)
-        print(f"descriptors and KiB in the second tenth {second}, in the last {last}")
-        held(last[0] <= second[0] and last[1] <= second[1] + MORE_KIB, f"descriptors and KiB were {second}, and are {last}")
+        second, last = self.medians(jobs // 10, jobs // 5), self.medians(jobs - jobs // 10, jobs)
+        print(f"medians of descriptors and KiB in the second tenth {second}, in the last {last}")
+        held(last[0] <= second[0] and last[1] <= second[1] + MORE_KIB, f"medians of descriptors and KiB were {second}, and are {last}")
 
 
 def try_farm(program, processes, scale):

@@ -112,17 +112,17 @@ IsNotToldIn calls other = ⊥
 
 -- ---- the command
 
--- The services file has a page, which told these totals.
+-- The services file has a page, and by some calls these totals were told.
 abbrev pub IsToldBy : List ℕ → List ℕ → Type 0
 IsToldBy services_text totals = (p : Page) × ReadsPage services_text (Ok p) × ((calls : List DialCall) × IsToldIn calls totals)
 
--- The services file has a mistake, or its page told no totals.
+-- The services file has a mistake, or by some calls no totals were told.
 abbrev pub IsNotToldBy : List ℕ → Fault → Type 0
 IsNotToldBy services_text f =
     ReadsPage services_text (Err f)
     ⊎ ((p : Page) × ReadsPage services_text (Ok p) × ((calls : List DialCall) × IsNotToldIn calls f))
 
--- The page told totals, which are written, with status 0. Or it told none, and nothing is written.
+-- Totals were told, which are written, with status 0. Or none were, and nothing is written.
 abbrev pub Drains : List ℕ → Output → Output → Exit → Type 0
 Drains services_text old new exit =
     ((totals : List ℕ) × IsToldBy services_text totals × Delivers totals (answered 0) old new exit)

@@ -1,6 +1,6 @@
 //! The command `drain`.
 
-ghost use Rattle.std.specs.Prelude.{◌-◌, ◌^◌, ◌<◌, MatchResult};
+ghost use Rattle.std.specs.Prelude.{◌≡◌, ◌-◌, ◌^◌, ◌<◌, IfOk, IfSome, MatchResult};
 ghost use Rattle.drain_command.specs.Drain as spec;
 
 use crate::asking::ask_page;
@@ -8,7 +8,8 @@ use crate::caller::Caller;
 use byte_io::Sink;
 use http_jobs::CallTimes;
 use plan_commands::{Exit, Fault, deliver, read_page};
-use std::alloc::Global;
+use service_settings::Page;
+use std::alloc::{AllocError, Global};
 
 /// How long calls of a connection to the page may take. If more peers knock than the system lets wait, a connection is there once the page
 /// has let them in.
@@ -17,13 +18,20 @@ const CALL_TIMES: CallTimes = CallTimes {
     read_ms: 100,
 };
 
+/// What opens connections to the page. The only error is out of memory.
+fn dials_of<H: Caller>(host: &H, alloc: Global, page: &Page) -> Result<H::Dials, AllocError>
+    ensures { IfOk result (λ dials. IfSome (H.Dials.host dials) (λ named. named ≡ page.now.listen)) }
+{
+    let address = String::from_str(alloc, page.listen())?;
+    Ok(host.dials(address, CALL_TIMES))
+}
+
 /// The totals of the farm that the services file is of.
 fn totals<H: Caller>(host: &H, alloc: Global, services_text: &[u8]) -> Result<Vec<u8>, Fault>
     ensures { MatchResult result (λ totals. spec.IsToldBy services_text.now totals.items) (spec.IsNotToldBy services_text.now) }
 {
     let page = read_page(alloc, services_text)?;
-    let address = String::from_str(alloc, page.listen())?;
-    let mut dial = host.dials(address, CALL_TIMES);
+    let mut dial = dials_of(host, alloc, &page)?;
     let mut clock = host.times();
     ask_page(host, alloc, &mut dial, &mut clock)
 }

@@ -3,12 +3,23 @@
 use plan_commands::Mistake;
 use pool_settings::{Counted, Place, Section, SettingsError};
 
-/// What is wanted in the place of the mistake, if the refusal does not say it: a range, a type, or how many there may be.
+/// What is wanted in the place of the mistake, if the refusal does not say it: another version, a range, a type, or how many there may be.
 pub fn wanted(mistake: &Mistake) -> Option<&'static str> {
     match mistake.error {
+        SettingsError::UnknownKey => known_later(&mistake.place),
         SettingsError::BadValue => Some(wanted_value(&mistake.place)),
         SettingsError::BadName => Some(wanted_name(&mistake.place)),
         SettingsError::TooMany => Some(at_most(&mistake.place)),
+        _ => None,
+    }
+}
+
+/// The version of a key that settings of the first one do not have.
+fn known_later(place: &Place<String>) -> Option<&'static str> {
+    match place {
+        Place::EntryKey(Section::Functions, _, key) if key.as_str() == "most" => {
+            Some("`most` wants `version = 2`")
+        }
         _ => None,
     }
 }

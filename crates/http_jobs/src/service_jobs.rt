@@ -28,14 +28,14 @@ use std::snapshot::Snapshot;
 ///
 /// One in memory can show contracts its calls, as a list. Of the system's network nothing is known, and it shows None.
 pub trait Dial<L: Source + Sink> {
-    ghost use Rattle.std.specs.Prelude.{◌≡◌, ℕ, List, Option, None};
+    ghost use Rattle.std.specs.Prelude.{◌≡◌, ℕ, List, Option};
     ghost use Rattle.http_jobs.specs.Serving.{DialCall};
 
     /// The calls so far, the first one first, or None.
     ghost calls: { Self → Option (List DialCall) };
 
-    /// The host that it dials, as `host:port`, or None if it does not say.
-    ghost host: { Self → Option (List ℕ) } = { λ _. None };
+    /// The host that it says it dials, as `host:port`, or None if it does not say.
+    ghost host: { Self → Option (List ℕ) };
 
     /// A new connection. The error says why none was opened by the deadline, in milliseconds of the clock.
     fn dial(&mut self, deadline: Option<u64>) -> Result<L, DialError>

@@ -13,7 +13,7 @@ pub enum SettingsError {
     #[error("the file is not TOML")]
     Text,
     /// `version` is missing, or is not the number 1 or 2.
-    #[error("`version` is not 1 or 2")]
+    #[error("`version` has to be 1 or 2")]
     Version,
     /// A table has a key that settings of this version do not have.
     #[error("there is an unknown key")]

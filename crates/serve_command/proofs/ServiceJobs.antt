@@ -14,9 +14,11 @@ use Rattle.serve_command.specs.Farm.{Farm, IsServiceOf, timeout_in}
 use Rattle.serve_command.specs.ServiceJobs.{Does, DoesNot, HadServiceJobs}
 use Rattle.worker_state.specs.declared.slot.WorkerName.{WorkerName}
 
--- what a value that does jobs has of its farm, its service and its time, which host it dials, and what it shows
+-- what a value that does jobs has of its farm, its worker, its service and its time, which host it dials, and what it shows
 pub record Parts (J F : Type 0) : Type 0 where
   pub farm : J → F
+  pub worker : J → WorkerName
+  pub machine : J → ℕ
   pub now : F → Farm
   pub service : J → Service
   pub time : J → ℕ
@@ -25,12 +27,14 @@ pub record Parts (J F : Type 0) : Type 0 where
 
 abbrev pub tells_of : {J F : Type 0} → Parts J F → J → J → AssignedJob → Option Told → Type 0
 tells_of p before after job told =
-    (p.farm after ≡ p.farm before) × (p.host after ≡ p.host before)
+    (p.farm after ≡ p.farm before) × (p.worker after ≡ p.worker before) × (p.machine after ≡ p.machine before)
+    × (p.host after ≡ p.host before)
     × IsDoneBy (p.service before) (timeout_in (p.now (p.farm before)) job.function) (p.see before) (p.see after) (p.service after) (p.time after) job told
 
 abbrev pub fails_of : {J F : Type 0} → Parts J F → J → J → AssignedJob → session.NotDone → Type 0
 fails_of p before after job error =
-    (p.farm after ≡ p.farm before) × (p.host after ≡ p.host before)
+    (p.farm after ≡ p.farm before) × (p.worker after ≡ p.worker before) × (p.machine after ≡ p.machine before)
+    × (p.host after ≡ p.host before)
     × IsNotDoneBy (p.service before) (timeout_in (p.now (p.farm before)) job.function) (p.see before) (p.see after) (p.service after) (p.time after) job error
 
 abbrev pub gives_of : {J F : Type 0} → Parts J F → F → WorkerName → J → Type 0
@@ -46,7 +50,7 @@ are_told : {J F : Type 0} (p : Parts J F) (farm : F) (service : Service) (first 
 are_told p farm service first last [] own is all = (ap p.see all, ap p.farm all ∙ own, ap p.service all ∙ is)
 are_told p farm service first last (t ∷ ts) own is all =
     let next = all.0 in
-    let done = all.1.2 in
+    let done = all.1.4 in
     let rest = are_told p farm service next last ts (all.1.0 ∙ own) (done.3 ∙ is) all.2 in
     let tells = subst (λ f. Tells (p.service first) (timeout_in (p.now f) t.job.function) (p.see first) (p.see next) t.job done.0) own done.1 in (
       (p.see next, (done.0, subst (λ s. Tells s (timeout_in (p.now farm) t.job.function) (p.see first) (p.see next) t.job done.0) is tells, done.2), rest.0),
@@ -59,7 +63,7 @@ is_left : {J F : Type 0} (p : Parts J F) (farm : F) (service : Service) (last ne
 is_left p farm service last new reason own is (inl rests) = inl (ap p.see rests.0, rests.1)
 is_left p farm service last new reason own is (inr failed) =
     let job = failed.0 in
-    let not_done = failed.2.2 in
+    let not_done = failed.2.4 in
     let not_served = subst (λ f. NotServed (p.service last) (timeout_in (p.now f) job.function) (p.see last) (p.see new) job not_done.0) own not_done.1 in
     inr (
       job,

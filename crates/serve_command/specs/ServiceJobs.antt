@@ -11,8 +11,8 @@ use Rattle.job_runner.specs.declared.jobs.NotDone as session
 use Rattle.pool_supervisor.specs.Sessions.{PastSession}
 use Rattle.serve_command.specs.Farm.{Farm, IsServiceOf, timeout_in}
 
--- The service did the job over some connection, at no look at the clock was the time of its function over, and the job reported what came
--- back. Or its function has no path, and nothing was asked.
+-- The service was asked for the job over some connection, wherever that leads, at no look at the clock was the time of its function over,
+-- and the job reported what came back. Or its function has no path, and nothing was asked.
 abbrev pub Does : Farm → Service → Visible → Visible → AssignedJob → Option Told → Type 0
 Does farm service before after job told =
     (reply : Option Replied) × Tells service (timeout_in farm job.function) before after job reply × (told ≡ told_in reply)
@@ -22,8 +22,8 @@ abbrev pub DoesNot : Farm → Service → Visible → Visible → AssignedJob �
 DoesNot farm service before after job error =
     (why : NotDone) × NotServed service (timeout_in farm job.function) before after job why × (error ≡ as_of_session why)
 
--- If the session was given jobs, it began with a new connection, which was kept. The service of its worker's machine did its jobs, one
--- after the other, each over the kept connection or a new one. Each told what the service answered, and one that was not done ended the
+-- If the session was given jobs, it began with a new connection, which was kept. The service of its worker's machine was asked for its
+-- jobs, one after the other, each over the kept connection or a new one. Each told what was answered, and one that was not done ended the
 -- session.
 abbrev pub HadServiceJobs : Farm → PastSession → Type 0
 HadServiceJobs farm past =

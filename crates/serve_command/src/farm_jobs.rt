@@ -46,8 +46,7 @@ impl<'e, H: FarmHost> JobSource for FarmSource<'e, H> {
         × IsServiceOf source.books.farm.now worker given.jobs.service
         × HasNew (option_map (seen_link H.Call.input H.Call.output) given.jobs.kept)
         × HasDialled source.books.farm.now worker (H.Dials.host given.jobs.dial) (H.Dials.calls given.jobs.dial)
-        × (given.machine ≡ machine_of source.books.farm.now.settings worker.slot) × (given.slot ≡ worker.slot)
-        × (given.generation ≡ worker.generation) };
+        × (given.worker ≡ worker) × (given.machine ≡ machine_of source.books.farm.now.settings worker.slot) };
 
     ghost denies = { λ _ _. ⊤ };
 
@@ -116,8 +115,7 @@ impl<'e, H: FarmHost> JobSource for FarmSource<'e, H> {
             host: self.host,
             books: self.books,
             machine,
-            slot,
-            generation,
+            worker: WorkerName { slot, generation },
             jobs,
             next_look: Mutex::new(NextLook::Due),
         })
@@ -135,14 +133,13 @@ pub struct FarmJobs<'e, H: FarmHost> {
     host: &'e H,
     books: Books<'e>,
     machine: MachineId,
-    slot: SlotId,
-    generation: u32,
+    worker: WorkerName,
     jobs: ServiceJobs<H::Call, H::Dials, H::Times>,
     next_look: Mutex<NextLook>,
 }
 
 /// Whether a worker that is about to ask for a job, or that has waited for one, looks at its kept connection.
-#[derive(Clone, Copy, PartialEq, Eq)]
+#[derive(Clone, Copy)]
 enum NextLook {
     /// It does not: its job has just ended, and a look is three calls of the system.
     AfterJob,
@@ -253,6 +250,7 @@ impl<'e, H: FarmHost> Jobs for FarmJobs<'e, H> {
     ghost use Rattle.serve_command.specs.Farm.{timeout_in};
 
     ghost tells = { λ before after job told. (after.books.farm ≡ before.books.farm)
+        × (after.worker ≡ before.worker) × (after.machine ≡ before.machine)
         × (H.Dials.host after.jobs.dial ≡ H.Dials.host before.jobs.dial)
         × IsDoneBy before.jobs.service (timeout_in before.books.farm.now job.function)
         (visible H.Call.input H.Call.output H.Call.quiet before.jobs.kept (H.Dials.calls before.jobs.dial)
@@ -262,6 +260,7 @@ impl<'e, H: FarmHost> Jobs for FarmJobs<'e, H> {
         after.jobs.service after.jobs.timeout_ms job told };
 
     ghost fails = { λ before after job error. (after.books.farm ≡ before.books.farm)
+        × (after.worker ≡ before.worker) × (after.machine ≡ before.machine)
         × (H.Dials.host after.jobs.dial ≡ H.Dials.host before.jobs.dial)
         × IsNotDoneBy before.jobs.service (timeout_in before.books.farm.now job.function)
         (visible H.Call.input H.Call.output H.Call.quiet before.jobs.kept (H.Dials.calls before.jobs.dial)
@@ -285,11 +284,7 @@ impl<'e, H: FarmHost> Jobs for FarmJobs<'e, H> {
         self.host
             .tell_if(host_line(alloc, farm, self.machine, news));
         self.books.tally.end(self.host, function, end_of(&done));
-        let worker = WorkerName {
-            slot: self.slot,
-            generation: self.generation,
-        };
-        let failure = failure_of(alloc, farm, worker, &job, &done);
+        let failure = failure_of(alloc, farm, self.worker, &job, &done);
         self.host.tell_if(line_of(alloc, &failure));
         let dated = failure
             .ok()
@@ -297,7 +292,7 @@ impl<'e, H: FarmHost> Jobs for FarmJobs<'e, H> {
             .map(|failure| self.host.dated(failure.view));
         self.books.tally.note(self.host, dated);
         let answered = answered_of(alloc, job, function, &done);
-        drop(self.books.last_jobs.keep(self.host, worker, answered));
+        drop(self.books.last_jobs.keep(self.host, self.worker, answered));
         Ok(Reply::outcome_in(done?))
     }
 

@@ -13,7 +13,7 @@ pub enum ServicesError {
     #[error("the file is not TOML")]
     Text,
     /// `version` is missing, or is not the number 1.
-    #[error("`version` is not 1")]
+    #[error("`version` has to be 1")]
     Version,
     /// A table has a key that services of this version do not have.
     #[error("there is an unknown key")]

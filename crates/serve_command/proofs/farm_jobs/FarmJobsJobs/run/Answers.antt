@@ -12,6 +12,8 @@ returns-clause-tells g c =
     let is_ok = c.branch-done.ensures ∙ ap result_from_control_flow c.in_ok-done.is in
     let served = rw (set.service, set.timeout, set.kept, set.dial, set.clock, facts, c.deref-2.ensures.value) at c.serve-done.ensures.served in (
       refl,
+      refl,
+      refl,
       rw set.dial at c.serve-done.ensures.host,
       (
         option_map reply_of c.in_ok-done.field-0,
@@ -27,7 +29,7 @@ returns-in_err-done-clause-fails g c =
     let set = c.set_timeout.ensures in
     let facts = c.timeout_ms-timeout_ms.ensures in
     let is_err = c.branch-done.ensures ∙ ap result_from_control_flow c.in_err-done.is in
-    heard _ _ _ _ _ c.serve-done.result c.in_err-done.field-0.0 c.from_residual.result refl (rw set.dial at c.serve-done.ensures.host)
+    heard _ _ _ _ _ _ _ c.serve-done.result c.in_err-done.field-0.0 c.from_residual.result refl refl refl (rw set.dial at c.serve-done.ensures.host)
     (rw set.service at c.serve-done.ensures.service) (rw (set.timeout, facts, c.deref-2.ensures.value) at c.serve-done.ensures.timeout)
     is_err c.from_residual.ensures.1
     (rw (set.service, set.timeout, set.kept, set.dial, set.clock, facts, c.deref-2.ensures.value) at c.serve-done.ensures.failed)
