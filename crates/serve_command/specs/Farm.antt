@@ -55,13 +55,10 @@ pub record IsServiceOf (farm : Farm) (worker : WorkerName) (service : Service) :
   pub asks : address_of service
       ≡ record { host = url.host; path = url.path; worker = worker_text farm.settings worker.slot worker.generation }
 
--- If what dials says which host it dials, that is the host of the slot's machine.
-pub record LeadsTo (farm : Farm) (slot : ℕ) (named : Option (List ℕ)) : Type 0 where
-  pub host : List ℕ
-  pub own : IsHostOf farm slot host
-  pub leads : IfSome named (λ named. named ≡ host)
-
--- What dials leads to the host of the worker's machine. If it shows its calls, there was one, a dial that opened a connection.
+-- If what dials says which host it dials, that is the host of the worker's machine. If it shows its calls, there was one, a dial that
+-- opened a connection.
 pub record HasDialled (farm : Farm) (worker : WorkerName) (named : Option (List ℕ)) (calls : Option (List DialCall)) : Type 0 where
-  pub leads : LeadsTo farm worker.slot named
+  pub host : List ℕ
+  pub own : IsHostOf farm worker.slot host
+  pub leads : IfSome named (λ named. named ≡ host)
   pub once : calls ≡ option_map (λ _. opened ∷ []) calls

@@ -1,24 +1,20 @@
 //! What a farm is lent by the machine that it is run on.
 
-use crate::farm::Farm;
 use byte_io::{Sink, Source};
 use devices::DialError;
 use farm_page::{FailureView, FarmView};
 use http_jobs::{CallTimes, Clock, Dial, Look};
 use page_server::PageTimes;
-use plan_model::SlotId;
 use run_command::Host;
 use service_settings::Page;
-use std::alloc::{AllocError, Global};
+use std::alloc::AllocError;
 use std::io;
 
 /// What a farm is lent by the machine that it is run on: what a run is, and connections to services, an end, and somebody who reads its
 /// lines.
 pub trait FarmHost: Host {
-    ghost use Rattle.std.specs.Prelude.{◌≡◌, ◌<◌, IfSome, string_bytes};
+    ghost use Rattle.std.specs.Prelude.{◌≡◌, IfSome, string_bytes};
     ghost use Rattle.http_jobs.specs.Serving.{IsNothing};
-    ghost use Rattle.pool_settings.specs.Slots.{slots};
-    ghost use Rattle.serve_command.specs.Farm.{LeadsTo};
 
     /// A connection to a service.
     type Call: Source + Sink + Look + Send + Drop;
@@ -33,16 +29,6 @@ pub trait FarmHost: Host {
     fn dials(&self, host: String, times: CallTimes) -> Self::Dials
         ensures host { IfSome (Self.Dials.host result) (λ named. named ≡ string_bytes host) }
         ensures unused { IsNothing (Self.Dials.calls result) };
-
-    /// What opens connections to the host of a slot's machine. None if memory is refused.
-    fn dials_of(&self, alloc: Global, farm: &Farm, slot: SlotId) -> Option<Self::Dials>
-        requires slot { slot < slots farm.now.settings }
-        ensures leads { IfSome result (λ dials. LeadsTo farm.now slot (Self.Dials.host dials)) }
-        ensures unused { IfSome result (λ dials. IsNothing (Self.Dials.calls dials)) }
-    {
-        let name = farm.host_of(alloc, slot)?;
-        Some(self.dials(name, farm.call_times()))
-    }
 
     /// A clock.
     fn times(&self) -> Self::Times;

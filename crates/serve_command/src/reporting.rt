@@ -203,8 +203,11 @@ impl<'e, H: FarmHost> Watch for Reporting<'e, H> {
         if self.host.is_to_end() {
             return false;
         }
-        let said = match self.host.dials_of(self.alloc, self.books.farm, slot) {
-            Some(mut dials) => said_of_host(does, try_dial(&mut dials)),
+        let said = match self.books.farm.host_of(self.alloc, slot) {
+            Some(name) => {
+                let mut dials = self.host.dials(name, self.books.farm.call_times());
+                said_of_host(does, try_dial(&mut dials))
+            }
             // There is no memory for its name.
             None => None,
         };
