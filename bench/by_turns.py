@@ -23,7 +23,7 @@ from farm import Gearmand, wait_until
 INPUTS = ("all", "half", "triangle", "detour", "steps")
 CALLS = 10
 # Into how many parts the jobs of a turn are cut.
-SLICES = 20
+PARTS = 20
 
 
 def plan_seconds(program, folder):
@@ -67,8 +67,11 @@ class Session:
 
 def on_processor(process):
     """Microseconds that the threads of a process had a processor, as its scheduler counts them."""
-    tasks = f"/proc/{process}/task"
-    return sum(int(open(f"{tasks}/{task}/schedstat").read().split()[0]) for task in os.listdir(tasks)) / 1e3
+    nanoseconds = 0
+    for task in os.listdir(f"/proc/{process}/task"):
+        with open(f"/proc/{process}/task/{task}/schedstat") as it:
+            nanoseconds += int(it.read().split()[0])
+    return nanoseconds / 1000
 
 
 def sessions(programs, folder, turn):
@@ -79,9 +82,9 @@ def sessions(programs, folder, turn):
         for name in programs:
             running[name] = Session(programs[name])
             ask(folder, running[name].server.port, 2000, 100, "taskset", "-c", "3")
-        for slice in range(SLICES):
-            for name in in_turn(running, turn + slice):
-                running[name].ask(folder, JOBS[1] // SLICES, 1000)
+        for part in range(PARTS):
+            for name in in_turn(running, turn + part):
+                running[name].ask(folder, JOBS[1] // PARTS, 1000)
         return {name: (it.jobs / it.seconds, it.processor / it.jobs) for name, it in running.items()}
     finally:
         for it in running.values():
