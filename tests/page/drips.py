@@ -6,22 +6,25 @@ import socket
 import threading
 import time
 
+from farm import HOST
+
 REQUEST = b"POST /drain HTTP/1.1\r\nhost: localhost\r\npoolman: drain\r\nx: "
 
 
 class Drips:
-    """So many of them at a port, each with the number of bytes that it has sent. With `again` each comes again within a second when it is cut
-    off. `lost` counts how often that was, and `cut` how often it was in mid request, and not at once."""
+    """So many of them at a port of this machine, from this address of theirs, each with the number of bytes that it has sent. With `again`
+    each comes again within a second when it is cut off. `lost` counts how often that was, and `cut` how often it was in mid request, and not
+    at once."""
 
-    def __init__(self, host, port, count, again):
-        self.host, self.port, self.count, self.again = host, port, count, again
+    def __init__(self, source, port, count, again):
+        self.source, self.port, self.count, self.again = source, port, count, again
         self.done, self.cut, self.lost = threading.Event(), 0, 0
         self.peers = {self.connect(): 0 for _ in range(count)}
         self.thread = threading.Thread(target=self.drip, daemon=True)
         self.thread.start()
 
     def connect(self):
-        peer = socket.create_connection((self.host, self.port), 60)
+        peer = socket.create_connection((HOST, self.port), 60, (self.source, 0))
         peer.setsockopt(socket.IPPROTO_TCP, socket.TCP_NODELAY, 1)
         return peer
 

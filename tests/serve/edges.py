@@ -2,12 +2,13 @@
 
 tests/serve/run calls this. A farm has two hosts that do jobs. It goes on, and serves them, though nobody takes its lines, though the names
 of 200 further hosts do not resolve, though the resolver is gone, though no descriptor is left, or there are too few from the start, though
-the job server takes a report a little at a time, though a host is gone, and though no host serves one of its jobs. What its processes write
-is in the folder.
+the job server takes a report a little at a time, though a host is gone, and though no host serves one of its jobs. Nobody from elsewhere
+ends it, or keeps this machine from its page. What its processes write is in the folder.
 """
 
 import contextlib
 import fcntl
+import http.client
 import itertools
 import os
 import re
@@ -26,7 +27,7 @@ sys.path.insert(0, f"{TOP}/tests/gearmand")
 from farm import HOST, SUBMIT_JOB, TOTALS, Client, at_once, held, request, wait_until
 
 from asking import ask_rightly
-from page import Page
+from page import PLACES, Page
 from service import POISON
 from slow_way import SlowWay
 from starting import LINE, PATIENCE, Processes, drain, ports, untimed
@@ -50,8 +51,11 @@ REPORT_MS, MOST_BYTES = 8000, 16_000_000
 # So many descriptors are too few for all workers, each of which takes two, beside the 64 that are left for the peers of the page.
 FEW = 86
 
-# What Linux calls a network interface that is up, and the request for it.
-IFF_UP, SIOCSIFFLAGS = 1, 0x8914
+# What Linux calls a network interface that is up, the request for it, and that for a further address.
+IFF_UP, SIOCSIFFLAGS, SIOCSIFADDR = 1, 0x8914, 0x8916
+
+# An address of no network. In one of its own a test calls the page from it.
+FAR = "192.0.2.1"
 
 LEFT_OUT = re.compile(r"left out (\d+) lines")
 
@@ -358,6 +362,43 @@ def raise_loopback():
         fcntl.ioctl(it, SIOCSIFFLAGS, up)
 
 
+def name_loopback(address):
+    """Gives the loopback of a new network a further address."""
+    named = struct.pack("16sHH4s8x", b"lo:1", socket.AF_INET, 0, socket.inet_aton(address))
+    with socket.socket(socket.AF_INET, socket.SOCK_DGRAM) as it:
+        fcntl.ioctl(it, SIOCSIFADDR, named)
+
+
+def peers_from_elsewhere(program, processes):
+    """A peer whose address is not the one that it calls ends no farm, and takes no place from a peer of this machine. It is left out if this
+    system does not let a test have a network of its own."""
+    if can_be_alone():
+        alone(beside_peers_from_elsewhere, program, processes)
+
+
+def beside_peers_from_elsewhere(program, processes):
+    """In a network of its own: as many peers from elsewhere as there are places, after one of this machine."""
+    raise_loopback()
+    name_loopback(FAR)
+    edge = Edge(program, processes)
+    edge.start()
+    near = http.client.HTTPConnection(HOST, edge.page.port, timeout=PATIENCE)
+    near.connect()
+    far = [socket.create_connection((HOST, edge.page.port), PATIENCE, (FAR, 0)) for _ in range(PLACES)]
+    held(far[-1].recv(1) == b"", "a peer from elsewhere is let in that finds no place")
+    near.request("GET", "/health")
+    held(near.getresponse().status == 200, "a peer of this machine is turned away")
+    near.close()
+    for peer in far:
+        peer.close()
+    elsewhere = Page(edge.page.port, PATIENCE, FAR)
+    wait_until(elsewhere.is_well, PATIENCE, "a peer from elsewhere is answered")
+    status = elsewhere.ask("POST", "/drain", poolman="drain")[0]
+    held(status == 403, f"a drain from elsewhere: {status}")
+    edge.ask(good_jobs("on", 50))
+    edge.end(50)
+
+
 def no_descriptor_is_left(program, processes):
     """For a while no descriptor is given out, and a host has closed its connections: attempts go on, each job is answered, and no host is
     told as one that is not reached. Then all is as before."""
@@ -491,6 +532,7 @@ PARTS = (
     idle_workers_end_with_their_host,
     idle_workers_see_that_their_service_closed,
     one_job_is_never_served,
+    peers_from_elsewhere,
 )
 
 

@@ -36,14 +36,14 @@ BROKEN = {
 
 
 class Page:
-    """The page at a port of the loopback."""
+    """The page at a port of the loopback, for a peer of this address, or of the one that it calls."""
 
-    def __init__(self, port, patience):
-        self.port, self.patience = port, patience
+    def __init__(self, port, patience, source=None):
+        self.port, self.patience, self.source = port, patience, source
 
     def ask(self, method, path, **headers):
         """The status, the headers and the body of a response."""
-        peer = http.client.HTTPConnection(HOST, self.port, timeout=self.patience)
+        peer = http.client.HTTPConnection(HOST, self.port, timeout=self.patience, source_address=self.source and (self.source, 0))
         try:
             peer.request(method, path, headers=headers)
             response = peer.getresponse()
