@@ -1,11 +1,13 @@
 #!/usr/bin/env python3
-"""Two programs by turns: bench/by_turns.py OLD NEW [TURNS]
+"""Two programs by turns: bench/by_turns.py OLD NEW [TURNS [plan|session]]
 
 Measures `plan` on the inputs of bench/planning and a worker's session at Debian's gearmand, OLD and NEW one after the other in each turn,
-and prints the medians and by how many per cent NEW differs. Each program goes first in every second turn. Of `plan` it is the processor
-time, added up over ten calls; of a session the jobs a second of one worker and the processor time of a job. Each program's worker has a
-server of its own, and the jobs of a turn are asked for in 20 parts, of the two by turns. The servers have two cores, the workers one, and
-the client one. Wants what bench/gearmand/measure.py wants, and four cores that do nothing else."""
+or one of the two alone. Prints the medians, and by how many per cent NEW differs: the median, the least and the greatest of what the turns
+show, each by itself, since the machine may be as fast in one turn and slow in the next. Each program goes first in every second turn. Of
+`plan` it is the processor time, added up over ten calls; of a session the jobs a second of one worker and the processor time of a job. Each
+program's worker has a server of its own, started anew in each turn, and the jobs of a turn are asked for in 20 parts, of the two by turns.
+The servers have two cores, the workers one, and the client one. Wants what bench/gearmand/measure.py wants, and four cores that do nothing
+else."""
 
 import os
 import statistics
@@ -108,27 +110,38 @@ def by_turns(turns, measure):
 
 
 def row(what, old, new, form):
-    old, new = statistics.median(old), statistics.median(new)
-    return [what, form.format(old), form.format(new), f"{100 * (new / old - 1):+.1f} %"]
+    """What the programs have, and by how much the new one differs in a turn: the median, the least and the greatest."""
+    differs = sorted(100 * (of_new / of_old - 1) for of_old, of_new in zip(old, new))
+    told = [statistics.median(differs), differs[0], differs[-1]]
+    return [what, *[form.format(statistics.median(it)) for it in (old, new)], *[f"{it:+.1f} %" for it in told]]
 
 
-def main(old, new, turns):
+def plan_rows(programs, folder, turns):
+    for kind in INPUTS:
+        subprocess.run([sys.executable, f"{HERE}/planning/generate.py", kind, f"{folder}/{kind}"], check=True)
+        found = by_turns(turns, lambda turn: plans(programs, f"{folder}/{kind}", turn))
+        yield row(f"plan, {kind}: milliseconds", found["old"], found["new"], "{:.1f}")
+
+
+def session_rows(programs, folder, turns):
+    found = by_turns(turns, lambda turn: sessions(programs, folder, turn))
+    for at, (what, form) in enumerate([("session: jobs/s", "{:,.0f}"), ("session: processor µs a job", "{:.2f}")]):
+        yield row(what, [it[at] for it in found["old"]], [it[at] for it in found["new"]], form)
+
+
+def main(old, new, turns=7, *kinds):
     programs = {"old": os.path.abspath(old), "new": os.path.abspath(new)}
     rows = []
     with tempfile.TemporaryDirectory(prefix="bench-") as folder:
         build(folder)
-        for kind in INPUTS:
-            subprocess.run([sys.executable, f"{HERE}/planning/generate.py", kind, f"{folder}/{kind}"], check=True)
-            found = by_turns(turns, lambda turn: plans(programs, f"{folder}/{kind}", turn))
-            rows.append(row(f"plan, {kind}: milliseconds", found["old"], found["new"], "{:.1f}"))
-        found = by_turns(turns, lambda turn: sessions(programs, folder, turn))
-        for at, (what, form) in enumerate([("session: jobs/s", "{:,.0f}"), ("session: processor µs a job", "{:.2f}")]):
-            rows.append(row(what, [it[at] for it in found["old"]], [it[at] for it in found["new"]], form))
-    table(["median of " + str(turns), "old", "new", "difference"], rows)
+        for kind, measured in [("plan", plan_rows), ("session", session_rows)]:
+            if kind in kinds or not kinds:
+                rows += measured(programs, folder, int(turns))
+    table([f"median of {turns}", "old", "new", "difference", "least", "greatest"], rows)
     print(f"load at the end: {os.getloadavg()[0]:.1f}")
 
 
 if __name__ == "__main__":
     if len(sys.argv) < 3:
         sys.exit(__doc__)
-    main(sys.argv[1], sys.argv[2], int(sys.argv[3]) if len(sys.argv) > 3 else 7)
+    main(*sys.argv[1:])
