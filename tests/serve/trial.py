@@ -360,10 +360,15 @@ def a_service_by_drain(program, processes):
     ends_as_service(program, processes, lambda farm, script: farm.drain())
 
 
+# The C library keeps nothing for a thread, gives back the end of its heap at once, and takes each block of a page from the system.
+KEEPS_NOTHING = ("tcache_count=0", "trim_threshold=0", "top_pad=0", "mmap_threshold=4096")
+
+
 def keep_no_freed_memory():
-    """One heap, as examples/systemd has it, and no caches of threads: these fill for hours, so that memory that is lost could not be told."""
+    """One heap, as examples/systemd has it, which keeps as little as the C library can keep of what was freed: caches of threads fill for
+    hours, and what lies free in a heap goes up and down by more than one per cent, so that memory that is lost could not be told."""
     os.environ.setdefault("MALLOC_ARENA_MAX", "1")
-    os.environ.setdefault("GLIBC_TUNABLES", "glibc.malloc.tcache_count=0")
+    os.environ.setdefault("GLIBC_TUNABLES", ":".join(f"glibc.malloc.{it}" for it in KEEPS_NOTHING))
 
 
 def main(program, folder, *words):
