@@ -23,3 +23,4 @@ pub use page::Page;
 pub use place::ServicesPlace;
 pub use service_url::ServiceUrl;
 pub use services::Services;
+pub use url_parts::has_port;

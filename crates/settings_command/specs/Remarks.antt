@@ -6,10 +6,20 @@ use Rattle.std.specs.List.{flat_map}
 use Rattle.pool_settings.specs.Names.{name_at}
 use Rattle.pool_settings.specs.Settings.{Settings}
 use Rattle.pool_settings.specs.Slots.{slots}
+use Rattle.service_settings.specs.Url.{has_port}
 use Rattle.settings_command.specs.Farm.{IsShown, hands}
 use Rattle.settings_command.specs.Meaning.{functions, machines}
+use Rattle.settings_command.specs.Place.{printable}
 use Rattle.stock_jobs.specs.Stock.{is_stock}
 use Rattle.text_pieces.specs.Lines.{ended}
+
+-- ---- a job server that is named without a port
+
+abbrev pub portless_line : List ℕ → List ℕ
+portless_line server = ended (codes "remark server " ++ server ++ codes " has no port")
+
+abbrev pub portless_remark : Settings → List ℕ
+portless_remark settings = if has_port settings.server then [] else portless_line (printable settings.server)
 
 -- ---- a machine without workers
 
@@ -120,8 +130,9 @@ jobless_remark settings = if length (jobless_names settings) == 0 then [] else j
 -- The remarks however the farm is run, by kind and then by name. The set shows that no plan meets the least numbers, if there is one.
 abbrev pub limit_remarks : Settings → Option (List ℕ) → List ℕ
 limit_remarks settings short =
-    flat_map (workerless_remark settings) (machines settings) ++ flat_map (few_remark settings) (functions settings)
-    ++ flat_map (crossed_remark settings) (functions settings) ++ short_remark settings short
+    portless_remark settings ++ flat_map (workerless_remark settings) (machines settings)
+    ++ flat_map (few_remark settings) (functions settings) ++ flat_map (crossed_remark settings) (functions settings)
+    ++ short_remark settings short
 
 -- with those on `run`
 abbrev pub run_remarks : Settings → Option (List ℕ) → List ℕ

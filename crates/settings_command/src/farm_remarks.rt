@@ -9,6 +9,7 @@ ghost use Rattle.settings_command.specs.Remarks as spec;
 use crate::farm::{farm_of, short_set};
 use crate::history::{push_cut_history, push_history};
 use crate::jobless::push_jobless;
+use crate::portless::push_portless;
 use plan_model::{FuncId, FuncSet, Input, MachineId, count_neighbours};
 use pool_settings::Settings;
 use std::alloc::{AllocError, Global};
@@ -229,15 +230,16 @@ fn push_limits(
     requires shown { IsShown settings.now short.now }
     ensures { OnOk result (string_bytes out.new ≡ string_bytes out.old ++ spec.limit_remarks settings.now short.now) }
 {
+    push_portless(out, settings)?;
     push_workerless(out, settings)?;
     push_few(out, settings, workers)?;
     push_crossed(out, settings)?;
     push_if_short(out, settings, workers, short)
 }
 
-/// What a farm of these settings cannot do, however it is run, a line each: the machines without workers, the functions that need more
-/// workers than may do them, those whose least number is above their greatest, and the functions whose least numbers no plan meets
-/// together. The only error is out of memory.
+/// What a farm of these settings cannot do, however it is run, a line each: a job server without a port, the machines without workers, the
+/// functions that need more workers than may do them, those whose least number is above their greatest, and the functions whose least
+/// numbers no plan meets together. The only error is out of memory.
 fn push_limit_remarks(out: &mut String, settings: &Settings) -> Result<(), AllocError>
     ensures { OnOk result ((text : List ℕ) × spec.AreLimitRemarks settings.now text
         × (string_bytes out.new ≡ string_bytes out.old ++ text)) }

@@ -8,6 +8,7 @@ mod history;
 mod jobless;
 mod meaning;
 mod place;
+mod portless;
 mod remarks;
 mod served;
 mod services_meaning;
