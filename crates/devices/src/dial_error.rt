@@ -2,7 +2,7 @@
 
 use std::io;
 use std::io::ErrorKind;
-use std::net::{Net, UdpSocket};
+use std::net::{Net, SocketAddr, UdpSocket};
 use thiserror::Error;
 
 /// The system's number for a process that may open no more files, and the one for a system that may not (`EMFILE` and `ENFILE`).
@@ -67,7 +67,17 @@ impl DialError {
         }
     }
 
-    /// Why a connection was not made.
+    /// Why a connection to this address was not made. The system says of an address that no way leads to the same as if no port were left,
+    /// if this machine has no address of that kind: an IPv6 address, and IPv6 is turned off. So this looks which of the two it is.
+    pub fn why_not_connected<R: Net>(net: &R, address: SocketAddr, error: &io::Error) -> DialError {
+        let why = DialError::of_connect(error);
+        if error.kind() != ErrorKind::AddrNotAvailable || leads_to(net, address) {
+            return why;
+        }
+        DialError::NoAnswer
+    }
+
+    /// Why a connection was not made, by what the system said.
     pub fn of_connect(error: &io::Error) -> DialError {
         match error.kind() {
             ErrorKind::ConnectionRefused => DialError::Refused,
@@ -82,6 +92,19 @@ impl DialError {
             _ if error.raw_os_error() == Some(NO_BUFFER) => DialError::NoPort,
             _ => DialError::Failed,
         }
+    }
+}
+
+/// Whether a way leads from this machine to the address, or that is not known. What looks is a socket for datagrams: it takes none of the
+/// ports that connections have, and nothing is sent.
+fn leads_to<R: Net>(net: &R, address: SocketAddr) -> bool {
+    let own = match address {
+        SocketAddr::V4(_) => "0.0.0.0:0",
+        SocketAddr::V6(_) => "[::]:0",
+    };
+    match UdpSocket::bind(net, own) {
+        Ok(socket) => socket.connect(address).is_ok(),
+        Err(_) => true,
     }
 }
 

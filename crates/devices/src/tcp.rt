@@ -74,7 +74,7 @@ impl TcpLink {
         for address in addresses {
             match TcpStream::connect_timeout(net, &address, patience) {
                 Ok(stream) => return TcpLink::over(stream, lull_ms),
-                Err(error) => last = DialError::of_connect(&error),
+                Err(error) => last = DialError::why_not_connected(net, address, &error),
             }
         }
         Err(last)

@@ -119,7 +119,7 @@ impl<R: Net<Stream = TcpStream> + time::Clock> TcpDial<R> {
         let share = Duration::from_millis((left / (count as u64).max(1)).max(1));
         let stream = match TcpStream::connect_timeout(&self.rt, &address, share) {
             Ok(stream) => stream,
-            Err(error) => return Err(DialError::of_connect(&error)),
+            Err(error) => return Err(DialError::why_not_connected(&self.rt, address, &error)),
         };
         match TcpLink::new(stream, self.times.read_ms) {
             Ok(link) => {
