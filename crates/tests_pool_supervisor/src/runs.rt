@@ -337,12 +337,12 @@ const FATES: &[Part] = &[
     },
 ];
 
-/// The first two workers have left and the late job has begun; then an hour passes. Then the late one has left, and its neighbours have
-/// answered; and then the one after it has retired.
-const HOUR: &[Pause] = &[
+/// The first two workers have left and the late job has begun; then the time of a job passes, to the millisecond. Then the late one has left,
+/// and its neighbours have answered; and then the one after it has retired.
+const JOB_TIME: &[Pause] = &[
     Pause {
         until: &[(Happening::Left, 2), (Happening::Begun, 4)],
-        jump_ms: 3_600_000,
+        jump_ms: 60_000,
     },
     Pause {
         until: &[(Happening::Left, 3), (Happening::Answered, 4)],
@@ -364,7 +364,7 @@ const UNTIL_LATE: &[(&[u8], Happening, u64)] = &[(b"late", Happening::Asked, 2)]
 fn workers_die_retire_and_are_late(rt: HostRuntime) -> Result<(), Fail> {
     let tally = Tally::new();
     let mut scenario = Scenario::new(THREE, 4, FATES, THREE_ALWAYS);
-    scenario.pauses = HOUR;
+    scenario.pauses = JOB_TIME;
     scenario.job_waits = UNTIL_LATE;
     let ended = scenario.run(&rt, rt.alloc(), &tally)?;
     let lines =
