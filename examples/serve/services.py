@@ -45,7 +45,12 @@ class Exchanges(http.server.BaseHTTPRequestHandler):
     wbufsize = -1
 
     def do_POST(self):
-        data = self.rfile.read(int(self.headers.get("content-length", 0)))
+        length = int(self.headers.get("content-length", 0))
+        data = self.rfile.read(length)
+        if len(data) < length:
+            # The connection ended before all came, and nobody waits for an answer: the job goes to another worker.
+            self.close_connection = True
+            return
         place, _, name = self.path.rpartition("/")
         function = urllib.parse.unquote(name)
         status, body = answer(function, data) if place == "/jobs" else (404, b"jobs go to /jobs/FUNCTION")
