@@ -95,9 +95,11 @@ impl<'e, H: FarmHost> JobSource for FarmSource<'e, H> {
         let mut jobs = ServiceJobs::new(service, dials, self.host.times(), 0);
         let opened = jobs.open();
         self.books.files.has_opened(self.host);
+        let turn = self.books.hosts.turn(self.host);
         if let Some(news) = self.books.hosts.was_dialled(self.host, machine, opened) {
             self.host.tell(news_line(self.alloc, farm, machine, news));
         }
+        drop(turn);
         if let Err(why) = opened {
             let worker = WorkerName { slot, generation };
             self.host
@@ -280,9 +282,11 @@ impl<'e, H: FarmHost> Jobs for FarmJobs<'e, H> {
         let done = self.jobs.serve(alloc, &job);
         self.books.hosts.end_use(self.host, self.machine);
         let sign = sign_of(&done, timeout_ms, farm.services.connect_ms());
+        let turn = self.books.hosts.turn(self.host);
         let news = news_of(self.host, self.books.hosts, self.machine, &job.handle, sign);
         self.host
             .tell_if(host_line(alloc, farm, self.machine, news));
+        drop(turn);
         self.books.tally.end(self.host, function, end_of(&done));
         let failure = failure_of(alloc, farm, self.worker, &job, &done);
         self.host.tell_if(line_of(alloc, &failure));

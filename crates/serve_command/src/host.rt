@@ -64,6 +64,11 @@ pub trait FarmHost: Host {
         }
     }
 
+    /// Takes a line of what the farm came to. It is not left out, however far behind whoever reads the lines is.
+    fn tell_last(&self, line: Result<String, AllocError>) {
+        self.tell(line);
+    }
+
     /// Lets peers ask for the page of the farm at its address. The error says why it cannot be opened.
     fn open_page(&self, _page: &Page, _times: PageTimes) -> io::Result<()> {
         Ok(())

@@ -155,6 +155,15 @@ impl HostEntry {
         news_of(before, None)
     }
 
+    /// After a round without a plan. What is new of it.
+    pub fn has_no_plan(&mut self) -> Option<HostNews>
+        ensures { spec.reason_of self.new.state ≡ spec.after_no_plan (spec.reason_of self.old.state) (spec.trier_of self.old.state) }
+    {
+        let before = self.state.reason();
+        self.state = self.state.after_no_plan();
+        self.news_since(before)
+    }
+
     /// After it left a job unserved. What is new of it. The job server hands out the same job again, maybe to this host: that makes one.
     pub fn has_left(&mut self, job: &Handle, attempt: u64) -> Option<HostNews>
         ensures { spec.reason_of self.new.state ≡ spec.after_left (spec.reason_of self.old.state) (spec.jobs_in self.old.left) job.now }

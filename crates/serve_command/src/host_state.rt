@@ -249,6 +249,25 @@ impl HostState {
         }
     }
 
+    /// After a round without a plan, in which no worker was given a function: so the one that tries the host has no job, and the host's
+    /// other workers may be what a plan lacks. If jobs were not served, all may start again. If they are not served now either, the next
+    /// wait is the longer one.
+    pub fn after_no_plan(self) -> HostState
+        ensures { spec.reason_of result ≡ spec.after_no_plan (spec.reason_of self) (spec.trier_of self) }
+    {
+        match self {
+            HostState::Away(
+                Absence {
+                    why: Reason::Unserved,
+                    wait,
+                    trier: Some(_),
+                    ..
+                },
+            ) => HostState::Present(Presence { wait }),
+            state => state,
+        }
+    }
+
     /// Whether this worker tries it.
     pub fn is_tried_by(self, worker: WorkerName) -> bool
         ensures { (result ≡ true) ↔ (spec.trier_of self ≡ Some worker) }

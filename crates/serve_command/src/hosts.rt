@@ -7,7 +7,7 @@ use gear_packets::Handle;
 use job_runner::Readiness;
 use plan_model::MachineId;
 use std::alloc::{AllocError, Global};
-use std::sync::{Mutex, Wait};
+use std::sync::{Mutex, MutexGuard, Wait};
 use worker_state::WorkerName;
 
 /// What is known of all hosts.
@@ -20,11 +20,12 @@ struct Table {
 }
 
 /// Which hosts of a farm are reached. A host is left alone if a dial to it failed, unless files, ports or memory were lacking here, until
-/// one succeeds; or if three different jobs, one after the other, were not served, until one is. To one that is left alone one worker comes
-/// at a time, and of those whose jobs are not served it alone asks for more.
+/// one succeeds; or if three different jobs, one after the other, were not served, until one is, or until there is no plan for so few
+/// workers. To one that is left alone one worker comes at a time, and of those whose jobs are not served it alone asks for more.
 #[derive(Drop)]
 pub struct Hosts {
     table: Mutex<Table>,
+    news: Mutex<()>,
 }
 
 impl Hosts {
@@ -36,7 +37,14 @@ impl Hosts {
         }
         Ok(Hosts {
             table: Mutex::new(Table { attempt: 1, hosts }),
+            news: Mutex::new(()),
         })
+    }
+
+    /// The turn to change how a host is, and to tell what is new of it. Whoever tells such news takes it before the change, so that the lines
+    /// of two workers come in the order of what they say.
+    pub fn turn<R: Wait>(&self, rt: &R) -> MutexGuard<'_, ()> {
+        self.news.lock(rt)
     }
 
     /// By machine, why its host is left alone, if it is. The only error is out of memory.
@@ -127,6 +135,13 @@ impl Hosts {
         if let Some(host) = held.hosts.get_mut(machine.number() as usize) {
             host.state = host.state.after_end(worker);
         }
+    }
+
+    /// A round had no plan. What is new of the host of this machine.
+    pub fn has_no_plan<R: Wait>(&self, rt: &R, machine: MachineId) -> Option<HostNews> {
+        let mut held = self.table.lock(rt);
+        let host = held.hosts.get_mut(machine.number() as usize)?;
+        host.has_no_plan()
     }
 
     /// A connection was opened to the host of this machine, or could not be. What is new of the host: nothing if there were no files or

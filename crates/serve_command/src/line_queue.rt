@@ -17,6 +17,8 @@ struct Waiting {
     lines: VecDeque<String>,
     /// How many lines were left out since the last one that was taken.
     left_out: u64,
+    /// The lines that come after all of these.
+    last: VecDeque<String>,
     /// No more lines come.
     is_closed: bool,
     /// The last one was taken.
@@ -33,7 +35,7 @@ pub enum Taken {
 }
 
 /// Lines on their way to a thread that writes them. Whoever puts one in never waits for that thread: a line that finds 4,096 before it is
-/// left out, and counted.
+/// left out, and counted, but for the last lines.
 #[derive(Drop)]
 pub struct LineQueue {
     waiting: Mutex<Waiting>,
@@ -47,6 +49,7 @@ impl LineQueue {
             waiting: Mutex::new(Waiting {
                 lines: VecDeque::new(alloc),
                 left_out: 0,
+                last: VecDeque::new(alloc),
                 is_closed: false,
                 is_done: false,
             }),
@@ -58,6 +61,15 @@ impl LineQueue {
     pub fn put<R: Wait>(&self, rt: &R, line: Result<String, AllocError>) {
         let mut held = self.waiting.lock(rt);
         if !held.put(line) {
+            held.left_out = held.left_out.saturating_add(1);
+        }
+        self.changed.notify_all();
+    }
+
+    /// Puts in one of the last lines, which comes after all others, however many wait, or counts one for which there is no memory.
+    pub fn put_last<R: Wait>(&self, rt: &R, line: Result<String, AllocError>) {
+        let mut held = self.waiting.lock(rt);
+        if !held.put_last(line) {
             held.left_out = held.left_out.saturating_add(1);
         }
         self.changed.notify_all();
@@ -91,7 +103,7 @@ impl LineQueue {
 
 impl Waiting {
     fn is_empty(&self) -> bool {
-        self.lines.is_empty() && self.left_out == 0
+        self.lines.is_empty() && self.left_out == 0 && self.last.is_empty()
     }
 
     /// Puts in a line. Whether it was put in. After lines that were left out none comes before their number was taken, so that this
@@ -105,13 +117,21 @@ impl Waiting {
         }
     }
 
+    /// Puts in one of the last lines. Whether it was put in.
+    fn put_last(&mut self, line: Result<String, AllocError>) -> bool {
+        match line {
+            Ok(line) => self.last.push_back(line).is_ok(),
+            Err(_) => false,
+        }
+    }
+
     /// What comes next.
     fn take(&mut self) -> Option<Taken> {
         if let Some(line) = self.lines.pop_front() {
             return Some(Taken::Line(line));
         }
         if self.left_out == 0 {
-            return None;
+            return self.last.pop_front().map(Taken::Line);
         }
         let left_out = self.left_out;
         self.left_out = 0;

@@ -14,7 +14,7 @@ use farm_notes::{Known, PageNotes};
 use farm_page::FarmView;
 use http_jobs::try_dial;
 use job_runner::Readiness;
-use plan_model::{Certified, SlotId};
+use plan_model::{Certified, MachineId, SlotId};
 use pool_core::{JoinError, totals_line};
 use pool_settings::Settings;
 use pool_supervisor::{Attempt, Attempted, EndedWorker, JoinedWorker, Progress, RunEnd, Watch};
@@ -215,6 +215,7 @@ impl<'e, H: FarmHost> Watch for Reporting<'e, H> {
             self.books.hosts.end_use(self.host, machine);
         }
         if let Some(dialled) = said {
+            let _turn = self.books.hosts.turn(self.host);
             let news = self.books.hosts.was_dialled(self.host, machine, dialled);
             self.host
                 .tell_if(host_line(self.alloc, self.books.farm, machine, news));
@@ -239,6 +240,17 @@ impl<'e, H: FarmHost> Progress for Reporting<'e, H> {
         }
         self.host
             .tell(attempt_told(self.alloc, made, self.host.last_failure()));
+        // What a plan lacks may be workers of a host that only one worker tries.
+        if matches!(made.attempt, Attempt::NoPlan { .. }) {
+            let farm = self.books.farm;
+            let _turn = self.books.hosts.turn(self);
+            for number in 0..farm.settings.machines() {
+                let machine = MachineId::new(number);
+                let news = self.books.hosts.has_no_plan(self, machine);
+                self.host
+                    .tell_if(host_line(self.alloc, farm, machine, news));
+            }
+        }
         if let Some(view) = self.view(made) {
             self.host.show(view);
         }
@@ -294,10 +306,10 @@ impl<'e, H: FarmHost> Progress for Reporting<'e, H> {
                     self.host.has_come_to(text);
                 }
                 for line in lines {
-                    self.host.tell(Ok(line));
+                    self.host.tell_last(Ok(line));
                 }
             }
-            Err(error) => self.host.tell(Err(error)),
+            Err(error) => self.host.tell_last(Err(error)),
         }
     }
 }

@@ -221,6 +221,10 @@ impl<
         self.edges.lines.put(&self.rt, self.stamped(line));
     }
 
+    fn tell_last(&self, line: Result<String, AllocError>) {
+        self.edges.lines.put_last(&self.rt, self.stamped(line));
+    }
+
     fn open_page(&self, page: &Page, times: PageTimes) -> io::Result<()> {
         let door = door_of(&self.rt, self.rt.alloc(), page, times)?;
         self.edges.page.open(&self.rt, door);
