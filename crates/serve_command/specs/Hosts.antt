@@ -83,8 +83,8 @@ abbrev pub has_to_look : Readiness → HostEntry → ℕ → Bool
 has_to_look Lost host attempt = true
 has_to_look Ready host attempt = is_silent host attempt
 
--- Why it is left alone after a round without a plan, by what it was before and by the worker that tries it, if there is one. In such a round
--- no worker is given a function, so that one has no job: then a host whose jobs were not served is left alone no more.
+-- Why it is left alone after a round without a plan, by what it was before and by the worker that tries it, if there is one. In such a
+-- round no worker is given a function, so that one has no job: then a host whose jobs were not served is left alone no more.
 abbrev pub after_no_plan : Option Reason → Option WorkerName → Option Reason
 after_no_plan (Some Unserved) (Some worker) = None
 after_no_plan before trier = before

@@ -41,8 +41,8 @@ impl Hosts {
         })
     }
 
-    /// The turn to change how a host is, and to tell what is new of it. Whoever tells such news takes it before the change, so that the lines
-    /// of two workers come in the order of what they say.
+    /// The turn to change how a host is, and to tell what is new of it. Whoever tells such news takes it before the change, so that the
+    /// lines of two workers come in the order of what they say.
     pub fn turn<R: Wait>(&self, rt: &R) -> MutexGuard<'_, ()> {
         self.news.lock(rt)
     }

@@ -337,8 +337,8 @@ const FATES: &[Part] = &[
     },
 ];
 
-/// The first two workers have left and the late job has begun; then the time of a job passes, to the millisecond. Then the late one has left,
-/// and its neighbours have answered; and then the one after it has retired.
+/// The first two workers have left and the late job has begun; then the time of a job passes, to the millisecond. Then the late one has
+/// left, and its neighbours have answered; and then the one after it has retired.
 const JOB_TIME: &[Pause] = &[
     Pause {
         until: &[(Happening::Left, 2), (Happening::Begun, 4)],
