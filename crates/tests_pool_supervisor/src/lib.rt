@@ -2,6 +2,8 @@
 #![tactic(auto)]
 
 #[cfg(test)]
+mod booked;
+#[cfg(test)]
 mod doubles;
 #[cfg(test)]
 mod runs;

@@ -1,0 +1,7 @@
+use Rattle.std.specs.Prelude.{⊤}
+use Rattle.pool_supervisor.specs.Tries.{all_slots}
+use Rattle.tests_pool_supervisor.proofs.booked.expect_booked.Given as goal
+
+-- the run is that of what was made
+abbrev pub ghosts-serve : goal.ghosts-serve
+ghosts-serve g a = record { board = a.made.board.id; settings = a.made.pool.settings; allows = all_slots; had_jobs = λ _. ⊤; grabs = a.grabbed.name; reports = a.reported.name; rounds = a.made.rounds }
