@@ -216,14 +216,13 @@ fn are_booked(events: &[Event], kind: EndKind) -> bool {
         && is_loss(&events[4])
 }
 
-/// The pool has the job as the server gave it, and its end as the session wrote it with these jobs.
-fn expect_booked<J: NamedJobs + Sync, C: Watch, R: Wait + Abort>(
+/// The session of a run with these jobs: how it ended, and the pool then.
+fn book<J: NamedJobs + Sync, C: Watch, R: Wait>(
     rt: &R,
     alloc: Global,
     watch: &C,
     jobs: &J,
-    kind: EndKind,
-) -> Result<(), Fail> {
+) -> Result<(SessionEnd, Pool), Fail> {
     let settings = Settings::read(alloc, ONE.as_bytes())?;
     let made = make(alloc, &settings)?;
     let lent = Lent {
@@ -232,13 +231,19 @@ fn expect_booked<J: NamedJobs + Sync, C: Watch, R: Wait + Abort>(
         watch,
         jobs: &jobs,
     };
-    let (end, pool) = serve::<Brand, &J, C, R>(
-        lent,
-        &settings,
-        made,
-        Blank::new(PARTS),
-        Blank::new(PARTS),
-    )?;
+    let (grabbed, reported) = (Blank::new(PARTS), Blank::new(PARTS));
+    serve::<Brand, &J, C, R>(lent, &settings, made, grabbed, reported)
+}
+
+/// The pool has the job as the server gave it, and its end as the session wrote it with these jobs.
+fn expect_booked<J: NamedJobs + Sync, C: Watch, R: Wait + Abort>(
+    rt: &R,
+    alloc: Global,
+    watch: &C,
+    jobs: &J,
+    kind: EndKind,
+) -> Result<(), Fail> {
+    let (end, pool) = book(rt, alloc, watch, jobs)?;
     assert_eq!(rt; (end.grabbed, end.answered, end.reported), (1, 1, 1));
     assert!(rt; are_booked(pool.history(), kind));
     Ok(())

@@ -1,6 +1,6 @@
 use Rattle.std.specs.Prelude.{⊤}
 use Rattle.pool_supervisor.specs.Tries.{all_slots}
-use Rattle.tests_pool_supervisor.proofs.booked.expect_booked.Given as goal
+use Rattle.tests_pool_supervisor.proofs.booked.book.Given as goal
 
 -- the run is that of what was made
 abbrev pub ghosts-serve : goal.ghosts-serve
