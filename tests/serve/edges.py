@@ -2,8 +2,9 @@
 
 tests/serve/run calls this. A farm has two hosts that do jobs. It goes on, and serves them, though nobody takes its lines, though the names
 of 200 further hosts do not resolve, though the resolver is gone, though no descriptor is left, or there are too few from the start, though
-the job server takes a report a little at a time, though a host is gone, and though no host serves one of its jobs. Nobody from elsewhere
-ends it, or keeps this machine from its page. What its processes write is in the folder.
+the job server takes a report a little at a time, though its input has nothing to read and does not block, though a host is gone, and though
+no host serves one of its jobs. Nobody from elsewhere ends it, or keeps this machine from its page. What its processes write is in the
+folder.
 """
 
 import contextlib
@@ -101,10 +102,10 @@ class Edge:
         with open(f"{self.processes.folder}/{name}.toml", "w") as it:
             it.write(text)
 
-    def start(self, *before, **streams):
+    def start(self, *before, options=(), **streams):
         """Starts poolman, after these words of another program, and waits until it has a plan."""
         files = [f"{self.processes.folder}/{name}.toml" for name in ("settings", "services")]
-        self.poolman = self.processes.start("poolman", *before, self.program, "serve", *files, **streams)
+        self.poolman = self.processes.start("poolman", *before, self.program, "serve", *files, *options, **streams)
         wait_until(self.is_well, PATIENCE, "the farm has a plan")
 
     def is_well(self):
@@ -473,6 +474,18 @@ def a_report_is_taken_slowly(program, processes):
     edge.end(1)
 
 
+def an_input_does_not_block(program, processes):
+    """Reads of standard input fail for as long as nothing is written to it: the farm goes on, and ends once that is closed."""
+    edge = Edge(program, processes)
+    reads, writes = os.pipe()
+    os.set_blocking(reads, False)
+    with open(reads, "rb") as reads, open(writes, "wb") as writes:
+        edge.start(options=["--until-input"], stdin=reads)
+        edge.keeps_pace_while(lambda: edge.ask(good_jobs("on", 50)))
+    status = edge.poolman.wait(PATIENCE)
+    held(status == 0, f"poolman ended with status {status}")
+
+
 def idle_workers_end_with_their_host(program, processes):
     """A host is gone while its workers wait for jobs: that is noticed, and they end, though no job comes."""
     edge = Edge(program, processes)
@@ -529,6 +542,7 @@ PARTS = (
     no_descriptor_is_left,
     too_few_descriptors_at_first,
     a_report_is_taken_slowly,
+    an_input_does_not_block,
     idle_workers_end_with_their_host,
     idle_workers_see_that_their_service_closed,
     one_job_is_never_served,

@@ -41,15 +41,22 @@ impl EndFlag {
     }
 }
 
-/// Reads this input until it ends or fails, and then raises the flag.
-pub fn end_with_input<S: Read, R: Wait>(rt: &R, input: &mut S, flag: &EndFlag) {
+/// For how many milliseconds an input that has nothing to read now is left alone.
+const NOTHING_NOW_MS: u32 = 100;
+
+/// Reads this input until it ends or fails, and then raises the flag. An input that does not block may have nothing to read now: it has not
+/// ended, and is read again a little later.
+pub fn end_with_input<S: Read, R: Wait + Clock>(rt: &R, input: &mut S, flag: &EndFlag) {
     let mut buffer = [0u8; 256];
     for _ in 0..u64::MAX {
         match input.read(&mut buffer) {
             Ok(0) => break,
             Ok(_) => {}
-            Err(error) if error.kind() == ErrorKind::Interrupted => {}
-            Err(_) => break,
+            Err(error) => match error.kind() {
+                ErrorKind::Interrupted => {}
+                ErrorKind::WouldBlock => flag.rest(rt, NOTHING_NOW_MS),
+                _ => break,
+            },
         }
     }
     flag.raise(rt);

@@ -1,4 +1,3 @@
 pub mod Farm
-pub mod Hosts
 pub mod ServiceJobs
 pub mod Serving

@@ -1,10 +1,8 @@
 //! What is kept of a farm while it runs.
 
 use crate::farm::Farm;
-use crate::file_room::FileRoom;
-use crate::hosts::Hosts;
 use crate::last_jobs::LastJobs;
-use crate::thread_room::ThreadRoom;
+use farm_hosts::{FileRoom, Hosts, ThreadRoom};
 use farm_notes::Tally;
 
 /// What is kept of a farm while it runs.

@@ -3,12 +3,10 @@
 use crate::books::Books;
 use crate::farm::Farm;
 use crate::host::FarmHost;
-use crate::host_entry::{HostNews, MachineSlot};
-use crate::host_sign::{HostSign, sign_of};
-use crate::hosts::Hosts;
 use crate::job_lines::{failure_of, line_of, told_part};
 use crate::last_jobs::AnsweredJob;
 use devices::DialError;
+use farm_hosts::{HostNews, HostSign, Hosts, MachineSlot, sign_of};
 use farm_notes::JobEnd;
 use gear_packets::{Assignment, Handle};
 use http_jobs::{Reply, ServiceJobs, dial_words};

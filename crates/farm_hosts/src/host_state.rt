@@ -1,8 +1,8 @@
 //! How a host is, and what a dial makes of it.
 
 ghost use Rattle.std.specs.Prelude.{◌≡◌, ◌↔◌, ◌≤◌, ◌<◌, ◌*◌, ◌^◌, ◌-◌, ◌+◌, IfErr, Some, min, true};
-ghost use Rattle.serve_command.specs.Hosts as spec;
-ghost use Rattle.serve_command.specs.declared.host_state.Reason.TheVariants.{Unserved};
+ghost use Rattle.farm_hosts.specs.Hosts as spec;
+ghost use Rattle.farm_hosts.specs.declared.host_state.Reason.TheVariants.{Unserved};
 
 use crate::waits::{FIRST_WAIT, LONGEST_WAIT, longer_wait};
 use devices::DialError;

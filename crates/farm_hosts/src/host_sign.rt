@@ -1,7 +1,7 @@
 //! What a job tells of the host that it was for.
 
 ghost use Rattle.std.specs.Prelude.{◌≡◌};
-ghost use Rattle.serve_command.specs.Hosts as spec;
+ghost use Rattle.farm_hosts.specs.Hosts as spec;
 
 use devices::DialError;
 use http_jobs::{NotDone, Reply, Unserved};

@@ -12,17 +12,17 @@ use Rattle.http_jobs.specs.declared.fault.Unserved.TheVariants as unserved
 use Rattle.http_jobs.specs.declared.outcome.Reply.{Reply}
 use Rattle.job_runner.specs.declared.jobs.Readiness.{Readiness}
 use Rattle.job_runner.specs.declared.jobs.Readiness.TheVariants.{Ready, Lost}
-use Rattle.serve_command.specs.declared.host_sign.HostSign.{HostSign}
-use Rattle.serve_command.specs.declared.host_sign.HostSign.TheVariants as sign
-use Rattle.serve_command.specs.declared.host_state.BeforeJob.{BeforeJob}
-use Rattle.serve_command.specs.declared.host_state.BeforeJob.TheVariants.{Ask, Dial, Look, End}
-use Rattle.serve_command.specs.declared.host_entry.HostEntry.{HostEntry}
-use Rattle.serve_command.specs.declared.host_state.HostState.{HostState}
-use Rattle.serve_command.specs.declared.host_state.HostState.TheVariants as state
-use Rattle.serve_command.specs.declared.left_jobs.LeftJobs.{LeftJobs}
-use Rattle.serve_command.specs.declared.left_jobs.LeftJobs.TheVariants as left
-use Rattle.serve_command.specs.declared.host_state.Reason.{Reason}
-use Rattle.serve_command.specs.declared.host_state.Reason.TheVariants.{Unreachable, Unserved}
+use Rattle.farm_hosts.specs.declared.host_sign.HostSign.{HostSign}
+use Rattle.farm_hosts.specs.declared.host_sign.HostSign.TheVariants as sign
+use Rattle.farm_hosts.specs.declared.host_state.BeforeJob.{BeforeJob}
+use Rattle.farm_hosts.specs.declared.host_state.BeforeJob.TheVariants.{Ask, Dial, Look, End}
+use Rattle.farm_hosts.specs.declared.host_entry.HostEntry.{HostEntry}
+use Rattle.farm_hosts.specs.declared.host_state.HostState.{HostState}
+use Rattle.farm_hosts.specs.declared.host_state.HostState.TheVariants as state
+use Rattle.farm_hosts.specs.declared.left_jobs.LeftJobs.{LeftJobs}
+use Rattle.farm_hosts.specs.declared.left_jobs.LeftJobs.TheVariants as left
+use Rattle.farm_hosts.specs.declared.host_state.Reason.{Reason}
+use Rattle.farm_hosts.specs.declared.host_state.Reason.TheVariants.{Unreachable, Unserved}
 use Rattle.worker_state.specs.declared.slot.WorkerName.{WorkerName}
 
 -- The dial failed for what this process or machine lacked, and says nothing of the host.

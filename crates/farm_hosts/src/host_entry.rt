@@ -1,7 +1,7 @@
 //! A host of a farm: how it is, and what is new of it.
 
 ghost use Rattle.std.specs.Prelude.{◌≡◌, ◌↔◌, Bool, None, Some, true};
-ghost use Rattle.serve_command.specs.Hosts as spec;
+ghost use Rattle.farm_hosts.specs.Hosts as spec;
 
 use crate::host_state::{BeforeJob, HostState, Presence, Reason};
 use crate::left_jobs::LeftJobs;

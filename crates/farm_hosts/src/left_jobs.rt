@@ -2,7 +2,7 @@
 
 ghost use Rattle.std.specs.Prelude.{◌≡◌, ◌++◌, ◌∷◌, [], IfSome, is_some, length, nat_lt};
 ghost use Rattle.std.specs.List.{list_any};
-ghost use Rattle.serve_command.specs.Hosts as spec;
+ghost use Rattle.farm_hosts.specs.Hosts as spec;
 
 use gear_packets::Handle;
 
