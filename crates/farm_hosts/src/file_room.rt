@@ -91,7 +91,7 @@ impl Known {
     }
 
     /// How many files to look for before one more worker starts. None if that is known.
-    fn to_look_for(&self) -> Option<u32> {
+    fn files_to_find(&self) -> Option<u32> {
         if self.may_start > 0 {
             return None;
         }
@@ -100,7 +100,7 @@ impl Known {
     }
 
     /// So many files were looked for, and so many are free.
-    fn were_found(&mut self, most: u32, free: u32) {
+    fn note_found(&mut self, most: u32, free: u32) {
         let Some(workers) = self.next_look else {
             return;
         };
@@ -114,15 +114,15 @@ impl Known {
         };
     }
 
-    /// Whether one more worker may start.
-    fn lets(&mut self) -> bool {
-        let lets = self.may_start > 0;
-        if !lets {
+    /// One more worker asks to start. Whether it may.
+    fn ask_to_start(&mut self) -> bool {
+        let may_start = self.may_start > 0;
+        if !may_start {
             self.starts = Starts::SomeCouldNot;
         } else if self.starts == Starts::Untried {
             self.starts = Starts::AllCould;
         }
-        lets
+        may_start
     }
 
     /// What is new after the attempt.
@@ -166,29 +166,29 @@ impl FileRoom {
     }
 
     /// How many files to look for before one more worker starts. None if what is known is enough to say whether it may.
-    pub fn to_look_for<R: Wait>(&self, rt: &R) -> Option<u32> {
-        self.known.lock(rt).to_look_for()
+    pub fn files_to_find<R: Wait>(&self, rt: &R) -> Option<u32> {
+        self.known.lock(rt).files_to_find()
     }
 
     /// So many files were looked for, and so many are free.
-    pub fn were_found<R: Wait>(&self, rt: &R, most: u32, free: u32) {
-        self.known.lock(rt).were_found(most, free);
+    pub fn note_found<R: Wait>(&self, rt: &R, most: u32, free: u32) {
+        self.known.lock(rt).note_found(most, free);
     }
 
-    /// Whether one more worker may start.
-    pub fn lets<R: Wait>(&self, rt: &R) -> bool {
-        self.known.lock(rt).lets()
+    /// One more worker asks to start. Whether it may.
+    pub fn ask_to_start<R: Wait>(&self, rt: &R) -> bool {
+        self.known.lock(rt).ask_to_start()
     }
 
     /// A worker has started, and has its link to the job server.
-    pub fn has_started<R: Wait>(&self, rt: &R) {
+    pub fn note_start<R: Wait>(&self, rt: &R) {
         let mut held = self.known.lock(rt);
         held.started = held.started.saturating_add(1);
         held.may_start = held.may_start.saturating_sub(1);
     }
 
     /// A worker has opened a connection to its service, or could not. It may come before it is told that the worker has started.
-    pub fn has_opened<R: Wait>(&self, rt: &R) {
+    pub fn note_opening<R: Wait>(&self, rt: &R) {
         let mut held = self.known.lock(rt);
         held.opened = held.opened.saturating_add(1);
     }

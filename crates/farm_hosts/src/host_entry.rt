@@ -82,7 +82,7 @@ impl HostEntry {
     }
 
     /// After a worker joined in this attempt.
-    pub fn has_joined(&mut self, attempt: u64) {
+    pub fn note_join(&mut self, attempt: u64) {
         if self.state.is_tried_in(attempt) {
             self.tries = self.tries.saturating_add(1);
         }
@@ -133,7 +133,7 @@ impl HostEntry {
     }
 
     /// After a connection was opened, or could not be. What is new of it.
-    pub fn was_dialled(&mut self, dialled: Result<(), DialError>, attempt: u64) -> Option<HostNews>
+    pub fn note_dial(&mut self, dialled: Result<(), DialError>, attempt: u64) -> Option<HostNews>
         ensures { spec.reason_of self.new.state ≡ spec.after_dial (spec.reason_of self.old.state) dialled }
     {
         let before = self.state.reason();
@@ -145,7 +145,7 @@ impl HostEntry {
     }
 
     /// After it served a job. What is new of it.
-    pub fn has_served(&mut self, attempt: u64) -> Option<HostNews>
+    pub fn note_served(&mut self, attempt: u64) -> Option<HostNews>
         ensures { spec.reason_of self.new.state ≡ None }
     {
         let before = self.state.reason();
@@ -156,7 +156,7 @@ impl HostEntry {
     }
 
     /// After a round without a plan. What is new of it.
-    pub fn has_no_plan(&mut self) -> Option<HostNews>
+    pub fn note_no_plan(&mut self) -> Option<HostNews>
         ensures { spec.reason_of self.new.state ≡ spec.after_no_plan (spec.reason_of self.old.state) (spec.trier_of self.old.state) }
     {
         let before = self.state.reason();
@@ -165,7 +165,7 @@ impl HostEntry {
     }
 
     /// After it left a job unserved. What is new of it. The job server hands out the same job again, maybe to this host: that makes one.
-    pub fn has_left(&mut self, job: &Handle, attempt: u64) -> Option<HostNews>
+    pub fn note_unserved(&mut self, job: &Handle, attempt: u64) -> Option<HostNews>
         ensures { spec.reason_of self.new.state ≡ spec.after_left (spec.reason_of self.old.state) (spec.jobs_in self.old.left) job.now }
     {
         let before = self.state.reason();

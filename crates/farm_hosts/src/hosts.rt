@@ -112,17 +112,17 @@ impl Hosts {
     }
 
     /// A worker of the machine joined. If its host is left alone, the worker tries it, and the next one waits for longer.
-    pub fn has_joined<R: Wait>(&self, rt: &R, machine: MachineId) {
+    pub fn note_join<R: Wait>(&self, rt: &R, machine: MachineId) {
         let mut held = self.table.lock(rt);
         let attempt = held.attempt;
         if let Some(host) = held.hosts.get_mut(machine.number() as usize) {
-            host.has_joined(attempt);
+            host.note_join(attempt);
         }
     }
 
     /// A worker of the machine opened a connection for its jobs. If its host is left alone since jobs were not served, this worker alone
     /// goes on there, until another starts.
-    pub fn has_started<R: Wait>(&self, rt: &R, machine: MachineId, worker: WorkerName) {
+    pub fn note_start<R: Wait>(&self, rt: &R, machine: MachineId, worker: WorkerName) {
         let mut held = self.table.lock(rt);
         if let Some(host) = held.hosts.get_mut(machine.number() as usize) {
             host.state = host.state.after_start(worker);
@@ -130,7 +130,7 @@ impl Hosts {
     }
 
     /// A worker of the machine has ended.
-    pub fn has_ended<R: Wait>(&self, rt: &R, machine: MachineId, worker: WorkerName) {
+    pub fn note_end<R: Wait>(&self, rt: &R, machine: MachineId, worker: WorkerName) {
         let mut held = self.table.lock(rt);
         if let Some(host) = held.hosts.get_mut(machine.number() as usize) {
             host.state = host.state.after_end(worker);
@@ -138,15 +138,15 @@ impl Hosts {
     }
 
     /// A round had no plan. What is new of the host of this machine.
-    pub fn has_no_plan<R: Wait>(&self, rt: &R, machine: MachineId) -> Option<HostNews> {
+    pub fn note_no_plan<R: Wait>(&self, rt: &R, machine: MachineId) -> Option<HostNews> {
         let mut held = self.table.lock(rt);
         let host = held.hosts.get_mut(machine.number() as usize)?;
-        host.has_no_plan()
+        host.note_no_plan()
     }
 
     /// A connection was opened to the host of this machine, or could not be. What is new of the host: nothing if there were no files or
     /// no memory for it here.
-    pub fn was_dialled<R: Wait>(
+    pub fn note_dial<R: Wait>(
         &self,
         rt: &R,
         machine: MachineId,
@@ -155,22 +155,27 @@ impl Hosts {
         let mut held = self.table.lock(rt);
         let attempt = held.attempt;
         let host = held.hosts.get_mut(machine.number() as usize)?;
-        host.was_dialled(dialled, attempt)
+        host.note_dial(dialled, attempt)
     }
 
     /// A job was served by the host of this machine. What is new of the host.
-    pub fn has_served<R: Wait>(&self, rt: &R, machine: MachineId) -> Option<HostNews> {
+    pub fn note_served<R: Wait>(&self, rt: &R, machine: MachineId) -> Option<HostNews> {
         let mut held = self.table.lock(rt);
         let attempt = held.attempt;
         let host = held.hosts.get_mut(machine.number() as usize)?;
-        host.has_served(attempt)
+        host.note_served(attempt)
     }
 
     /// A job was not served by the host of this machine. What is new of the host.
-    pub fn has_left<R: Wait>(&self, rt: &R, machine: MachineId, job: &Handle) -> Option<HostNews> {
+    pub fn note_unserved<R: Wait>(
+        &self,
+        rt: &R,
+        machine: MachineId,
+        job: &Handle,
+    ) -> Option<HostNews> {
         let mut held = self.table.lock(rt);
         let attempt = held.attempt;
         let host = held.hosts.get_mut(machine.number() as usize)?;
-        host.has_left(job, attempt)
+        host.note_unserved(job, attempt)
     }
 }

@@ -93,7 +93,7 @@ impl ThreadRoom {
     }
 
     /// Whether a thread for one more worker may be tried.
-    pub fn lets<R: Wait>(&self, rt: &R) -> bool {
+    pub fn allows_start<R: Wait>(&self, rt: &R) -> bool {
         let held = self.known.lock(rt);
         match held.refusal {
             None => true,
@@ -102,19 +102,19 @@ impl ThreadRoom {
     }
 
     /// A thread was started.
-    pub fn has_started<R: Wait>(&self, rt: &R) {
+    pub fn note_start<R: Wait>(&self, rt: &R) {
         self.known.lock(rt).refusal = None;
     }
 
     /// A thread was refused.
-    pub fn has_refused<R: Wait>(&self, rt: &R) {
+    pub fn note_refusal<R: Wait>(&self, rt: &R) {
         let mut held = self.known.lock(rt);
         let attempt = held.attempt;
         held.refusal = Some(refused_again(held.refusal, attempt));
     }
 
     /// A worker has ended, and so has its thread: another may be started.
-    pub fn has_ended<R: Wait>(&self, rt: &R) {
+    pub fn note_end<R: Wait>(&self, rt: &R) {
         let mut held = self.known.lock(rt);
         let attempt = held.attempt;
         if let Some(refusal) = held.refusal {

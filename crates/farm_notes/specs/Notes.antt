@@ -6,16 +6,7 @@ use Rattle.farm_page.specs.declared.view.AttemptView.{AttemptView}
 use Rattle.farm_page.specs.declared.view.Evidence.{Evidence}
 use Rattle.pool_supervisor.specs.declared.attempt.Attempt.{Attempt}
 use Rattle.pool_supervisor.specs.declared.attempt.Attempt.TheVariants as attempt
-
--- the attempt led to a round
-abbrev pub is_round : Attempt → Bool
-is_round (attempt.Backlog round backlog) = true
-is_round (attempt.Unserved round waiting) = true
-is_round (attempt.NoPlan round) = true
-is_round attempt.NoLink = false
-is_round (attempt.Status error) = false
-is_round (attempt.Refused refusal) = false
-is_round attempt.Memory = false
+use Rattle.pool_supervisor.specs.Rounds.{is_round}
 
 -- the backlog of a plan that serves all that wait
 abbrev pub backlog_of : Attempt → Option ℕ

@@ -3,6 +3,7 @@
 ghost use Rattle.std.specs.Prelude.{◌≡◌, ◌<◌, ◌++◌, [], ◌∷◌, IfOk, None, OnErr, OnOk, length};
 ghost use Rattle.farm_notes.specs.Notes as spec;
 ghost use Rattle.farm_page.specs.Kept.{last_of};
+ghost use Rattle.pool_supervisor.specs.Rounds as rounds;
 ghost use Rattle.pool_supervisor.specs.Steps.{IsMadeOf};
 
 use crate::found::Found;
@@ -51,7 +52,7 @@ pub struct PageNotes {
 
 /// Whether an attempt led to a round.
 fn is_round(attempt: &Attempt) -> bool
-    ensures { result ≡ spec.is_round attempt.now }
+    ensures { result ≡ rounds.is_round attempt.now }
 {
     matches!(
         attempt,
@@ -138,7 +139,7 @@ impl Kept {
     /// Keeps what an attempt came to. The only error is out of memory.
     fn note(&mut self, made: &Attempted<'_>) -> Result<(), AllocError>
         ensures last { self.new.last
-            ≡ spec.last_found (spec.is_round made.now.attempt.now) made.now.number self.old.found self.old.last }
+            ≡ spec.last_found (rounds.is_round made.now.attempt.now) made.now.number self.old.found self.old.last }
         ensures found { self.new.found ≡ None }
         ensures drawn { OnOk result (self.new.attempts
             ≡ last_of 600 (self.old.attempts ++ spec.attempt_view made.now.attempt.now self.old.found ∷ [])) }

@@ -16,7 +16,7 @@ mod shown;
 pub use end_flag::{EndFlag, end_with_input};
 pub use end_text::EndText;
 pub use limited::{Limit, Limited};
-pub use places::{Distance, Places, Ticket};
+pub use places::{Distance, MOST_PEERS, Places, Ticket};
 pub use service::PageService;
 pub use serving::{PEER_MS, serve_page};
 pub use shared_page::{Door, PageTimes, SharedPage};

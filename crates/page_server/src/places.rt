@@ -8,8 +8,8 @@ use std::net::{IpAddr, TcpStream};
 use std::sync::{Arc, Condvar, Mutex, Wait};
 use std::time::{Clock, Duration};
 
-/// How many peers are served at once.
-const MOST: u32 = 64;
+/// How many peers are served at once. Each takes a file.
+pub const MOST_PEERS: u32 = 64;
 
 /// How many of them may be far away.
 const MOST_FAR: u32 = 63;
@@ -62,7 +62,7 @@ impl Taken {
         ensures taken { IsTrue result → self.new.all ≡ self.old.all + 1 }
     {
         let Taken { all, far } = *self;
-        if all >= MOST {
+        if all >= MOST_PEERS {
             return false;
         }
         match distance {
@@ -183,7 +183,7 @@ impl Places {
     /// wait for the end of the farm, and room is waited for, but no longer than so many milliseconds.
     pub fn make_room<R: Wait + Clock>(&self, rt: &R, milliseconds: u32) -> bool {
         let mut held = self.held.lock(rt);
-        if held.taken.all < MOST {
+        if held.taken.all < MOST_PEERS {
             return true;
         }
         if !held.guests.cut_off_first() {
@@ -192,8 +192,8 @@ impl Places {
         let most = Duration::from_millis(milliseconds as u64);
         let (held, _) = self
             .left
-            .wait_timeout_while(rt, held, most, |held| held.taken.all >= MOST);
-        held.taken.all < MOST
+            .wait_timeout_while(rt, held, most, |held| held.taken.all >= MOST_PEERS);
+        held.taken.all < MOST_PEERS
     }
 
     /// How many are taken.
@@ -204,7 +204,7 @@ impl Places {
     }
 
     /// Waits until nobody has one, but no longer than so many milliseconds. Whether nobody has.
-    pub fn are_empty<R: Wait + Clock>(&self, rt: &R, milliseconds: u32) -> bool {
+    pub fn wait_until_empty<R: Wait + Clock>(&self, rt: &R, milliseconds: u32) -> bool {
         let held = self.held.lock(rt);
         let most = Duration::from_millis(milliseconds as u64);
         let (held, _) = self

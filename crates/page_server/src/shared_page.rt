@@ -116,6 +116,6 @@ impl SharedPage {
         drop(held);
         self.changed.notify_all();
         self.closed.raise(rt);
-        let _ = self.places.are_empty(rt, milliseconds);
+        let _ = self.places.wait_until_empty(rt, milliseconds);
     }
 }

@@ -1,4 +1,4 @@
-//! What is kept of a farm while it runs.
+//! The books of a farm.
 
 use crate::farm::Farm;
 use crate::last_jobs::LastJobs;

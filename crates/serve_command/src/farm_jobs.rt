@@ -58,7 +58,7 @@ impl<'e, H: FarmHost> JobSource for FarmSource<'e, H> {
         if self.host.last_failure().is_some() {
             return false;
         }
-        if !self.books.threads.lets(self.host) {
+        if !self.books.threads.allows_start(self.host) {
             return false;
         }
         let machine = farm.settings.machine_of(slot);
@@ -70,11 +70,11 @@ impl<'e, H: FarmHost> JobSource for FarmSource<'e, H> {
         if !self.books.hosts.may_start(self.host, own) {
             return false;
         }
-        if let Some(most) = self.books.files.to_look_for(self.host) {
+        if let Some(most) = self.books.files.files_to_find(self.host) {
             let free = self.host.free_files(most);
-            self.books.files.were_found(self.host, most, free);
+            self.books.files.note_found(self.host, most, free);
         }
-        self.books.files.lets(self.host)
+        self.books.files.ask_to_start(self.host)
     }
 
     fn jobs_of(&self, worker: WorkerName) -> Option<FarmJobs<'e, H>> {
@@ -86,15 +86,15 @@ impl<'e, H: FarmHost> JobSource for FarmSource<'e, H> {
         }
         let machine = farm.settings.machine_of(slot);
         let Some((host, service)) = farm.place_of(self.alloc, worker) else {
-            self.books.files.has_opened(self.host);
+            self.books.files.note_opening(self.host);
             return None;
         };
         let dials = self.host.dials(host, farm.call_times());
         let mut jobs = ServiceJobs::new(service, dials, self.host.times(), 0);
         let opened = jobs.open();
-        self.books.files.has_opened(self.host);
+        self.books.files.note_opening(self.host);
         let turn = self.books.hosts.turn(self.host);
-        if let Some(news) = self.books.hosts.was_dialled(self.host, machine, opened) {
+        if let Some(news) = self.books.hosts.note_dial(self.host, machine, opened) {
             self.host.tell(news_line(self.alloc, farm, machine, news));
         }
         drop(turn);
@@ -110,7 +110,7 @@ impl<'e, H: FarmHost> JobSource for FarmSource<'e, H> {
             .ok()?;
         self.books
             .hosts
-            .has_started(self.host, machine, WorkerName { slot, generation });
+            .note_start(self.host, machine, WorkerName { slot, generation });
         Some(FarmJobs {
             host: self.host,
             books: self.books,
@@ -159,9 +159,9 @@ fn news_of<R: Wait>(
     sign: HostSign,
 ) -> Option<HostNews> {
     match sign {
-        HostSign::Served => hosts.has_served(rt, machine),
-        HostSign::Unserved => hosts.has_left(rt, machine, job),
-        HostSign::Unreached(why) => hosts.was_dialled(rt, machine, Err(why)),
+        HostSign::Served => hosts.note_served(rt, machine),
+        HostSign::Unserved => hosts.note_unserved(rt, machine, job),
+        HostSign::Unreached(why) => hosts.note_dial(rt, machine, Err(why)),
         HostSign::Nothing => None,
     }
 }

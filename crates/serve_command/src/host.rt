@@ -78,5 +78,5 @@ pub trait FarmHost: Host {
     fn show(&self, _view: FarmView) {}
 
     /// The farm has ended, and came to this.
-    fn has_come_to(&self, _text: String) {}
+    fn tell_end(&self, _text: String) {}
 }

@@ -44,7 +44,7 @@ impl<'p> PageDoor<'p> {
 
     /// It was tried to open the page. The line of what is new: that the first try failed, as `nopage 127.0.0.1:4780 (WHY)`, or that a later
     /// one did not, as `page 127.0.0.1:4780`.
-    pub fn was_tried<R: Wait>(
+    pub fn note_try<R: Wait>(
         &self,
         rt: &R,
         alloc: Global,

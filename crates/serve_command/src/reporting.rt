@@ -216,7 +216,7 @@ impl<'e, H: FarmHost> Watch for Reporting<'e, H> {
         }
         if let Some(dialled) = said {
             let _turn = self.books.hosts.turn(self.host);
-            let news = self.books.hosts.was_dialled(self.host, machine, dialled);
+            let news = self.books.hosts.note_dial(self.host, machine, dialled);
             self.host
                 .tell_if(host_line(self.alloc, self.books.farm, machine, news));
         }
@@ -229,7 +229,7 @@ impl<'e, H: FarmHost> Progress for Reporting<'e, H> {
         self.note(made.attempt);
         if let Some(door) = self.shut_door() {
             let came = self.host.open_page(door.page, door.times);
-            self.host.tell_if(door.was_tried(self, self.alloc, &came));
+            self.host.tell_if(door.note_try(self, self.alloc, &came));
         }
         self.books.hosts.begin_attempt(self);
         if let Some(news) = self.books.files.begin_attempt(self) {
@@ -246,7 +246,7 @@ impl<'e, H: FarmHost> Progress for Reporting<'e, H> {
             let _turn = self.books.hosts.turn(self);
             for number in 0..farm.settings.machines() {
                 let machine = MachineId::new(number);
-                let news = self.books.hosts.has_no_plan(self, machine);
+                let news = self.books.hosts.note_no_plan(self, machine);
                 self.host
                     .tell_if(host_line(self.alloc, farm, machine, news));
             }
@@ -264,9 +264,9 @@ impl<'e, H: FarmHost> Progress for Reporting<'e, H> {
 
     fn joined(&self, joined: &JoinedWorker<'_>) {
         let machine = joined.settings.machine_of(joined.worker.slot);
-        self.books.hosts.has_joined(self, machine);
-        self.books.files.has_started(self);
-        self.books.threads.has_started(self);
+        self.books.hosts.note_join(self, machine);
+        self.books.files.note_start(self);
+        self.books.threads.note_start(self);
         self.host.tell(joined_line(self.alloc, joined));
     }
 
@@ -281,13 +281,13 @@ impl<'e, H: FarmHost> Progress for Reporting<'e, H> {
     }
 
     fn not_started(&self, _slot: SlotId) {
-        self.books.threads.has_refused(self);
+        self.books.threads.note_refusal(self);
     }
 
     fn ended(&self, ended: &EndedWorker<'_>) {
         let machine = ended.settings.machine_of(ended.worker.slot);
-        self.books.hosts.has_ended(self, machine, ended.worker);
-        self.books.threads.has_ended(self);
+        self.books.hosts.note_end(self, machine, ended.worker);
+        self.books.threads.note_end(self);
         let lost = self.take_lost(ended);
         let lost = lost_of(self.alloc, ended, &lost);
         self.host.tell_if(line_of(self.alloc, &lost));
@@ -303,7 +303,7 @@ impl<'e, H: FarmHost> Progress for Reporting<'e, H> {
         match end_lines(self.alloc, ended) {
             Ok(lines) => {
                 if let Ok(text) = text_of(self.alloc, &lines) {
-                    self.host.has_come_to(text);
+                    self.host.tell_end(text);
                 }
                 for line in lines {
                     self.host.tell_last(Ok(line));

@@ -13,7 +13,7 @@ use crate::page_door::PageDoor;
 use crate::reporting::{Outlook, Reporting};
 use farm_hosts::{FileRoom, Hosts, ThreadRoom};
 use farm_notes::Tally;
-use page_server::PageTimes;
+use page_server::{MOST_PEERS, PageTimes};
 use plan_commands::{Exit, Fault};
 use pool_supervisor::{ArenaPlanner, Lent, RunEnd, run_until_ended};
 use run_command::{Route, text_ms, write_ms};
@@ -21,9 +21,6 @@ use std::alloc::{AllocError, Global};
 
 /// For how many milliseconds more than workers may take to end a drain waits for the end of the farm.
 const DRAIN_MS: u32 = 60_000;
-
-/// How many peers a page has at once, each of which takes a file.
-const PEERS: u32 = 64;
 
 /// A farm that ended.
 #[derive(Drop)]
@@ -72,7 +69,7 @@ fn run_until_end<'x, H: FarmHost>(
     let hosts = Hosts::new(alloc, settings.machines())?;
     let tally = Tally::new(alloc, settings.functions())?;
     let last_jobs = LastJobs::new(alloc, settings.slots())?;
-    let peers = farm.services.page().map_or(0, |_| PEERS);
+    let peers = farm.services.page().map_or(0, |_| MOST_PEERS);
     let files = FileRoom::new(settings.slots(), peers);
     let threads = ThreadRoom::new();
     let books = Books {
@@ -90,7 +87,7 @@ fn run_until_end<'x, H: FarmHost>(
         .map(|page| PageDoor::new(page, page_times(farm)));
     if let Some(door) = &door {
         let came = host.open_page(door.page, door.times);
-        host.tell_if(door.was_tried(host, alloc, &came));
+        host.tell_if(door.note_try(host, alloc, &came));
     }
     let watch = Reporting::new(host, alloc, books, door);
     let lent = Lent {

@@ -239,7 +239,7 @@ impl<
         }
     }
 
-    fn has_come_to(&self, text: String) {
+    fn tell_end(&self, text: String) {
         self.edges.page.end_text.tell(&self.rt, text);
     }
 }
