@@ -9,6 +9,7 @@ ghost use Rattle.command_words.specs.Words as spec;
 use clap::Error;
 use clap::error::ErrorKind;
 use command_words::{
+    CheckSizeWords, CheckWords, PlanWords, RunWords, ServeWords, SettingsWords, SizeWords,
     check_size_words, check_words, drain_words, overview, plan_words, replay_words, run_words,
     serve_words, settings_words, size_words,
 };
@@ -108,7 +109,7 @@ fn plan_of<'a, W: AsStr>(alloc: Global, words: &'a [W]) -> Result<Command<'a>, C
     ensures usage { IfErr result (IsOfKinds (fault_of spec.plan_app (map W.text words.now))) }
 {
     match plan_words(alloc, words) {
-        Ok((settings, lost)) => Ok(Command::Plan { settings, lost }),
+        Ok(PlanWords { settings, lost }) => Ok(Command::Plan { settings, lost }),
         Err(error) => Err(refused(error)),
     }
 }
@@ -119,7 +120,13 @@ fn check_of<'a, W: AsStr>(alloc: Global, words: &'a [W]) -> Result<Command<'a>, 
     ensures usage { IfErr result (IsOfKinds (fault_of spec.check_app (map W.text words.now))) }
 {
     match check_words(alloc, words) {
-        Ok((settings, status, lost)) => Ok(Command::Check {
+        Ok(
+            CheckWords {
+                settings,
+                status,
+                lost,
+            },
+        ) => Ok(Command::Check {
             settings,
             status,
             lost,
@@ -134,7 +141,13 @@ fn size_of<'a, W: AsStr>(alloc: Global, words: &'a [W]) -> Result<Command<'a>, C
     ensures usage { IfErr result (IsOfKinds (spec.level_faults spec.size_app (map W.text words.now))) }
 {
     match size_words(alloc, words) {
-        Ok((settings, level, lost)) => Ok(Command::Size {
+        Ok(
+            SizeWords {
+                settings,
+                level,
+                lost,
+            },
+        ) => Ok(Command::Size {
             settings,
             level,
             lost,
@@ -149,7 +162,14 @@ fn check_size_of<'a, W: AsStr>(alloc: Global, words: &'a [W]) -> Result<Command<
     ensures usage { IfErr result (IsOfKinds (spec.level_faults spec.check_size_app (map W.text words.now))) }
 {
     match check_size_words(alloc, words) {
-        Ok((settings, status, level, lost)) => Ok(Command::CheckSize {
+        Ok(
+            CheckSizeWords {
+                settings,
+                status,
+                level,
+                lost,
+            },
+        ) => Ok(Command::CheckSize {
             settings,
             status,
             level,
@@ -176,7 +196,7 @@ fn settings_of<'a, W: AsStr>(alloc: Global, words: &'a [W]) -> Result<Command<'a
     ensures usage { IfErr result (IsOfKinds (fault_of spec.settings_app (map W.text words.now))) }
 {
     match settings_words(alloc, words) {
-        Ok((settings, services)) => Ok(Command::Settings { settings, services }),
+        Ok(SettingsWords { settings, services }) => Ok(Command::Settings { settings, services }),
         Err(error) => Err(refused(error)),
     }
 }
@@ -188,7 +208,7 @@ fn run_of<'a, W: AsStr>(alloc: Global, words: &'a [W]) -> Result<Command<'a>, Co
     ensures usage { IfErr result (IsOfKinds (fault_of spec.run_app (map W.text words.now))) }
 {
     match run_words(alloc, words) {
-        Ok((settings, rounds)) => Ok(Command::Run { settings, rounds }),
+        Ok(RunWords { settings, rounds }) => Ok(Command::Run { settings, rounds }),
         Err(error) => Err(refused(error)),
     }
 }
@@ -199,7 +219,13 @@ fn serve_of<'a, W: AsStr>(alloc: Global, words: &'a [W]) -> Result<Command<'a>, 
     ensures usage { IfErr result (IsOfKinds (fault_of spec.serve_app (map W.text words.now))) }
 {
     match serve_words(alloc, words) {
-        Ok((settings, services, until_input)) => Ok(Command::Serve {
+        Ok(
+            ServeWords {
+                settings,
+                services,
+                until_input,
+            },
+        ) => Ok(Command::Serve {
             settings,
             services,
             until_input,

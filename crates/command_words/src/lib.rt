@@ -3,8 +3,11 @@
 
 mod help;
 mod operands;
+mod words;
 
-pub use operands::{
-    check_size_words, check_words, drain_words, overview, plan_words, replay_words, run_words,
-    serve_words, settings_words, size_words,
+pub use operands::overview;
+pub use words::{
+    CheckSizeWords, CheckWords, PlanWords, RunWords, ServeWords, SettingsWords, SizeWords,
+    check_size_words, check_words, drain_words, plan_words, replay_words, run_words, serve_words,
+    settings_words, size_words,
 };

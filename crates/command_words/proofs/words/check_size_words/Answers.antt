@@ -7,7 +7,7 @@ use Rattle.clap.specs.Walk.{first_of}
 use Rattle.command_words.specs.Words as spec
 use Rattle.command_words.proofs.Chain.{in_first}
 use Rattle.command_words.proofs.Levels.{level_right, level_told, level_wrong}
-use Rattle.command_words.proofs.operands.check_size_words.Goals as goal
+use Rattle.command_words.proofs.words.check_size_words.Goals as goal
 
 pub returns-in_err-matches-clause-kinds : goal.returns-in_err-matches-clause-kinds
 returns-in_err-matches-clause-kinds g c =

@@ -4,7 +4,7 @@ use Rattle.clap.specs.Simple.{HasMatchesOf}
 use Rattle.clap.specs.Words.{HasKind, fault_of, is_simple_and_free}
 use Rattle.clap.specs.Walk.{first_of}
 use Rattle.command_words.specs.Words as spec
-use Rattle.command_words.proofs.operands.check_words.Goals as goal
+use Rattle.command_words.proofs.words.replay_words.Goals as goal
 
 pub returns-in_err-matches-clause-kinds : goal.returns-in_err-matches-clause-kinds
 returns-in_err-matches-clause-kinds g c =
@@ -13,11 +13,8 @@ returns-in_err-matches-clause-kinds g c =
     (subst (λ a. is_simple_and_free a ≡ true → HasKind (fault_of a (map g.W.AsStr.text c.args.words.now)) c.in_err-matches.field-0.0)
     c.in_ok-command.ensures.app c.in_err-matches.ensures.kinds refl)
 
-pub text_of-settings-requires : goal.text_of-settings-requires
-text_of-settings-requires g c = c.in_ok-command.ensures.settings c.in_ok-matches.matches c.in_ok-matches.ensures.parsed
-
-pub text_of-status-requires : goal.text_of-status-requires
-text_of-status-requires g c = c.in_ok-command.ensures.status c.in_ok-matches.matches c.in_ok-matches.ensures.parsed
+pub text_of-requires : goal.text_of-requires
+text_of-requires g c = c.in_ok-command.ensures.settings c.in_ok-matches.matches c.in_ok-matches.ensures.parsed
 
 pub returns-clause-kinds : goal.returns-clause-kinds
 returns-clause-kinds g c =
@@ -28,16 +25,4 @@ pub returns-clause-settings : goal.returns-clause-settings
 returns-clause-settings g c =
     let has = subst (λ a. HasMatchesOf a (map g.W.AsStr.text c.args.words.now) c.in_ok-matches.matches) c.in_ok-command.ensures.app c.in_ok-matches.ensures.matches in
     let rows = has refl in
-    ap (first_of spec.settings) (sym rows.0) ∙ c.text_of-settings.ensures
-
-pub returns-clause-status : goal.returns-clause-status
-returns-clause-status g c =
-    let has = subst (λ a. HasMatchesOf a (map g.W.AsStr.text c.args.words.now) c.in_ok-matches.matches) c.in_ok-command.ensures.app c.in_ok-matches.ensures.matches in
-    let rows = has refl in
-    ap (first_of spec.status) (sym rows.0) ∙ c.text_of-status.ensures
-
-pub returns-clause-lost : goal.returns-clause-lost
-returns-clause-lost g c =
-    let has = subst (λ a. HasMatchesOf a (map g.W.AsStr.text c.args.words.now) c.in_ok-matches.matches) c.in_ok-command.ensures.app c.in_ok-matches.ensures.matches in
-    let rows = has refl in
-    c.in_ok-lost.ensures ∙ ap spec.lost_in rows.0
+    ap (first_of spec.settings) (sym rows.0) ∙ c.text_of.ensures

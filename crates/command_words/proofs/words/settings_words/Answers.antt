@@ -5,7 +5,7 @@ use Rattle.clap.specs.Words.{HasKind, fault_of, found_of, is_simple_and_free}
 use Rattle.clap.specs.Walk.{first_of}
 use Rattle.command_words.specs.Words as spec
 use Rattle.command_words.proofs.Rows.{first_of_rows}
-use Rattle.command_words.proofs.operands.settings_words.Goals as goal
+use Rattle.command_words.proofs.words.settings_words.Goals as goal
 
 pub returns-in_err-matches-clause-kinds : goal.returns-in_err-matches-clause-kinds
 returns-in_err-matches-clause-kinds g c =

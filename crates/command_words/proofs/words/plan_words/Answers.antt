@@ -4,7 +4,7 @@ use Rattle.clap.specs.Simple.{HasMatchesOf}
 use Rattle.clap.specs.Words.{HasKind, fault_of, is_simple_and_free}
 use Rattle.clap.specs.Walk.{first_of}
 use Rattle.command_words.specs.Words as spec
-use Rattle.command_words.proofs.operands.plan_words.Goals as goal
+use Rattle.command_words.proofs.words.plan_words.Goals as goal
 
 pub returns-in_err-matches-clause-kinds : goal.returns-in_err-matches-clause-kinds
 returns-in_err-matches-clause-kinds g c =

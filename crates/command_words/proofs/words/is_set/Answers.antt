@@ -2,7 +2,7 @@ use Rattle.std.proofs.Common.{◌∙◌}
 use Rattle.std.specs.Str.Parse.{ParsesBool}
 use Rattle.clap.specs.Words.{found_of}
 use Rattle.command_words.proofs.Flags.{flag_given}
-use Rattle.command_words.proofs.operands.is_set.Goals as goal
+use Rattle.command_words.proofs.words.is_set.Goals as goal
 
 pub returns : goal.returns
 returns c =

@@ -3,7 +3,7 @@ use Rattle.std.proofs.lemmas.Bool.{false≢true}
 use Rattle.clap.specs.Words.{found_of}
 use Rattle.clap.proofs.CallerLemmas.{some_of_text}
 use Rattle.command_words.proofs.Rows.{first_of_rows}
-use Rattle.command_words.proofs.operands.text_of.Goals as goal
+use Rattle.command_words.proofs.words.text_of.Goals as goal
 
 pub unreachable-requires : goal.unreachable-requires
 unreachable-requires c =

@@ -3,7 +3,7 @@ use Rattle.std.proofs.lemmas.Result.{IfOk-weaker}
 use Rattle.clap.specs.Words.{found_of, rows_of}
 use Rattle.command_words.specs.Words as spec
 use Rattle.command_words.proofs.Rows.{all_of_rows}
-use Rattle.command_words.proofs.operands.lost_in.Goals as goal
+use Rattle.command_words.proofs.words.lost_in.Goals as goal
 
 pub returns-in-Some : goal.returns-in-Some
 returns-in-Some c =

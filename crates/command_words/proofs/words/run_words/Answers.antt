@@ -7,7 +7,7 @@ use Rattle.command_words.specs.Words as spec
 use Rattle.std.specs.Prelude.{Some, unwrap_or}
 use Rattle.std.specs.Str.Parse.{ParsesUnsigned, ExplainsUnsignedError, HasUnsignedDigitsIfOk}
 use Rattle.command_words.proofs.Number.{number_given}
-use Rattle.command_words.proofs.operands.run_words.Goals as goal
+use Rattle.command_words.proofs.words.run_words.Goals as goal
 
 pub returns-in_err-matches-clause-kinds : goal.returns-in_err-matches-clause-kinds
 returns-in_err-matches-clause-kinds g c =
