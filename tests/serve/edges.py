@@ -243,9 +243,9 @@ def are_late(edge, waits, failed):
 
 def nobody_takes_lines(program, processes):
     edge = Edge(program, processes)
-    # Of more lines than wait in the program, and of more than a pipe holds that takes no more and says so.
+    # Of more lines than wait in the program: the pipe lets its writer wait, or says that it has no room.
     are_late(edge, True, MOST_WAITING + 900)
-    are_late(edge, False, 300)
+    are_late(edge, False, MOST_WAITING + 900)
     pipe = Pipe(True)
     os.close(pipe.read_end)
     edge.start(stdout=pipe.write_end)

@@ -45,7 +45,7 @@ impl EndFlag {
 const NOTHING_NOW_MS: u32 = 100;
 
 /// Reads this input until it ends or fails, and then raises the flag. An input that does not block may have nothing to read now: it has not
-/// ended, and is read again a little later.
+/// ended, and is read again a little later, if the flag is not raised by then.
 pub fn end_with_input<S: Read, R: Wait + Clock>(rt: &R, input: &mut S, flag: &EndFlag) {
     let mut buffer = [0u8; 256];
     for _ in 0..u64::MAX {
@@ -54,7 +54,13 @@ pub fn end_with_input<S: Read, R: Wait + Clock>(rt: &R, input: &mut S, flag: &En
             Ok(_) => {}
             Err(error) => match error.kind() {
                 ErrorKind::Interrupted => {}
-                ErrorKind::WouldBlock => flag.rest(rt, NOTHING_NOW_MS),
+                ErrorKind::WouldBlock => {
+                    flag.rest(rt, NOTHING_NOW_MS);
+                    // Else a rest, which is over at once then, would keep a processor busy until the farm has ended.
+                    if flag.is_raised(rt) {
+                        return;
+                    }
+                }
                 _ => break,
             },
         }

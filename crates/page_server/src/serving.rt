@@ -16,6 +16,9 @@ use std::time::Clock;
 /// How long a peer is served, in milliseconds from its accept on, over all that it asks.
 pub const PEER_MS: u32 = 10_000;
 
+/// For how many milliseconds a peer is served for whom there is no thread. Nobody else is let in meanwhile.
+const HASTY_MS: u32 = 500;
+
 /// For how many milliseconds a peer that was cut off is waited for at most. All that it waited for has failed by then.
 const LEAVE_MS: u32 = 1_000;
 
@@ -38,15 +41,16 @@ struct Hall {
     keys: RandomState,
 }
 
-/// Answers a peer until it leaves, or its time is over.
+/// Answers a peer until it leaves, or so many milliseconds are over.
 fn serve_peer<R: Wait + Clock>(
     rt: &R,
     alloc: Global,
     hall: &Hall,
     stream: &TcpStream,
     ticket: Ticket,
+    milliseconds: u32,
 ) {
-    let Ok(limit) = Limit::from_now(rt, PEER_MS) else {
+    let Ok(limit) = Limit::from_now(rt, milliseconds) else {
         return;
     };
     let _ = stream.set_nodelay(true);
@@ -88,7 +92,7 @@ fn welcome<R: Threads + Wait + Clock + Copy + Send + Sync + Drop + 'static>(
 ) -> Result<(), AllocError> {
     let theirs = Arc::try_clone(hall)?;
     let begun = Builder::new().stack_size(STACK).spawn(&rt, move || {
-        serve_peer(&rt, alloc, &theirs, &stream, ticket);
+        serve_peer(&rt, alloc, &theirs, &stream, ticket, PEER_MS);
         drop(stream);
         theirs.page.places.leave(&rt, ticket);
     });
@@ -112,7 +116,8 @@ fn place_for<R: Wait + Clock>(
     places.take(rt, distance, Arc::try_clone(stream).ok()?)
 }
 
-/// Serves a peer that knocked from there, if there are a place and a thread for it. Else it is turned away at once.
+/// Serves a peer that knocked from there, if there is a place for it. Else it is turned away at once. If there is no thread for it, this
+/// serves it for a moment, so that a farm without threads can be looked at and drained.
 fn receive<R: Threads + Wait + Clock + Copy + Send + Sync + Drop + 'static>(
     rt: R,
     alloc: Global,
@@ -128,7 +133,11 @@ fn receive<R: Threads + Wait + Clock + Copy + Send + Sync + Drop + 'static>(
     let Some(ticket) = place_for(&rt, &hall.page.places, distance, &stream) else {
         return;
     };
+    let again = Arc::try_clone(&stream).ok();
     if welcome(rt, alloc, hall, stream, ticket).is_err() {
+        if let Some(stream) = again {
+            serve_peer(&rt, alloc, hall, &stream, ticket, HASTY_MS);
+        }
         hall.page.places.leave(&rt, ticket);
     }
 }

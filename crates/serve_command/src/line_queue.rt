@@ -3,13 +3,16 @@
 use crate::left_out::left_out_line;
 use std::alloc::{AllocError, Global};
 use std::collections::VecDeque;
-use std::io;
-use std::io::Write;
+use std::io::{ErrorKind, Write};
 use std::sync::{Condvar, Mutex, Wait};
 use std::time::{Clock, Duration};
+use std::{io, thread};
 
 /// How many lines wait at most. Whoever reads them may fall behind so far, and no line is left out.
 const MOST_WAITING: usize = 4_096;
+
+/// For how many milliseconds an output that has no room now is left alone.
+const NO_ROOM_MS: u64 = 10;
 
 /// The lines that wait.
 #[derive(Drop)]
@@ -139,6 +142,28 @@ impl Waiting {
     }
 }
 
+/// Writes this text, in one write if the output takes it whole. An output that does not block is waited for, as one that blocks waits.
+fn write_whole<R: Clock, W: Write>(rt: &R, output: &mut W, text: &[u8]) -> io::Result<()> {
+    let mut left = text;
+    for _ in 0..u64::MAX {
+        if left.is_empty() {
+            return Ok(());
+        }
+        match output.write(left) {
+            Ok(0) => return Err(ErrorKind::WriteZero.into()),
+            Ok(count) => left = left.get(count..).unwrap_or(&[]),
+            Err(error) => match error.kind() {
+                ErrorKind::Interrupted => {}
+                ErrorKind::WouldBlock => {
+                    thread::sleep(rt, Duration::from_millis(NO_ROOM_MS));
+                }
+                _ => return Err(error),
+            },
+        }
+    }
+    Err(ErrorKind::TimedOut.into())
+}
+
 /// Lines that were not written, and are not told yet.
 #[derive(Clone, Copy)]
 struct Untold {
@@ -162,9 +187,9 @@ impl Untold {
         self.count = self.count.saturating_add(count);
     }
 
-    /// Writes this text in one write. If it cannot be written it may be there in part.
-    fn write<W: Write>(&mut self, output: &mut W, text: &[u8]) -> io::Result<()> {
-        let written = output.write_all(text);
+    /// Writes this text. If it cannot be written it may be there in part.
+    fn write<R: Clock, W: Write>(&mut self, rt: &R, output: &mut W, text: &[u8]) -> io::Result<()> {
+        let written = write_whole(rt, output, text);
         self.may_be_cut = written.is_err();
         written
     }
@@ -175,7 +200,7 @@ impl Untold {
             return Ok(());
         }
         let line = left_out_line(rt, self.count, self.may_be_cut);
-        self.write(output, line.as_bytes())?;
+        self.write(rt, output, line.as_bytes())?;
         self.count = 0;
         Ok(())
     }
@@ -183,13 +208,13 @@ impl Untold {
     /// Writes a line after the number of those that were left out before it. If that cannot be written the line is one of them.
     fn write_line<R: Clock, W: Write>(&mut self, rt: &R, output: &mut W, line: &str) {
         let told = self.tell(rt, output);
-        if told.is_err() || self.write(output, line.as_bytes()).is_err() {
+        if told.is_err() || self.write(rt, output, line.as_bytes()).is_err() {
             self.add(1);
         }
     }
 }
 
-/// Writes each line of the queue, each in one write, and how many were left out, until the queue is closed and all lines were taken. What
+/// Writes each line of the queue, each in one write if the output takes it whole, and how many were left out, until the queue is closed and all lines were taken. What
 /// cannot be written is lost and counted. A line after it is tried once that number could be written, which takes no memory.
 pub fn write_lines<R: Wait + Clock, W: Write>(rt: &R, queue: &LineQueue, output: &mut W) {
     let mut untold = Untold::none();
