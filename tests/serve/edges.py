@@ -61,9 +61,9 @@ FAR = "192.0.2.1"
 LEFT_OUT = re.compile(r"left out (\d+) lines")
 
 
-def settings(server, others, job_timeout_ms=60_000, round_ms=ROUND_MS):
-    """The settings of a farm with these further machines, with its job server at this port."""
-    lines = ["version = 1", f'server = "{HOST}:{server}"', f"round_ms = {round_ms}", "lull_ms = 20"]
+def settings(server, others, job_timeout_ms=60_000, round_ms=ROUND_MS, host=HOST):
+    """The settings of a farm with these further machines, with its job server at this port of this host."""
+    lines = ["version = 1", f'server = "{host}:{server}"', f"round_ms = {round_ms}", "lull_ms = 20"]
     lines += [f"job_timeout_ms = {job_timeout_ms}", "[functions.upper]"]
     for name, workers in [*((name, WORKERS) for name in HOSTS), *((name, 1) for name in others)]:
         lines.append(f'[machines.{name}]\nworkers = {workers}\nfunctions = ["upper"]')
@@ -325,8 +325,8 @@ def names_do_not_resolve(program, processes):
 
 
 def while_the_resolver_is_gone(program, processes):
-    """The names of the hosts are found until all workers are there, and then no more."""
-    named = {name: f"{name}.farm" for name in HOSTS}
+    """The names of the hosts and of the job server are found until all workers are there, and then no more."""
+    named, server = {name: f"{name}.farm" for name in HOSTS}, "jobs.farm"
 
     def name(words):
         # The file is written anew in its place, since that is what is mounted.
@@ -334,9 +334,10 @@ def while_the_resolver_is_gone(program, processes):
             it.write(f"{HOST} {' '.join(words)}\n")
         return it.name
 
-    subprocess.run(["mount", "--bind", name(["localhost", *named.values()]), "/etc/hosts"], check=True)
+    subprocess.run(["mount", "--bind", name(["localhost", server, *named.values()]), "/etc/hosts"], check=True)
     with silent_resolver(processes):
         edge = Edge(program, processes, named=named)
+        edge.write("settings", settings(edge.server, (), host=server))
         edge.start()
         wait_until(edge.has_all_workers, PATIENCE, "all workers are there")
         name(["localhost"])
@@ -344,7 +345,14 @@ def while_the_resolver_is_gone(program, processes):
         edge.keeps_pace_while(lambda: time.sleep(3 * LOOKUP_S))
         edge.holds_no_good_host_unreached()
         held(not edge.causes(), f"workers of hosts that are well ended so: {edge.causes()}")
-        edge.ask(good_jobs("named", 300))
+        held(edge.is_well(), "the job server is not reached any more")
+        # New workers reach the hosts where others have reached them.
+        with contextlib.closing(Client(edge.server, PATIENCE)) as client:
+            client.socket.sendall(request(SUBMIT_JOB, b"upper", b"poison", POISON))
+            wait_until(lambda: len(edge.causes()) >= WORKERS, PATIENCE, "a job that is never served ends some workers")
+        wait_until(edge.has_all_workers, PATIENCE, "all workers are back")
+        held(set(edge.causes()) == {"Unserved"}, f"workers of hosts that are well ended so: {edge.causes()}")
+        edge.keeps_pace_while(lambda: edge.ask(good_jobs("named", 300)))
         edge.end(300)
         edge.holds_no_good_host_unreached()
 

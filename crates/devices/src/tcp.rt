@@ -10,7 +10,7 @@ use crate::writes::write_some;
 use byte_io::{Device, DeviceFault, LAST_TIMEOUT, Sink, Source, Took};
 use std::io;
 use std::io::{ErrorKind, Read};
-use std::net::{Net, TcpStream, ToSocketAddrs};
+use std::net::{Net, SocketAddr, TcpStream, ToSocketAddrs};
 use std::time::Duration;
 
 /// A TCP stream to the job server or a service, as a source and a sink with one descriptor.
@@ -65,19 +65,56 @@ impl TcpLink {
         ensures input { IfOk result (λ link. ⟦<TcpLink as Device>⟧.input link ≡ no_input) }
         ensures output { IfOk result (λ link. ⟦<TcpLink as Device>⟧.output link ≡ no_output) }
     {
-        let patience = Duration::from_millis(lull_ms as u64 * LAST_TIMEOUT as u64);
         let addresses = match server.to_socket_addrs(net) {
             Ok(addresses) => addresses,
             Err(error) => return Err(DialError::why_not_found(net, &error)),
         };
         let mut last = DialError::NoAddress;
         for address in addresses {
-            match TcpStream::connect_timeout(net, &address, patience) {
-                Ok(stream) => return TcpLink::over(stream, lull_ms),
-                Err(error) => last = DialError::why_not_connected(net, address, &error),
+            match TcpLink::dial_address(net, address, lull_ms) {
+                Ok(link) => return Ok(link),
+                Err(error) => last = error,
             }
         }
         Err(last)
+    }
+
+    /// Dials the address that took the last link, if it is known, and else `host:port` as `dial` does, and keeps the address that took the
+    /// link. So neither a name that is not found for a while nor a silent address before the right one costs each dial its time.
+    pub fn dial_again<R: Net<Stream = TcpStream>>(
+        net: &R,
+        known: &mut Option<SocketAddr>,
+        server: &str,
+        lull_ms: u32,
+    ) -> Result<TcpLink, DialError>
+        ensures input { IfOk result (λ link. ⟦<TcpLink as Device>⟧.input link ≡ no_input) }
+        ensures output { IfOk result (λ link. ⟦<TcpLink as Device>⟧.output link ≡ no_output) }
+    {
+        if let Some(address) = *known {
+            if let Ok(link) = TcpLink::dial_address(net, address, lull_ms) {
+                return Ok(link);
+            }
+        }
+        *known = None;
+        let link = TcpLink::dial(net, server, lull_ms)?;
+        *known = link.stream.peer_addr().ok();
+        Ok(link)
+    }
+
+    /// Dials this address, for 65 timeouts at most.
+    fn dial_address<R: Net<Stream = TcpStream>>(
+        net: &R,
+        address: SocketAddr,
+        lull_ms: u32,
+    ) -> Result<TcpLink, DialError>
+        ensures input { IfOk result (λ link. ⟦<TcpLink as Device>⟧.input link ≡ no_input) }
+        ensures output { IfOk result (λ link. ⟦<TcpLink as Device>⟧.output link ≡ no_output) }
+    {
+        let patience = Duration::from_millis(lull_ms as u64 * LAST_TIMEOUT as u64);
+        match TcpStream::connect_timeout(net, &address, patience) {
+            Ok(stream) => TcpLink::over(stream, lull_ms),
+            Err(error) => Err(DialError::why_not_connected(net, address, &error)),
+        }
     }
 
     /// Lets each write from now on take so many milliseconds, and no longer. The error is the system's, or that zero is no time: then the

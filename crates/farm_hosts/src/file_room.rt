@@ -2,6 +2,7 @@
 
 ghost use Rattle.std.specs.Prelude.{◌+◌, ◌*◌, ◌<◌, ◌≤◌};
 
+use crate::waits::{Lack, lacking_again};
 use std::sync::{Mutex, Wait};
 
 /// How many files a worker takes: one for its link to the job server, and one for the connection to its service.
@@ -67,6 +68,10 @@ enum Starts {
 /// What is known of the files in this attempt.
 #[derive(Drop)]
 struct Known {
+    /// The number of the attempt that is made now, from 1.
+    attempt: u64,
+    /// The lack of files at the last look, if a worker could not start after it.
+    lack: Option<Lack>,
     /// How many peers the page may have at once.
     peers: u32,
     /// How many workers have started.
@@ -90,9 +95,17 @@ impl Known {
         u32::try_from(opening).unwrap_or(u32::MAX)
     }
 
-    /// How many files to look for before one more worker starts. None if that is known.
+    /// Whether files may be looked for in this attempt. A look takes all that are free for a moment, and what is dialled just then gets none.
+    fn may_look(&self) -> bool {
+        match self.lack {
+            None => true,
+            Some(lack) => lack.is_due(self.attempt),
+        }
+    }
+
+    /// How many files to look for before one more worker starts. None if that is known, or if it is not time for a look.
     fn files_to_find(&self) -> Option<u32> {
-        if self.may_start > 0 {
+        if self.may_start > 0 || !self.may_look() {
             return None;
         }
         let workers = self.next_look?;
@@ -134,8 +147,21 @@ impl Known {
         }
     }
 
+    /// The lack of files after this attempt. One without a look says nothing new of it.
+    fn lack_after(&self) -> Option<Lack> {
+        match self.starts {
+            Starts::AllCould => None,
+            Starts::SomeCouldNot if self.may_look() => {
+                Some(lacking_again(self.lack, self.attempt))
+            }
+            Starts::SomeCouldNot | Starts::Untried => self.lack,
+        }
+    }
+
     /// The next attempt begins.
     fn begin_attempt(&mut self) {
+        self.lack = self.lack_after();
+        self.attempt = self.attempt.saturating_add(1);
         self.may_start = 0;
         self.next_look = Some(FIRST_LOOK);
         self.starts = Starts::Untried;
@@ -143,7 +169,8 @@ impl Known {
 }
 
 /// Whether there are files for more workers. What is free is looked up by opening as many and closing them again, for several workers at
-/// once, so that this takes each of them little.
+/// once, so that this takes each of them little. While files lack they are looked for after 1, 2, 4 .. attempts, and 64 at most, and once a
+/// worker has ended.
 #[derive(Drop)]
 pub struct FileRoom {
     known: Mutex<Known>,
@@ -154,6 +181,8 @@ impl FileRoom {
     pub fn new(workers: u32, peers: u32) -> FileRoom {
         FileRoom {
             known: Mutex::new(Known {
+                attempt: 1,
+                lack: None,
                 peers,
                 started: 0,
                 opened: 0,
@@ -191,6 +220,15 @@ impl FileRoom {
     pub fn note_opening<R: Wait>(&self, rt: &R) {
         let mut held = self.known.lock(rt);
         held.opened = held.opened.saturating_add(1);
+    }
+
+    /// A worker has ended, and its files are free.
+    pub fn note_end<R: Wait>(&self, rt: &R) {
+        let mut held = self.known.lock(rt);
+        let attempt = held.attempt;
+        if let Some(lack) = held.lack {
+            held.lack = Some(lack.due_now(attempt));
+        }
     }
 
     /// The attempt is over, and the next begins. What is new of the files after it.

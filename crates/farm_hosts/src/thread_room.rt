@@ -1,9 +1,6 @@
 //! Whether threads can be started for more workers.
 
-ghost use Rattle.std.specs.Prelude.{◌≡◌, ◌+◌, ◌*◌, ◌^◌, ◌-◌, min};
-ghost use Rattle.std.specs.Option.{option_map_or};
-
-use crate::waits::{FIRST_WAIT, longer_wait};
+use crate::waits::{Lack, lacking_again};
 use std::sync::{Mutex, Wait};
 
 /// What is new of the threads.
@@ -25,40 +22,15 @@ impl ThreadNews {
     }
 }
 
-/// A thread was refused, and none was started since.
-#[derive(Clone, Copy, Debug, PartialEq, Eq)]
-struct Refusal {
-    /// How many attempts pass from the refusal to the next try.
-    wait: u64,
-    /// The attempt of the next try.
-    due: u64,
-}
-
 /// What is known of the threads.
 #[derive(Drop)]
 struct Known {
     /// The number of the attempt that is made now, from 1.
     attempt: u64,
     /// The last refusal, if no thread was started since.
-    refusal: Option<Refusal>,
+    refusal: Option<Lack>,
     /// Whether it was reported that threads are lacking.
     are_lacking: bool,
-}
-
-/// The refusal after one more, in this attempt. Each try uses up a worker of its slot, which can have only so many: so the waits grow as
-/// 1, 2, 4 .. attempts, and 64 at most.
-fn refused_again(before: Option<Refusal>, attempt: u64) -> Refusal
-    ensures wait { result.wait ≡ option_map_or (λ r. min (r.wait * 2) 64) before 1 }
-    ensures due { result.due ≡ min (attempt + result.wait) (2 ^ 64 - 1) }
-{
-    let wait = match before {
-        None => FIRST_WAIT,
-        Some(refusal) => longer_wait(refusal.wait),
-    };
-    Refusal {
-        wait,
-        due: attempt.saturating_add(wait),
-    }
 }
 
 impl Known {
@@ -72,7 +44,7 @@ impl Known {
     }
 }
 
-/// Whether threads can be started for more workers. That is only seen by starting one. After a refusal none is tried for the rest of that
+/// Whether threads can be started for more workers. That is only seen by starting one, which uses up a worker of its slot. After a refusal none is tried for the rest of that
 /// attempt, and then for as many attempts as twice the wait before, until one is started. A worker that ends leaves its thread: then one is
 /// tried at once.
 #[derive(Drop)]
@@ -97,7 +69,7 @@ impl ThreadRoom {
         let held = self.known.lock(rt);
         match held.refusal {
             None => true,
-            Some(refusal) => refusal.due <= held.attempt,
+            Some(refusal) => refusal.is_due(held.attempt),
         }
     }
 
@@ -110,7 +82,7 @@ impl ThreadRoom {
     pub fn note_refusal<R: Wait>(&self, rt: &R) {
         let mut held = self.known.lock(rt);
         let attempt = held.attempt;
-        held.refusal = Some(refused_again(held.refusal, attempt));
+        held.refusal = Some(lacking_again(held.refusal, attempt));
     }
 
     /// A worker has ended, and so has its thread: another may be started.
@@ -118,10 +90,7 @@ impl ThreadRoom {
         let mut held = self.known.lock(rt);
         let attempt = held.attempt;
         if let Some(refusal) = held.refusal {
-            held.refusal = Some(Refusal {
-                due: attempt,
-                ..refusal
-            });
+            held.refusal = Some(refusal.due_now(attempt));
         }
     }
 

@@ -4,12 +4,14 @@ ghost use Rattle.job_runner.specs.Run.{seen_link};
 ghost use Rattle.http_jobs.specs.Serving.{IsNew};
 
 use crate::clock::Clock;
+use crate::last_address::LastAddress;
 use crate::look::Look;
 use crate::service_jobs::Dial;
 use byte_io::Device;
 use devices::{DialError, TcpLink};
 use std::net::{Net, SocketAddr, TcpStream, ToSocketAddrs};
 use std::snapshot::Snapshot;
+use std::sync::{Arc, Wait};
 use std::time;
 use std::time::Duration;
 
@@ -70,9 +72,11 @@ pub struct TcpDial<R> {
     times: CallTimes,
     /// The address that took the last connection.
     known: Option<SocketAddr>,
+    /// The address that took anybody's last connection to this host, if others dial it.
+    shared: Option<Arc<LastAddress>>,
 }
 
-impl<R: Net<Stream = TcpStream> + time::Clock> TcpDial<R> {
+impl<R: Net<Stream = TcpStream> + time::Clock + Wait> TcpDial<R> {
     /// What opens connections to this host, `NAME:PORT` or `ADDRESS:PORT`. A name is looked up, for as long as the system takes, at the
     /// first dial, and again once the address that took the last connection takes none.
     pub fn new(rt: R, host: String, times: CallTimes) -> TcpDial<R>
@@ -83,6 +87,37 @@ impl<R: Net<Stream = TcpStream> + time::Clock> TcpDial<R> {
             host,
             times,
             known: None,
+            shared: None,
+        }
+    }
+
+    /// The same, beside others that dial the host. If its name is not found, the address is dialled that took anybody's last connection:
+    /// while the resolver is down a host that is well is reached.
+    pub fn beside(self, shared: Arc<LastAddress>) -> TcpDial<R>
+        ensures host { result.host ≡ self.host }
+    {
+        TcpDial {
+            shared: Some(shared),
+            ..self
+        }
+    }
+
+    /// The address that took somebody else's last connection, if the one that took the own is another.
+    fn other_address(&self) -> Option<SocketAddr> {
+        let address = self.shared.as_ref()?.get(&self.rt)?;
+        if Some(address) == self.known {
+            return None;
+        }
+        Some(address)
+    }
+
+    /// Keeps an address that took a connection.
+    fn keep(&mut self, address: SocketAddr)
+        ensures host { self.new.host ≡ self.old.host }
+    {
+        self.known = Some(address);
+        if let Some(shared) = &self.shared {
+            shared.set(&self.rt, address);
         }
     }
 
@@ -123,10 +158,29 @@ impl<R: Net<Stream = TcpStream> + time::Clock> TcpDial<R> {
         };
         match TcpLink::new(stream, self.times.read_ms) {
             Ok(link) => {
-                self.known = Some(address);
+                self.keep(address);
                 Ok(link)
             }
             Err(error) => Err(DialError::of_connect(&error)),
+        }
+    }
+
+    /// A connection to the address that took somebody else's last one, if the host's name was not found. Else the error is this one.
+    fn dial_other(
+        &mut self,
+        why: DialError,
+        left: u64,
+        deadline: Option<u64>,
+    ) -> Result<TcpLink, DialError>
+        ensures fresh { IfOk result (λ link. IsNew (seen_link ⟦<TcpLink as Device>⟧.input ⟦<TcpLink as Device>⟧.output link)) }
+        ensures host { self.new.host ≡ self.old.host }
+    {
+        match (why, self.other_address()) {
+            (DialError::NoAddress, Some(address)) => {
+                let end = self.end_of_dial(left, deadline);
+                self.dial_address(address, end, 1)
+            }
+            _ => Err(why),
         }
     }
 
@@ -138,7 +192,10 @@ impl<R: Net<Stream = TcpStream> + time::Clock> TcpDial<R> {
     {
         let addresses = match self.host.as_str().to_socket_addrs(&self.rt) {
             Ok(addresses) => addresses,
-            Err(error) => return Err(DialError::why_not_found(&self.rt, &error)),
+            Err(error) => {
+                let why = DialError::why_not_found(&self.rt, &error);
+                return self.dial_other(why, left, deadline);
+            }
         };
         let end = self.end_of_dial(left, deadline);
         let mut count = addresses.len();
@@ -155,9 +212,10 @@ impl<R: Net<Stream = TcpStream> + time::Clock> TcpDial<R> {
 }
 
 /// The address that took the last connection is tried first, for half of the time. If there is none, or it takes no connection, the name is
-/// looked up, and each of its addresses is tried in turn, for its share of the time that is left, until one accepts. The error is
-/// `NoAnswer` if the time is up, else why the last address was not reached, or why its stream could not be used.
-impl<R: Net<Stream = TcpStream> + time::Clock> Dial<TcpLink> for TcpDial<R> {
+/// looked up, and each of its addresses is tried in turn, for its share of the time that is left, until one accepts. If it is not found, the
+/// address is tried that took somebody else's last connection. The error is `NoAnswer` if the time is up, else why the last address was not
+/// reached, or why its stream could not be used.
+impl<R: Net<Stream = TcpStream> + time::Clock + Wait> Dial<TcpLink> for TcpDial<R> {
     ghost use Rattle.std.specs.Prelude.{◌≡◌, None, Some, string_bytes};
 
     ghost calls = { λ _. None };

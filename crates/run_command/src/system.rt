@@ -8,7 +8,7 @@ use plan_model::FuncId;
 use pool_settings::Settings;
 use pool_supervisor::{Attempted, EndedWorker, Progress, RunEnd, Watch};
 use std::alloc::{AllocError, Global};
-use std::net::{Net, TcpStream};
+use std::net::{Net, SocketAddr, TcpStream};
 use std::rt::{Clock, Env};
 use std::sync::{Mutex, Wait};
 use std::thread::Threads;
@@ -35,6 +35,8 @@ pub struct System<R> {
     is_watched: bool,
     /// Why the last dial failed, if it did.
     unreached: Mutex<Option<DialError>>,
+    /// The address of the job server that took the last link, if one did.
+    known: Mutex<Option<SocketAddr>>,
 }
 
 impl<R: Env + Alloc> System<R> {
@@ -48,6 +50,7 @@ impl<R: Env + Alloc> System<R> {
             rt,
             is_watched,
             unreached: Mutex::new(None),
+            known: Mutex::new(None),
         }
     }
 }
@@ -137,7 +140,11 @@ impl<R: Threads + Wait + Clock + Eprint + Alloc<A = Global> + Net<Stream = TcpSt
     type Link = TcpLink;
 
     fn reach(&self, server: &str, lull_ms: u32) -> Option<TcpLink> {
-        match TcpLink::dial(&self.rt, server, lull_ms) {
+        // A run has one server.
+        let mut known = *self.known.lock(&self.rt);
+        let dialled = TcpLink::dial_again(&self.rt, &mut known, server, lull_ms);
+        *self.known.lock(&self.rt) = known;
+        match dialled {
             Ok(link) => {
                 self.keep(None);
                 Some(link)

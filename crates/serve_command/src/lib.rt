@@ -1,6 +1,7 @@
 //! The command `serve` as a call over the texts of settings and services and a host: a farm, whose hosts do its jobs.
 #![tactic(auto)]
 
+mod addresses;
 mod books;
 mod farm;
 mod farm_jobs;

@@ -288,6 +288,7 @@ impl<'e, H: FarmHost> Progress for Reporting<'e, H> {
         let machine = ended.settings.machine_of(ended.worker.slot);
         self.books.hosts.note_end(self, machine, ended.worker);
         self.books.threads.note_end(self);
+        self.books.files.note_end(self);
         let lost = self.take_lost(ended);
         let lost = lost_of(self.alloc, ended, &lost);
         self.host.tell_if(line_of(self.alloc, &lost));

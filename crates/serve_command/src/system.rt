@@ -1,5 +1,6 @@
 //! The system as the host of a farm.
 
+use crate::addresses::Addresses;
 use crate::host::FarmHost;
 use crate::line_queue::LineQueue;
 use devices::{DialError, TcpLink};
@@ -70,15 +71,17 @@ pub struct FarmSystem<'m, R> {
     rt: R,
     run: System<R>,
     edges: &'m Edges,
+    addresses: Addresses,
 }
 
-impl<'m, R: Env + Alloc + Copy> FarmSystem<'m, R> {
+impl<'m, R: Env + Alloc<A = Global> + Copy> FarmSystem<'m, R> {
     /// The system, with these edges.
     pub fn new(rt: R, edges: &'m Edges) -> FarmSystem<'m, R> {
         FarmSystem {
             rt,
             run: System::new(rt),
             edges,
+            addresses: Addresses::new(rt.alloc()),
         }
     }
 }
@@ -186,7 +189,12 @@ impl<
     type Times = SystemClock<R>;
 
     fn dials(&self, host: String, times: CallTimes) -> TcpDial<R> {
-        TcpDial::new(self.rt, host, times)
+        let last = self.addresses.of(&self.rt, self.rt.alloc(), host.as_str());
+        let dials = TcpDial::new(self.rt, host, times);
+        match last {
+            Ok(last) => dials.beside(last),
+            Err(_) => dials,
+        }
     }
 
     fn times(&self) -> SystemClock<R> {

@@ -1,0 +1,29 @@
+//! Where a host was reached last.
+
+use std::net::SocketAddr;
+use std::sync::{Mutex, Wait};
+
+/// The address that took the last connection to a host, for all that dial it.
+#[derive(Drop)]
+pub struct LastAddress {
+    address: Mutex<Option<SocketAddr>>,
+}
+
+impl LastAddress {
+    /// That of a host to which no connection was opened yet.
+    pub fn new() -> LastAddress {
+        LastAddress {
+            address: Mutex::new(None),
+        }
+    }
+
+    /// The address, if one took a connection.
+    pub fn get<R: Wait>(&self, rt: &R) -> Option<SocketAddr> {
+        *self.address.lock(rt)
+    }
+
+    /// This address took a connection.
+    pub fn set<R: Wait>(&self, rt: &R, address: SocketAddr) {
+        *self.address.lock(rt) = Some(address);
+    }
+}
