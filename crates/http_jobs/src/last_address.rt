@@ -22,8 +22,11 @@ impl LastAddress {
         *self.address.lock(rt)
     }
 
-    /// This address took a connection.
-    pub fn set<R: Wait>(&self, rt: &R, address: SocketAddr) {
-        *self.address.lock(rt) = Some(address);
+    /// This address took a connection. It does not wait: if somebody else is at it just now, it stays as it is, or becomes another that took
+    /// one.
+    pub fn set(&self, address: SocketAddr) {
+        if let Some(mut held) = self.address.try_lock() {
+            *held = Some(address);
+        }
     }
 }

@@ -72,11 +72,13 @@ pub struct TcpDial<R> {
     times: CallTimes,
     /// The address that took the last connection.
     known: Option<SocketAddr>,
-    /// The address that took anybody's last connection to this host, if others dial it.
+    /// Where others that dial the host find the address that took the last connection.
     shared: Option<Arc<LastAddress>>,
+    /// The address that took the last connection of another before this dialled.
+    other: Option<SocketAddr>,
 }
 
-impl<R: Net<Stream = TcpStream> + time::Clock + Wait> TcpDial<R> {
+impl<R: Net<Stream = TcpStream> + time::Clock> TcpDial<R> {
     /// What opens connections to this host, `NAME:PORT` or `ADDRESS:PORT`. A name is looked up, for as long as the system takes, at the
     /// first dial, and again once the address that took the last connection takes none.
     pub fn new(rt: R, host: String, times: CallTimes) -> TcpDial<R>
@@ -88,27 +90,20 @@ impl<R: Net<Stream = TcpStream> + time::Clock + Wait> TcpDial<R> {
             times,
             known: None,
             shared: None,
+            other: None,
         }
     }
 
-    /// The same, beside others that dial the host. If its name is not found, the address is dialled that took anybody's last connection:
-    /// while the resolver is down a host that is well is reached.
-    pub fn beside(self, shared: Arc<LastAddress>) -> TcpDial<R>
-        ensures host { result.host ≡ self.host }
+    /// The same, beside others that dial the host. If its name is not found, the address is dialled that took the last connection of one of
+    /// them: while the resolver is down a host that is well is reached.
+    pub fn beside<W: Wait>(self, rt: &W, shared: Arc<LastAddress>) -> TcpDial<R>
+        ensures host { ⟦<TcpDial<R> as Dial<TcpLink>>⟧.host result ≡ ⟦<TcpDial<R> as Dial<TcpLink>>⟧.host self }
     {
         TcpDial {
+            other: shared.get(rt),
             shared: Some(shared),
             ..self
         }
-    }
-
-    /// The address that took somebody else's last connection, if the one that took the own is another.
-    fn other_address(&self) -> Option<SocketAddr> {
-        let address = self.shared.as_ref()?.get(&self.rt)?;
-        if Some(address) == self.known {
-            return None;
-        }
-        Some(address)
     }
 
     /// Keeps an address that took a connection.
@@ -117,7 +112,7 @@ impl<R: Net<Stream = TcpStream> + time::Clock + Wait> TcpDial<R> {
     {
         self.known = Some(address);
         if let Some(shared) = &self.shared {
-            shared.set(&self.rt, address);
+            shared.set(address);
         }
     }
 
@@ -165,7 +160,7 @@ impl<R: Net<Stream = TcpStream> + time::Clock + Wait> TcpDial<R> {
         }
     }
 
-    /// A connection to the address that took somebody else's last one, if the host's name was not found. Else the error is this one.
+    /// A connection to the address that took the last one of another, if the host's name was not found. Else the error is this one.
     fn dial_other(
         &mut self,
         why: DialError,
@@ -175,7 +170,7 @@ impl<R: Net<Stream = TcpStream> + time::Clock + Wait> TcpDial<R> {
         ensures fresh { IfOk result (λ link. IsNew (seen_link ⟦<TcpLink as Device>⟧.input ⟦<TcpLink as Device>⟧.output link)) }
         ensures host { self.new.host ≡ self.old.host }
     {
-        match (why, self.other_address()) {
+        match (why, self.other) {
             (DialError::NoAddress, Some(address)) => {
                 let end = self.end_of_dial(left, deadline);
                 self.dial_address(address, end, 1)
@@ -213,9 +208,9 @@ impl<R: Net<Stream = TcpStream> + time::Clock + Wait> TcpDial<R> {
 
 /// The address that took the last connection is tried first, for half of the time. If there is none, or it takes no connection, the name is
 /// looked up, and each of its addresses is tried in turn, for its share of the time that is left, until one accepts. If it is not found, the
-/// address is tried that took somebody else's last connection. The error is `NoAnswer` if the time is up, else why the last address was not
+/// address is tried that took the last connection of another. The error is `NoAnswer` if the time is up, else why the last address was not
 /// reached, or why its stream could not be used.
-impl<R: Net<Stream = TcpStream> + time::Clock + Wait> Dial<TcpLink> for TcpDial<R> {
+impl<R: Net<Stream = TcpStream> + time::Clock> Dial<TcpLink> for TcpDial<R> {
     ghost use Rattle.std.specs.Prelude.{◌≡◌, None, Some, string_bytes};
 
     ghost calls = { λ _. None };

@@ -192,7 +192,7 @@ impl<
         let last = self.addresses.of(&self.rt, self.rt.alloc(), host.as_str());
         let dials = TcpDial::new(self.rt, host, times);
         match last {
-            Ok(last) => dials.beside(last),
+            Ok(last) => dials.beside(&self.rt, last),
             Err(_) => dials,
         }
     }
