@@ -196,7 +196,8 @@ pub fn check_size_words<'a, W: AsStr>(
     alloc: Global,
     words: &'a [W],
 ) -> Result<CheckSizeWords<'a>, Error>
-    ensures settings { IfOk result (λ m. first_of spec.settings (matches_of spec.check_size_app (map W.text words.now)) ≡ Some m.settings.now) }
+    ensures settings { IfOk result
+        (λ m. first_of spec.settings (matches_of spec.check_size_app (map W.text words.now)) ≡ Some m.settings.now) }
     ensures status { IfOk result (λ m. first_of spec.status (matches_of spec.check_size_app (map W.text words.now)) ≡ Some m.status.now) }
     ensures level { IfOk result
         (λ m. spec.level_in (matches_of spec.check_size_app (map W.text words.now)) ≡ Some (option_map non_zero_u32_get m.level)) }
@@ -235,7 +236,8 @@ pub fn settings_words<'a, W: AsStr>(
     alloc: Global,
     words: &'a [W],
 ) -> Result<SettingsWords<'a>, Error>
-    ensures settings { IfOk result (λ m. first_of spec.settings (matches_of spec.settings_app (map W.text words.now)) ≡ Some m.settings.now) }
+    ensures settings { IfOk result
+        (λ m. first_of spec.settings (matches_of spec.settings_app (map W.text words.now)) ≡ Some m.settings.now) }
     ensures services { IfOk result
         (λ m. first_of spec.services (matches_of spec.settings_app (map W.text words.now)) ≡ option_map (λ t. t.now) m.services) }
     ensures kinds { FailsBy (fault_of spec.settings_app (map W.text words.now)) result }
@@ -260,7 +262,8 @@ fn is_set(matches: &ArgMatches<'_>, name: &str) -> bool
 pub fn serve_words<'a, W: AsStr>(alloc: Global, words: &'a [W]) -> Result<ServeWords<'a>, Error>
     ensures settings { IfOk result (λ m. first_of spec.settings (matches_of spec.serve_app (map W.text words.now)) ≡ Some m.settings.now) }
     ensures services { IfOk result (λ m. first_of spec.services (matches_of spec.serve_app (map W.text words.now)) ≡ Some m.services.now) }
-    ensures until_input { IfOk result (λ m. spec.is_set spec.until_input (matches_of spec.serve_app (map W.text words.now)) ≡ m.until_input) }
+    ensures until_input { IfOk result
+        (λ m. spec.is_set spec.until_input (matches_of spec.serve_app (map W.text words.now)) ≡ m.until_input) }
     ensures kinds { FailsBy (fault_of spec.serve_app (map W.text words.now)) result }
 {
     let command = serve(alloc)?;

@@ -44,9 +44,9 @@ impl Known {
     }
 }
 
-/// Whether threads can be started for more workers. That is only seen by starting one, which uses up a worker of its slot. After a refusal none is tried for the rest of that
-/// attempt, and then for as many attempts as twice the wait before, until one is started. A worker that ends leaves its thread: then one is
-/// tried at once.
+/// Whether threads can be started for more workers. That is only seen by starting one, which uses up a worker of its slot. After a refusal
+/// none is tried for the rest of that attempt, and then for as many attempts as twice the wait before, until one is started. A worker that
+/// ends leaves its thread: then one is tried at once.
 #[derive(Drop)]
 pub struct ThreadRoom {
     known: Mutex<Known>,

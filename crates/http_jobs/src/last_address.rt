@@ -22,8 +22,7 @@ impl LastAddress {
         *self.address.lock(rt)
     }
 
-    /// This address took a connection. It does not wait: if somebody else is at it just now, it stays as it is, or becomes another that took
-    /// one.
+    /// This address took a connection. It does not wait: if somebody else reads or sets it just now, it is not set.
     pub fn set(&self, address: SocketAddr) {
         if let Some(mut held) = self.address.try_lock() {
             *held = Some(address);

@@ -207,9 +207,9 @@ impl<R: Net<Stream = TcpStream> + time::Clock> TcpDial<R> {
 }
 
 /// The address that took the last connection is tried first, for half of the time. If there is none, or it takes no connection, the name is
-/// looked up, and each of its addresses is tried in turn, for its share of the time that is left, until one accepts. If it is not found, the
-/// address is tried that took the last connection of another. The error is `NoAnswer` if the time is up, else why the last address was not
-/// reached, or why its stream could not be used.
+/// looked up, and each of its addresses is tried in turn, for its share of the time that is left, until one accepts. If the name is not
+/// found, the address is tried that took the last connection of another. The error is `NoAnswer` if the time is up, else why the last
+/// address was not reached, or why its stream could not be used.
 impl<R: Net<Stream = TcpStream> + time::Clock> Dial<TcpLink> for TcpDial<R> {
     ghost use Rattle.std.specs.Prelude.{◌≡◌, None, Some, string_bytes};
 
