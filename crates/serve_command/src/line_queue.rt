@@ -215,8 +215,8 @@ impl Untold {
 }
 
 /// Writes each line of the queue, each in one write if the output takes it whole, and how many were left out, until the queue is closed and
-/// all lines were taken. What cannot be written is lost and counted. A line after it is tried once that number could be written, which takes
-/// no memory.
+/// all lines were taken. What cannot be written is lost and counted. A line after it is tried once that number could be written, which
+/// takes no memory.
 pub fn write_lines<R: Wait + Clock, W: Write>(rt: &R, queue: &LineQueue, output: &mut W) {
     let mut untold = Untold::none();
     for _ in rt.forever() {
