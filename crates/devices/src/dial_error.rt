@@ -41,6 +41,14 @@ pub enum DialError {
 }
 
 impl DialError {
+    /// Whether an address was found and dialled in vain, and not for want of files, ports or memory here.
+    pub fn is_of_address(self) -> bool {
+        matches!(
+            self,
+            DialError::Refused | DialError::NoAnswer | DialError::Failed
+        )
+    }
+
     /// Why a name was not found. Where no more files may be open the resolver says no more than that it found nothing, so this looks
     /// whether a socket can be opened at all.
     pub fn why_not_found<R: Net>(net: &R, error: &io::Error) -> DialError {

@@ -79,8 +79,9 @@ impl TcpLink {
         Err(last)
     }
 
-    /// Dials the address that took the last link, if it is known, and else `host:port` as `dial` does, and keeps the address that took the
-    /// link. So neither a name that is not found for a while nor a silent address before the right one costs each dial its time.
+    /// Dials the address that took the last link, if one is known. If it takes none, dials `host:port` as `dial` does, and keeps the
+    /// address that took the link. So neither a name that is not found for a while nor a silent address before the right one costs each
+    /// dial its time. The address is forgotten only if the name was found and none of its addresses took a link.
     pub fn dial_again<R: Net<Stream = TcpStream>>(
         net: &R,
         known: &mut Option<SocketAddr>,
@@ -95,10 +96,18 @@ impl TcpLink {
                 return Ok(link);
             }
         }
-        *known = None;
-        let link = TcpLink::dial(net, server, lull_ms)?;
-        *known = link.stream.peer_addr().ok();
-        Ok(link)
+        match TcpLink::dial(net, server, lull_ms) {
+            Ok(link) => {
+                *known = link.stream.peer_addr().ok();
+                Ok(link)
+            }
+            Err(error) => {
+                if error.is_of_address() {
+                    *known = None;
+                }
+                Err(error)
+            }
+        }
     }
 
     /// Dials this address, for 65 timeouts at most.

@@ -95,7 +95,7 @@ impl Known {
         u32::try_from(opening).unwrap_or(u32::MAX)
     }
 
-    /// Whether files may be looked for in this attempt. A look takes all that are free for a moment, and what dials just then gets none.
+    /// Whether files may be looked for in this attempt. While they lack a look takes all that are free, and what dials just then gets none.
     fn may_look(&self) -> bool {
         match self.lack {
             None => true,

@@ -1,6 +1,6 @@
 //! How the waits between tries grow.
 
-ghost use Rattle.std.specs.Prelude.{◌≡◌, ◌+◌, ◌*◌, ◌^◌, ◌-◌, min};
+ghost use Rattle.std.specs.Prelude.{◌≡◌, ◌+◌, ◌*◌, ◌^◌, ◌-◌, min, nat_le};
 ghost use Rattle.std.specs.Option.{option_map_or};
 
 /// How many attempts pass before the first try.
@@ -27,12 +27,17 @@ pub struct Lack {
 
 impl Lack {
     /// Whether it is time for the next try.
-    pub fn is_due(self, attempt: u64) -> bool {
+    pub fn is_due(self, attempt: u64) -> bool
+        ensures { result ≡ nat_le self.due attempt }
+    {
         self.due <= attempt
     }
 
     /// The same, but the next try is in this attempt.
-    pub fn due_now(self, attempt: u64) -> Lack {
+    pub fn due_now(self, attempt: u64) -> Lack
+        ensures due { result.due ≡ attempt }
+        ensures wait { result.wait ≡ self.wait }
+    {
         Lack {
             due: attempt,
             ..self

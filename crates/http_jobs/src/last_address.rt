@@ -22,6 +22,11 @@ impl LastAddress {
         *self.address.lock(rt)
     }
 
+    /// The same without a wait. None too if somebody else reads or sets it just now.
+    pub fn try_get(&self) -> Option<SocketAddr> {
+        *self.address.try_lock()?
+    }
+
     /// This address took a connection. It does not wait: if somebody else reads or sets it just now, it is not set.
     pub fn set(&self, address: SocketAddr) {
         if let Some(mut held) = self.address.try_lock() {

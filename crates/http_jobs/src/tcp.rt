@@ -106,6 +106,12 @@ impl<R: Net<Stream = TcpStream> + time::Clock> TcpDial<R> {
         }
     }
 
+    /// The address that took the last connection of another, as far as it is known.
+    fn other_address(&self) -> Option<SocketAddr> {
+        let shared = self.shared.as_ref()?;
+        shared.try_get().or(self.other)
+    }
+
     /// Keeps an address that took a connection.
     fn keep(&mut self, address: SocketAddr)
         ensures host { self.new.host ≡ self.old.host }
@@ -170,7 +176,7 @@ impl<R: Net<Stream = TcpStream> + time::Clock> TcpDial<R> {
         ensures fresh { IfOk result (λ link. IsNew (seen_link ⟦<TcpLink as Device>⟧.input ⟦<TcpLink as Device>⟧.output link)) }
         ensures host { self.new.host ≡ self.old.host }
     {
-        match (why, self.other) {
+        match (why, self.other_address()) {
             (DialError::NoAddress, Some(address)) => {
                 let end = self.end_of_dial(left, deadline);
                 self.dial_address(address, end, 1)

@@ -52,17 +52,15 @@ pub fn end_with_input<S: Read, R: Wait + Clock>(rt: &R, input: &mut S, flag: &En
         match input.read(&mut buffer) {
             Ok(0) => break,
             Ok(_) => {}
-            Err(error) => match error.kind() {
-                ErrorKind::Interrupted => {}
-                ErrorKind::WouldBlock => {
-                    flag.rest(rt, NOTHING_NOW_MS);
-                    // Else a rest, which is over at once then, would keep a processor busy until the farm has ended.
-                    if flag.is_raised(rt) {
-                        return;
-                    }
+            Err(error) if error.kind() == ErrorKind::Interrupted => {}
+            Err(error) if error.kind() == ErrorKind::WouldBlock => {
+                flag.rest(rt, NOTHING_NOW_MS);
+                // Else a rest, which is over at once then, would keep a processor busy until the farm has ended.
+                if flag.is_raised(rt) {
+                    return;
                 }
-                _ => break,
-            },
+            }
+            Err(_) => break,
         }
     }
     flag.raise(rt);

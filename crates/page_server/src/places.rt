@@ -134,7 +134,8 @@ impl Held {
 }
 
 /// Places for 64 peers, of which 63 may be far away. A near peer that finds none is given that of the peer that came first, unless all wait
-/// for the end of the farm: so neither peers from elsewhere nor slow ones of this machine ever keep out one from this machine.
+/// for the end of the farm: so neither peers from elsewhere nor slow ones of this machine keep out one from this machine, while threads can
+/// be started.
 #[derive(Drop)]
 pub struct Places {
     held: Mutex<Held>,

@@ -16,7 +16,7 @@ use std::time::Clock;
 /// How long a peer is served, in milliseconds from its accept on, over all that it asks.
 pub const PEER_MS: u32 = 10_000;
 
-/// For how many milliseconds a peer is served for whom there is no thread. Nobody else is let in meanwhile.
+/// For how many milliseconds a peer is served for whom there is no thread, unless it drains the farm. Nobody else is let in meanwhile.
 const HASTY_MS: u32 = 500;
 
 /// For how many milliseconds a peer that was cut off is waited for at most. All that it waited for has failed by then.
@@ -117,7 +117,7 @@ fn place_for<R: Wait + Clock>(
 }
 
 /// Serves a peer that knocked from there, if there is a place for it. Else it is turned away at once. If there is no thread for it, this
-/// serves it for a moment, so that a farm without threads can be looked at and drained.
+/// serves it for a moment, or until the farm has ended if it asks for that: so a farm without threads can be looked at and drained.
 fn receive<R: Threads + Wait + Clock + Copy + Send + Sync + Drop + 'static>(
     rt: R,
     alloc: Global,

@@ -30,6 +30,9 @@ pub trait Host: Threads + Wait + Watch + Progress + Sync {
     fn reach(&self, server: &str, lull_ms: u32) -> Option<Self::Link>
         ensures fresh { IfSome result (λ link. IsNew (seen_link Self.Link.input Self.Link.output link)) }
         ensures reached { IfSome result (reaches self.now server.now lull_ms) };
+
+    /// The server took the last link, and gave no status. It may be elsewhere by now, so its name is looked up for the next link.
+    fn doubt(&self) {}
 }
 
 /// How many milliseconds one write to the job server may take at most: 65 timeouts of a read.

@@ -6,7 +6,7 @@ use devices::{DialError, TcpLink};
 use jiff::Timestamp;
 use plan_model::FuncId;
 use pool_settings::Settings;
-use pool_supervisor::{Attempted, EndedWorker, Progress, RunEnd, Watch};
+use pool_supervisor::{Attempt, Attempted, EndedWorker, Progress, RunEnd, Watch};
 use std::alloc::{AllocError, Global};
 use std::net::{Net, SocketAddr, TcpStream};
 use std::rt::{Clock, Env};
@@ -22,6 +22,11 @@ const WATCH: &str = "POOLMAN_WATCH";
 pub fn time_in_seconds<R: Clock>(rt: &R) -> Option<Timestamp> {
     let now = Timestamp::now(rt).ok()?;
     Timestamp::from_second(now.as_second()).ok()
+}
+
+/// Whether the job server gave no status in this attempt.
+pub fn gave_no_status(attempt: &Attempt) -> bool {
+    matches!(attempt, Attempt::NoLink | Attempt::Status(_))
 }
 
 /// The system as the host of a run: its threads, TCP, its monotonic clock, and its standard error.
@@ -59,6 +64,11 @@ impl<R: Wait> System<R> {
     /// Why the last dial of the job server failed, if it did.
     pub fn last_failure(&self) -> Option<DialError> {
         *self.unreached.lock(&self.rt)
+    }
+
+    /// Forgets where the job server was.
+    fn forget(&self) {
+        *self.known.lock(&self.rt) = None;
     }
 
     /// Keeps what became of a dial.
@@ -117,6 +127,9 @@ impl<R: Wait + Clock + Eprint + Alloc<A = Global>> Progress for System<R> {
     }
 
     fn attempted(&self, made: &Attempted<'_>) {
+        if gave_no_status(made.attempt) && self.last_failure().is_none() {
+            self.forget();
+        }
         if self.is_watched {
             self.write_line(attempt_note(self.rt.alloc(), made, self.last_failure()));
         }
@@ -154,5 +167,9 @@ impl<R: Threads + Wait + Clock + Eprint + Alloc<A = Global> + Net<Stream = TcpSt
                 None
             }
         }
+    }
+
+    fn doubt(&self) {
+        self.forget();
     }
 }

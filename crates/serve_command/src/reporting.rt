@@ -19,7 +19,7 @@ use pool_core::{JoinError, totals_line};
 use pool_settings::Settings;
 use pool_supervisor::{Attempt, Attempted, EndedWorker, JoinedWorker, Progress, RunEnd, Watch};
 use refusal::Labelled;
-use run_command::{attempt_told, end_notes};
+use run_command::{attempt_told, end_notes, gave_no_status};
 use std::alloc::{AllocError, Global};
 use std::sync::{Mutex, Wait};
 use std::thread::Threads;
@@ -183,9 +183,9 @@ impl<'e, H: FarmHost> Watch for Reporting<'e, H> {
     /// A worker whose host was not reached dials it again, beside the connection that it keeps: that may look open though its host is gone,
     /// and then the next job would be done in vain. So does a worker that is told that its connection was closed, and one of the workers of
     /// a host that has no job and was not heard of for some attempts, since else each of them could take a job before it learns that the
-    /// host is gone. Such a worker goes on if the host's name was not found: a resolver that is down ends no worker of a host that is well.
-    /// If the farm has to end, a worker that would dial just ends. So do all workers but one of a host that takes connections and serves no
-    /// job: one by one they would take jobs from others, and give them back.
+    /// host is gone. Such a worker goes on if the host's name was not found and no address is known that took a connection: a resolver that
+    /// is down ends no worker of a host that is well. If the farm has to end, a worker that would dial just ends. So do all workers but one
+    /// of a host that takes connections and serves no job: one by one they would take jobs from others, and give them back.
     fn may_go_on(&self, worker: WorkerName, readiness: Readiness) -> bool {
         let slot = worker.slot;
         let Some(machine) = self.books.farm.machine_of(slot) else {
@@ -227,6 +227,9 @@ impl<'e, H: FarmHost> Watch for Reporting<'e, H> {
 impl<'e, H: FarmHost> Progress for Reporting<'e, H> {
     fn attempted(&self, made: &Attempted<'_>) {
         self.note(made.attempt);
+        if gave_no_status(made.attempt) && self.host.last_failure().is_none() {
+            self.host.doubt();
+        }
         if let Some(door) = self.shut_door() {
             let came = self.host.open_page(door.page, door.times);
             self.host.tell_if(door.note_try(self, self.alloc, &came));

@@ -168,6 +168,10 @@ impl<
     fn reach(&self, server: &str, lull_ms: u32) -> Option<TcpLink> {
         self.run.reach(server, lull_ms)
     }
+
+    fn doubt(&self) {
+        self.run.doubt();
+    }
 }
 
 impl<
