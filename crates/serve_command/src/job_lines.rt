@@ -48,7 +48,8 @@ pub fn told_part(alloc: Global, name: Vec<u8>) -> Vec<u8> {
     if name.len() <= LONGEST_NAME {
         return name;
     }
-    Vec::from_slice(alloc, &name[..LONGEST_NAME]).unwrap_or_else(|_| Vec::new(alloc))
+    let told = name.len().min(LONGEST_NAME);
+    Vec::from_slice(alloc, &name[..told]).unwrap_or_else(|_| Vec::new(alloc))
 }
 
 /// How a job failed: with the beginning of the first warning, if its service gave one.
