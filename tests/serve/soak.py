@@ -2,14 +2,15 @@
 """The farm of trial.py for an hour: soak.py PROGRAM FOLDER [MINUTES]
 
 Four clients ask for 200 jobs a second together, whose answers have to be right. Each two minutes a healthy host is killed and started again
-after ten seconds, and has to get jobs. The page is read each five seconds. Each time a line of FOLDER/samples has the seconds since the
-start, the attempts, the jobs that were answered, and what poolman holds: threads, descriptors, KiB of memory, and those that are its own,
-and not pages of a file, of which the system takes some back when it is short of memory.
+after ten seconds, and has to get jobs. Each five seconds a line of FOLDER/samples has the seconds since the start, the attempts, the jobs
+that were answered, and what poolman holds: threads, descriptors, KiB of memory, and those that are its own, and not pages of a file, of
+which the system takes some back when it is short of memory. Then the page is read.
 
-Prints the median and the greatest of what was held in the third and the last quarter. In the last the median of the descriptors may be more
-by one, since jobs and peers come and go, and that of its own memory by one per cent of all its memory: some 40 KiB. In a quarter of an hour
-a descriptor that each killed host left would be seven, and a byte that each job left 175 KiB. The greatest decide nothing: of four quarters
-that are alike the last has it each fourth time. After 600 attempts the page keeps no more of them.
+Prints the least, the median and the greatest of what was held in the third and the last quarter. In the last the median of the descriptors
+may be more by one, since jobs and peers come and go, and that of its own memory by one per cent of all its memory: some 40 KiB. In a
+quarter of an hour a descriptor that each killed host left would be seven, and a byte that each job left 175 KiB. The least and the greatest
+decide nothing: the least is of a moment with few jobs, and of four quarters that are alike the last has the greatest each fourth time. What
+the page keeps of attempts has its last size after 1,024 of them, so below 40 minutes the rule is too strict.
 """
 
 import os
@@ -81,14 +82,14 @@ class Soak:
         wait_until(lambda: os.path.getsize(log) > before, 5 * PATIENCE, f"{name} does jobs again")
 
     def sample(self):
-        """Reads the page, and writes a line."""
-        attempts = self.farm.page.attempts()
-        self.farm.page.text("/")
+        """Writes a line, and reads the page. A peer that reads it has a thread, so what is held is read first."""
         process = f"/proc/{self.farm.poolman.pid}"
         with open(f"{process}/status") as it:
             status = dict(line.split(":", 1) for line in it.read().splitlines())
         threads, all_kib, own_kib = (int(status[name].split()[0]) for name in ("Threads", "VmRSS", "RssAnon"))
         descriptors = len(os.listdir(f"{process}/fd"))
+        attempts = self.farm.page.attempts()
+        self.farm.page.text("/")
         sample = (int(self.passed()), attempts, self.answered, threads, descriptors, all_kib, own_kib)
         self.samples.append(sample)
         with open(f"{self.folder}/samples", "a") as it:
@@ -112,14 +113,14 @@ class Soak:
         """Compares the last two quarters."""
         third, last = self.quarter(2), self.quarter(3)
         for name, some in ("third", third), ("last", last):
-            print(f"{name} quarter: " + ", ".join(f"{what} {middle:.0f} at most {most}" for what, (middle, most) in some.items()))
-        held(last["descriptors"][0] <= third["descriptors"][0] + 1, "there are more descriptors")
-        held(last["own KiB"][0] - third["own KiB"][0] <= 0.01 * third["KiB"][0], "there is more memory")
+            print(f"{name} quarter: " + ", ".join(f"{what} {low} {mid:.0f} {high}" for what, (low, mid, high) in some.items()))
+        held(last["descriptors"][1] <= third["descriptors"][1] + 1, "there are more descriptors")
+        held(last["own KiB"][1] - third["own KiB"][1] <= 0.01 * third["KiB"][1], "there is more memory")
 
     def quarter(self, number):
-        """The median and the greatest of what poolman held in a quarter of the time."""
+        """The least, the median and the greatest of what poolman held in a quarter of the time."""
         some = [it for it in self.samples if it[0] * 4 // self.seconds == number]
-        return {name: (statistics.median(column), max(column)) for name, column in zip(HELD, list(zip(*some))[3:])}
+        return {name: (min(column), statistics.median(column), max(column)) for name, column in zip(HELD, list(zip(*some))[3:])}
 
 
 def main(program, folder, minutes="60"):
