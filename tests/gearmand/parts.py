@@ -348,11 +348,13 @@ def terminated(program):
 KEEPALIVE = {"LD_PRELOAD": "libkeepalive.so.0", "KEEPIDLE": "1", "KEEPINTVL": "1", "KEEPCNT": "2"}
 
 
-def lose_the_server(server):
-    """The server's machine goes without a word and comes back: its sockets are destroyed while the loopback carries nothing."""
+def lose_the_server(server, dark):
+    """The server's machine goes without a word and comes back after so many seconds: its sockets are destroyed while the loopback carries
+    nothing."""
     subprocess.run(["ip", "link", "set", "lo", "down"], check=True)
     server.kill()
     subprocess.run(["ss", "-tnK", "state", "fin-wait-1"], check=True, stdout=subprocess.DEVNULL)
+    time.sleep(dark)
     subprocess.run(["ip", "link", "set", "lo", "up"], check=True)
     server.start()
 
@@ -363,13 +365,16 @@ def half_open(program):
     subprocess.run(["ip", "link", "set", "lo", "up"], check=True)
     for environment in ({}, KEEPALIVE):
         server = Gearmand()
-        pool = Pool(program, settings(server.port, 4, round_ms=200), 60, environment=environment)
+        pool = Pool(program, settings(server.port, 4, round_ms=200), 100, environment=environment)
         wait_until(lambda: sum(row[3] for row in server.status()) == 4, 20, "four workers")
         # By now what they wrote was taken, and they sleep.
         time.sleep(1.5)
-        lose_the_server(server)
+        # With keepalive it is away until TCP has given the links up. A machine that is back before answers that it knows none.
+        lose_the_server(server, 6 if environment else 0)
         if environment:
             wait_until(lambda: sum(row[3] for row in server.status()) == 4, 10, "four workers again")
+            ends = [line for line in pool.watched() if line.startswith("ended ")]
+            held(len(ends) == 4 and all(" ReadFault " in line for line in ends), f"how workers ended whose link TCP gave up: {ends}")
             ask_rightly(server.port, mixed_jobs(30, 14))
         else:
             time.sleep(4)

@@ -17,11 +17,10 @@ abbrev pub waited : TimeLimit → Meaning
 waited time.Set = meaning.Timeout
 waited time.Unset = meaning.Fault
 
--- A signal's interruption is a timeout. That a call had to wait is one if there is a time limit.
+-- A signal's interruption is a timeout. That a call would have to wait is one if there is a time limit. That TCP gave up is none.
 abbrev pub meaning_of : ErrorKind → TimeLimit → Meaning
 meaning_of kind.Interrupted limit = meaning.Timeout
 meaning_of kind.WouldBlock limit = waited limit
-meaning_of kind.TimedOut limit = waited limit
 meaning_of kind.OutOfMemory limit = meaning.OutOfMemory
 meaning_of _ limit = meaning.Fault
 

@@ -26,15 +26,16 @@ pub enum Meaning {
     Fault,
 }
 
-/// What an error of this kind says. A call that a signal interrupted has timed out. That the call would have to wait, or waited for
-/// too long, is a timeout if the stream has a time limit. Without one it is a fault: nothing waits for such a stream, so a caller that
-/// waited out its timeouts would only read it 64 times in a row.
+/// What an error of this kind says. A call that a signal interrupted has timed out. That the call would have to wait is a timeout if the
+/// stream has a time limit, since Linux says so of a read that waited so long. Without one it is a fault: nothing waits for such a stream,
+/// so a caller that waited out its timeouts would only read it 64 times in a row. `TimedOut` is always a fault: TCP gave up the connection,
+/// whose other side did not answer, and says so once.
 pub fn meaning_of(kind: ErrorKind, limit: TimeLimit) -> Meaning
     ensures meaning { result ≡ spec.meaning_of kind limit }
 {
     match kind {
         ErrorKind::Interrupted => Meaning::Timeout,
-        ErrorKind::WouldBlock | ErrorKind::TimedOut => match limit {
+        ErrorKind::WouldBlock => match limit {
             TimeLimit::Set => Meaning::Timeout,
             TimeLimit::Unset => Meaning::Fault,
         },
