@@ -1,6 +1,7 @@
 -- The orders that are published.
-use Rattle.std.specs.Prelude.{◌≡◌, ◌⊎◌, ℕ, nat_lt, List, [], ◌∷◌, ◌++◌, length, if◌then◌else◌, is_some}
+use Rattle.std.specs.Prelude.{◌≡◌, ◌⊎◌, ℕ, nat_lt, List, [], ◌∷◌, ◌++◌, ◌≤◌, length, if◌then◌else◌, is_some}
 use Rattle.worker_state.specs.OrderParts.{OrderParts}
+use Rattle.worker_state.specs.Limits.{max_generation}
 use Rattle.worker_state.specs.Slots.{is_live}
 use Rattle.worker_state.specs.declared.order.What.TheVariants.{Stop}
 use Rattle.order_board.specs.declared.view.Post.{Post}
@@ -25,9 +26,13 @@ stop_order state slot = if nat_lt slot (length state.slots) then record (order_a
 abbrev pub ArePosted : (ℕ → List OrderParts) → List Post → List Post → Type 0
 ArePosted orders before now = (slot : ℕ) → posts_of slot now ≡ posts_of slot before ++ orders slot
 
--- What a reader that has seen these posts of its slot is told: the last of them, or that one as Stop.
+-- What a reader that has seen these posts of its slot is told: the last of them, or Stop.
 abbrev pub IsRead : List OrderParts → OrderParts → Type 0
-IsRead seen order = (order ≡ latest seen) ⊎ (order ≡ record (latest seen) { what = Stop })
+IsRead seen order = (order ≡ latest seen) ⊎ (order.what ≡ Stop)
+
+-- Stop, to the worker of this generation, if an order can name it.
+abbrev pub IsStopFor : ℕ → OrderParts → Type 0
+IsStopFor generation order = (order.what ≡ Stop) × (generation ≤ max_generation → order.generation ≡ generation)
 
 -- A seat that had seen the first of these posts of its slot was told these orders, one after the other, and has seen the last of these
 -- posts now: at each order it had seen as many as before or more, and was told of them.

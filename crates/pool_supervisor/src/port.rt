@@ -1,10 +1,10 @@
 //! A session's way to the shared pool.
-ghost use Rattle.std.specs.Prelude.{◌≡◌, ◌+◌};
+ghost use Rattle.std.specs.Prelude.{◌≡◌, ◌⊎◌, ◌+◌};
 ghost use Rattle.job_runner.specs.Book.{no_calls, after_order};
-ghost use Rattle.order_board.specs.Posts.{BeginsWith};
+ghost use Rattle.order_board.specs.Posts.{BeginsWith, latest};
 ghost use Rattle.pool_supervisor.specs.JobCounts.{answered};
 ghost use Rattle.pool_supervisor.specs.PortCalls.{book_of, grab_refusal_of};
-ghost use Rattle.pool_supervisor.specs.Published.{AreSeen, IsRead};
+ghost use Rattle.pool_supervisor.specs.Published.{AreSeen, IsStopFor};
 
 use crate::calls::{Call, Calls, note};
 use crate::job_counts::JobCounts;
@@ -17,7 +17,7 @@ use pool_core::{GrabError, Pass, StayOrRetire};
 use std::snapshot::Snapshot;
 use std::sync::Wait;
 use std::sync::ledger::Share;
-use worker_state::{Cause, EndKind, Order, Ticket, What, WorkerName};
+use worker_state::{Cause, EndKind, MAX_GENERATION, Order, Ticket, What, WorkerName};
 
 /// What tells the time, and lets it pass.
 pub trait Watch {
@@ -41,9 +41,10 @@ pub trait Watch {
 
 /// A session's way to the shared pool, with a share of each of its books.
 ///
-/// Orders are read from the board, with no lock; a worker that may not go on is ordered to stop. Each other call is one call of the pool in
-/// one hold of the lock, with the arguments that it was given, at the time of the watch; a job that is grabbed when no time is known is
-/// never late. A refusal that says that the worker is not what its session takes it for is reported as [`Gone`].
+/// Orders are read from the board, with no lock; a worker that may not go on is ordered to stop, also if it has no order yet. Each other
+/// call is one call of the pool in one hold of the lock, with the arguments that it was given, at the time of the watch; a job that is
+/// grabbed when no time is known is never late. A refusal that says that the worker is not what its session takes it for is reported as
+/// [`Gone`].
 ///
 /// Its calls are known to contracts alone ([`Calls`]). Each share is the number of those that succeeded, and it counts how the jobs ended.
 #[derive(Drop)]
@@ -137,6 +138,18 @@ fn refusal_of(error: GrabError) -> GrabRefusal
     }
 }
 
+/// The order to stop for the worker of a pass. What was read may be for the worker before it, as long as no round had a plan since it
+/// joined, and no worker obeys the order of another. No pass of a pool has a generation that an order cannot name.
+fn stop_for(pass: &Pass, read: Order) -> Order
+    ensures { IsStopFor pass.now.generation result }
+{
+    Order {
+        generation: pass.name().generation.min(MAX_GENERATION),
+        what: What::Stop,
+        ..read
+    }
+}
+
 impl<'a, N: RunId, C: Watch, R: Wait> PoolPort for SharedPort<'a, N, C, R> {
     ghost use Rattle.pool_supervisor.specs.PortCalls.{book_of};
 
@@ -149,7 +162,7 @@ impl<'a, N: RunId, C: Watch, R: Wait> PoolPort for SharedPort<'a, N, C, R> {
     #[tactic(auto, using(crate::proofs::Seen::seen_more))]
     fn order(&mut self, pass: &Pass) -> Order
         ensures book { book_of self.new.calls.value ≡ after_order (book_of self.old.calls.value) result }
-        ensures read { IsRead self.new.place.seat.seen result }
+        ensures read { (result ≡ latest self.new.place.seat.seen) ⊎ IsStopFor pass.now.generation result }
         ensures later { BeginsWith self.new.place.seat.seen self.old.place.seat.seen }
         ensures slot { self.new.place.seat.slot ≡ self.old.place.seat.slot }
     {
@@ -159,10 +172,7 @@ impl<'a, N: RunId, C: Watch, R: Wait> PoolPort for SharedPort<'a, N, C, R> {
         let order = if may_go_on {
             read
         } else {
-            Order {
-                what: What::Stop,
-                ..read
-            }
+            stop_for(pass, read)
         };
         note(&mut self.calls, Call::Order(order));
         order
