@@ -22,7 +22,7 @@ pub struct Found {
     pub waiting: Vec<u32>,
     /// How many jobs wait for all functions together.
     pub waiting_jobs: u64,
-    /// By function, how many workers the plan gives it.
+    /// By function, how many workers the plan gives it, and nothing if there is no plan: then workers go on as they were ordered before.
     pub workers: Vec<u32>,
     /// By machine, how many of its workers are alive.
     pub alive: Vec<u32>,
@@ -130,7 +130,7 @@ impl Found {
             }
             Answer::NoPlan { short } => (
                 Some(shortage_of(alloc, settings, input, TOP_LEVEL, short)?),
-                vec![in alloc; 0u32; input.functions()]?,
+                Vec::new(alloc),
             ),
         };
         Ok(Found {
