@@ -25,9 +25,9 @@ is_visible text = list_all is_ascii_graphic text
 
 -- ---- hosts
 
--- a letter, a digit, `-` or `.`
+-- a letter, a digit, `-`, `.` or `_`
 abbrev pub is_name_byte : ℕ → Bool
-is_name_byte b = is_ascii_alphanumeric b || ((b == 45) || (b == 46))
+is_name_byte b = is_ascii_alphanumeric b || ((b == 45) || ((b == 46) || (b == 95)))
 
 abbrev pub is_name : List ℕ → Bool
 is_name host = nat_le 1 (length host) && list_all is_name_byte host

@@ -38,7 +38,7 @@ impl ServiceUrl {
         Ok(Some(ServiceUrl { host, path }))
     }
 
-    /// The host and its port, as `10.0.0.5:8000`: a name of letters, digits, `-` and `.`, an IPv4 address or an IPv6 address in
+    /// The host and its port, as `10.0.0.5:8000`: a name of letters, digits, `-`, `.` and `_`, an IPv4 address or an IPv6 address in
     /// brackets, a colon, and a number from 1 to 65,535.
     pub fn host(&self) -> &str
         ensures all { result.now ≡ self.now.host }

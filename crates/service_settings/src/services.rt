@@ -71,8 +71,8 @@ impl Services {
     /// | `listen` | the page | an IPv4 address or an IPv6 address in brackets, a colon and a PORT | required |
     /// | `hosts` | the page | a list of names or addresses, as in a URL: under these too the page is asked for | none |
     ///
-    /// A URL is `http://HOST[:PORT][/PATH]`. HOST is a name of letters, digits, `-` and `.`, an IPv4 address or an IPv6 address in
-    /// brackets. PORT is 1 to 65,535 without zeros before it, and 80 if it is left out. PATH has visible characters of ASCII, but no `?`
+    /// A URL is `http://HOST[:PORT][/PATH]`. HOST is a name of letters, digits, `-`, `.` and `_`, an IPv4 address or an IPv6 address
+    /// in brackets. PORT is 1 to 65,535 without zeros before it, and 80 if it is left out. PATH has visible characters of ASCII, but no `?`
     /// and no `#`; a slash at its end is dropped.
     ///
     /// Each machine of the settings has to have a URL. A job takes `job_timeout_ms` of the settings at most, whatever `timeout_ms` is. The

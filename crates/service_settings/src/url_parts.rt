@@ -41,7 +41,7 @@ fn is_visible(text: &[u8]) -> bool
 fn is_name_byte(byte: u8) -> bool
     ensures { result ≡ spec.is_name_byte byte }
 {
-    byte.is_ascii_alphanumeric() || byte == b'-' || byte == b'.'
+    byte.is_ascii_alphanumeric() || byte == b'-' || byte == b'.' || byte == b'_'
 }
 
 fn are_name_bytes(host: &[u8]) -> bool
