@@ -2,9 +2,9 @@
 
 tests/serve/run calls this. A farm has two hosts that do jobs. It goes on, and serves them, though nobody takes its lines, though the names
 of 200 further hosts do not resolve, though the resolver is gone, though no descriptor is left, or there are too few from the start, though
-the job server takes a report a little at a time, though its input has nothing to read and does not block, though a host is gone, and though
-no host serves one of its jobs. Nobody from elsewhere ends it, or keeps this machine from its page. What its processes write is in the
-folder.
+the job server takes a report a little at a time, though its input has nothing to read and does not block, though a host is gone (also if
+there never was a plan), and though no host serves one of its jobs. Nobody from elsewhere ends it, or keeps this machine from its page. What
+its processes write is in the folder.
 """
 
 import contextlib
@@ -51,6 +51,9 @@ REPORT_MS, MOST_BYTES = 8000, 16_000_000
 
 # So many descriptors are too few for all workers, each of which takes two, beside the 64 that are left for the peers of the page.
 FEW = 86
+
+# The status of a farm of which no attempt led to a plan.
+NO_PLAN = 5
 
 # What Linux calls a network interface that is up, the request for it, and that for a further address.
 IFF_UP, SIOCSIFFLAGS, SIOCSIFADDR = 1, 0x8914, 0x8916
@@ -102,10 +105,14 @@ class Edge:
         with open(f"{self.processes.folder}/{name}.toml", "w") as it:
             it.write(text)
 
-    def start(self, *before, options=(), **streams):
-        """Starts poolman, after these words of another program, and waits until it has a plan."""
+    def begin(self, *before, options=(), **streams):
+        """Starts poolman, after these words of another program."""
         files = [f"{self.processes.folder}/{name}.toml" for name in ("settings", "services")]
         self.poolman = self.processes.start("poolman", *before, self.program, "serve", *files, *options, **streams)
+
+    def start(self, *before, **options):
+        """The same, and waits until it has a plan."""
+        self.begin(*before, **options)
         wait_until(self.is_well, PATIENCE, "the farm has a plan")
 
     def is_well(self):
@@ -158,8 +165,8 @@ class Edge:
         wait_until(lambda: self.metric("poolman_attempts_total") >= before + 10, PATIENCE, "attempts are made")
         holds_pace(self.metric("poolman_attempts_total") - before, begin)
 
-    def end(self, reported=None):
-        """Ends the farm by a drain, and holds its totals to how many jobs were reported."""
+    def end(self, reported=None, ended=0):
+        """Ends the farm by a drain, and holds its totals to how many jobs were reported, and its status to this one."""
         status, told, said = drain(self.program, self.processes.folder)
         held((status, said) == (0, ""), f"the drain: {status} {told} {said}")
         totals = next(filter(None, map(TOTALS.fullmatch, told.splitlines())), None)
@@ -168,7 +175,7 @@ class Edge:
         held(running == 0 and grabbed == did + lost, f"the totals do not account for each job: {totals[0]}")
         held(reported in (None, did), f"{did} jobs were reported, and {reported} answered")
         status = self.poolman.wait(PATIENCE)
-        held(status == 0, f"poolman ended with status {status}")
+        held(status == ended, f"poolman ended with status {status}")
 
 
 def holds_pace(made, begin):
@@ -510,6 +517,22 @@ def idle_workers_end_with_their_host(program, processes):
     edge.end(300)
 
 
+def workers_without_orders_end_with_their_host(program, processes):
+    """No plan has as many workers as a function is to have at least, so none has an order. Those of a host that is gone end all the same."""
+    edge = Edge(program, processes)
+    least = WORKERS * len(HOSTS) + 1
+    edge.write("settings", settings(edge.server, ()).replace("[functions.upper]", f"[functions.upper]\nleast = {least}"))
+    edge.begin()
+    wait_until(lambda: edge.sessions() == WORKERS * len(HOSTS), PATIENCE, "the job server knows all workers")
+    edge.kill("north")
+    first = r"north/\d#1"
+    wait_until(lambda: len(edge.causes(first)) == WORKERS, PATIENCE, "the workers of the host end")
+    held(set(edge.causes(first)) == {"Stopped"}, f"they ended so: {edge.causes(first)}")
+    edge.restart("north")
+    wait_until(edge.has_all_workers, PATIENCE, "all workers are back")
+    edge.end(0, NO_PLAN)
+
+
 def idle_workers_see_that_their_service_closed(program, processes):
     """A service is killed between two attempts. Its workers see that their connections were closed, and end before the next one."""
     edge = Edge(program, processes)
@@ -552,6 +575,7 @@ PARTS = (
     a_report_is_taken_slowly,
     an_input_does_not_block,
     idle_workers_end_with_their_host,
+    workers_without_orders_end_with_their_host,
     idle_workers_see_that_their_service_closed,
     one_job_is_never_served,
     peers_from_elsewhere,
