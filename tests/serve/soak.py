@@ -2,7 +2,7 @@
 """The farm of trial.py for an hour: soak.py PROGRAM FOLDER [MINUTES]
 
 Four clients ask for 200 jobs a second together, whose answers have to be right. Each two minutes a healthy host is killed and started again
-after ten seconds, and has to get jobs. Each five seconds a line of FOLDER/samples has the seconds since the start, the attempts, the jobs
+after ten seconds, and has to get jobs. Each 4.9 seconds a line of FOLDER/samples has the seconds since the start, the attempts, the jobs
 that were answered, and what poolman holds: threads, descriptors, KiB of memory, and those that are its own, and not pages of a file, of
 which the system takes some back when it is short of memory. Then the page is read.
 
@@ -24,7 +24,10 @@ sys.dont_write_bytecode = True
 from trial import HEALTHY, PATIENCE, TOTALS, Farm, Processes, ask_rightly, at_once, drain, held, keep_no_freed_memory, mixed_jobs, wait_until
 
 CLIENTS, JOBS_A_SECOND, ROUND_MS = 4, 50, 1000
-KILL_S, AWAY_S, SAMPLE_S = 120, 10, 5
+KILL_S, AWAY_S = 120, 10
+
+# Jobs come each second. Samples in step with them would see the same moment of them for minutes, and another one later.
+SAMPLE_S = 4.9
 HELD = ("threads", "descriptors", "KiB", "own KiB")
 
 
