@@ -348,13 +348,13 @@ def terminated(program):
 KEEPALIVE = {"LD_PRELOAD": "libkeepalive.so.0", "KEEPIDLE": "1", "KEEPINTVL": "1", "KEEPCNT": "2"}
 
 
-def lose_the_server(server, dark):
+def lose_the_server(server, away_s):
     """The server's machine goes without a word and comes back after so many seconds: its sockets are destroyed while the loopback carries
     nothing."""
     subprocess.run(["ip", "link", "set", "lo", "down"], check=True)
     server.kill()
     subprocess.run(["ss", "-tnK", "state", "fin-wait-1"], check=True, stdout=subprocess.DEVNULL)
-    time.sleep(dark)
+    time.sleep(away_s)
     subprocess.run(["ip", "link", "set", "lo", "up"], check=True)
     server.start()
 

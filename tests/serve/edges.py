@@ -110,9 +110,9 @@ class Edge:
         files = [f"{self.processes.folder}/{name}.toml" for name in ("settings", "services")]
         self.poolman = self.processes.start("poolman", *before, self.program, "serve", *files, *options, **streams)
 
-    def start(self, *before, **options):
+    def start(self, *before, **how):
         """The same, and waits until it has a plan."""
-        self.begin(*before, **options)
+        self.begin(*before, **how)
         wait_until(self.is_well, PATIENCE, "the farm has a plan")
 
     def is_well(self):
@@ -165,8 +165,8 @@ class Edge:
         wait_until(lambda: self.metric("poolman_attempts_total") >= before + 10, PATIENCE, "attempts are made")
         holds_pace(self.metric("poolman_attempts_total") - before, begin)
 
-    def end(self, reported=None, ended=0):
-        """Ends the farm by a drain, and holds its totals to how many jobs were reported, and its status to this one."""
+    def end(self, reported=None, exit_status=0):
+        """Ends the farm by a drain, and holds it to how many jobs were reported, and to its exit status."""
         status, told, said = drain(self.program, self.processes.folder)
         held((status, said) == (0, ""), f"the drain: {status} {told} {said}")
         totals = next(filter(None, map(TOTALS.fullmatch, told.splitlines())), None)
@@ -175,7 +175,7 @@ class Edge:
         held(running == 0 and grabbed == did + lost, f"the totals do not account for each job: {totals[0]}")
         held(reported in (None, did), f"{did} jobs were reported, and {reported} answered")
         status = self.poolman.wait(PATIENCE)
-        held(status == ended, f"poolman ended with status {status}")
+        held(status == exit_status, f"poolman ended with status {status}")
 
 
 def holds_pace(made, begin):
