@@ -100,6 +100,12 @@ abbrev pub after_dial : Option Reason → Result (Unit {0}) DialError → Option
 after_dial before (Err why) = if is_local why then before else Some Unreachable
 after_dial before (Ok _) = after_opening before
 
+-- Why it is left alone after it served a job, by what it was before. One that is not reached stays so: the job was sent over a connection
+-- that was open before.
+abbrev pub after_served : Option Reason → Option Reason
+after_served (Some Unreachable) = Some Unreachable
+after_served before = None
+
 -- the two are handles of one job
 abbrev pub is_same_job : List ℕ → List ℕ → Bool
 is_same_job one other = pointwise nat_eq one other

@@ -146,13 +146,13 @@ impl HostEntry {
 
     /// After it served a job. What is new of it.
     pub fn note_served(&mut self, attempt: u64) -> Option<HostNews>
-        ensures { spec.reason_of self.new.state ≡ None }
+        ensures { spec.reason_of self.new.state ≡ spec.after_served (spec.reason_of self.old.state) }
     {
         let before = self.state.reason();
-        self.state = HostState::Present(Presence::new());
+        self.state = self.state.after_served();
         self.heard = attempt;
         self.left = LeftJobs::Nothing;
-        news_of(before, None)
+        news_of(before, self.state.reason())
     }
 
     /// After a round without a plan. What is new of it.

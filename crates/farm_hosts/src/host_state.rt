@@ -185,6 +185,19 @@ impl HostState {
         }
     }
 
+    /// After it served a job. One that is not reached stays so: the job was sent over a connection that was open before, and a service that
+    /// stops may do the jobs that it has and take no other connection. The worker's next dial shows it.
+    pub fn after_served(self) -> HostState
+        ensures { spec.reason_of result ≡ spec.after_served (spec.reason_of self) }
+    {
+        match self {
+            HostState::Away(absence) if absence.why == Reason::Unreachable => {
+                HostState::Away(absence)
+            }
+            _ => HostState::Present(Presence::new()),
+        }
+    }
+
     /// From which attempt on one worker may start to try it. None if all may start. One that tries it may have no job and so learn nothing:
     /// after the longest wait another may start beside it.
     pub fn next_try(self) -> Option<u64> {
