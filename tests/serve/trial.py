@@ -5,7 +5,7 @@ is no HTTP, or send without an end. Clients ask for jobs of six functions. Meanw
 plan but one gives its functions to others, and it is started again and gets jobs; and the server is killed and started again. Each job
 has to be answered rightly, and to be in a service's log. The page has to refuse what is asked wrongly, and to give the evidence of a plan
 that `poolman check` finds shown. A drain ends the farm; its totals have to account for each job. SIGTERM has to end the unit's script as
-a drain does, and a services file without a URL has to be refused before anything is dialled.
+a drain does, also if it comes twice, and a services file without a URL has to be refused before anything is dialled.
 
 With `long` there is only the farm: 100,000 jobs of 20 clients, which begin once the page keeps as many attempts as it ever does. Each host
 is killed three times, and the farm has to hold no more descriptors in the last tenth of the jobs than in the second, and no more memory
@@ -360,6 +360,34 @@ def a_service_by_drain(program, processes):
     ends_as_service(program, processes, lambda farm, script: farm.drain())
 
 
+# In the place of poolman: says when it has begun and when its input has ended, and ends once it may.
+SLOW = """#!/bin/sh
+: > "$RUNTIME_DIRECTORY/begun"
+cat
+: > "$RUNTIME_DIRECTORY/ending"
+until [ -e "$RUNTIME_DIRECTORY/may_end" ]; do sleep 0.1; done
+exit 5
+"""
+
+
+def a_service_that_is_stopped_twice(program, processes):
+    """The script waits for a program that takes long to end, also after a second signal."""
+    folder = processes.folder
+    with open(f"{folder}/poolman", "w") as it:
+        it.write(SLOW)
+    os.chmod(f"{folder}/poolman", 0o755)
+    path = f"{folder}:{os.environ['PATH']}"
+    script = processes.start("script", f"{TOP}/examples/systemd/poolman-serve", env={"PATH": path, "RUNTIME_DIRECTORY": folder})
+    for said in ("begun", "ending"):
+        wait_until(lambda said=said: os.path.exists(f"{folder}/{said}"), PATIENCE, f"the program is {said}")
+        script.terminate()
+    # Time for a script that would end now. One that waits is not hurried by it.
+    time.sleep(0.2)
+    open(f"{folder}/may_end", "w").close()
+    status = script.wait(PATIENCE)
+    held(status == 5, f"the script ended with status {status}")
+
+
 # The C library keeps nothing for a thread, gives back the end of its heap at once, and takes each block of a page from the system.
 KEEPS_NOTHING = ("tcache_count=0", "trim_threshold=0", "top_pad=0", "mmap_threshold=4096")
 
@@ -372,7 +400,7 @@ def keep_no_freed_memory():
 
 
 def main(program, folder, *words):
-    parts = (a_refused_file, a_service_by_signal, a_service_by_drain, a_farm)
+    parts = (a_refused_file, a_service_by_signal, a_service_by_drain, a_service_that_is_stopped_twice, a_farm)
     if words == ("long",):
         keep_no_freed_memory()
         parts = (a_large_farm,)
