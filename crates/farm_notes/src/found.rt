@@ -68,6 +68,21 @@ fn alive_by_machine(alloc: Global, input: &Input) -> Result<Vec<u32>, AllocError
     Ok(alive)
 }
 
+/// How many workers these functions need together at this level. None if for one of them no number of the workers alive will do.
+fn need_of(input: &Input, level: u64, short: &FuncSet) -> Option<u64> {
+    let mut need = 0u64;
+    for function in short.functions() {
+        if (function.number() as usize) < input.functions() {
+            let own = input.need(level, *function);
+            if own > input.workers() {
+                return None;
+            }
+            need = need.saturating_add(u64::from(own));
+        }
+    }
+    Some(need)
+}
+
 /// What shows that no plan has a lower level, or that there is none.
 fn shortage_of(
     alloc: Global,
@@ -77,18 +92,14 @@ fn shortage_of(
     short: &FuncSet,
 ) -> Result<Shortage, AllocError> {
     let mut functions = Vec::new(alloc);
-    let mut need = 0u64;
     for function in short.functions() {
-        if (function.number() as usize) < input.functions()
-            && function.number() < settings.functions()
-        {
+        if function.number() < settings.functions() {
             functions.push(String::from_str(alloc, settings.function_name(*function))?)?;
-            need = need.saturating_add(u64::from(input.need(level, *function)));
         }
     }
     Ok(Shortage {
         functions,
-        need,
+        need: need_of(input, level, short),
         have: u64::from(count_neighbours(input, short)),
     })
 }

@@ -58,10 +58,15 @@ first_names functions =
     if nat_le (length functions) 3 then names functions
     else names (take 3 functions) ++ codes " and " ++ decimal (length functions - 3) ++ codes " more"
 
+-- how many workers are needed, or that no number of those alive will do
+abbrev pub need_words : Option ℕ → ℕ → List ℕ
+need_words (Some need) have =
+    codes " " ++ decimal need ++ codes " workers are needed, and " ++ decimal have ++ codes " that may do them are alive"
+need_words None have = codes " the " ++ decimal have ++ codes " workers alive that may do them are not enough"
+
 abbrev pub shortage_words : Shortage → List ℕ
 shortage_words shortage =
-    codes "for" ++ first_names shortage.functions.items ++ codes " " ++ decimal shortage.need
-    ++ codes " workers are needed, and " ++ decimal shortage.have ++ codes " that may do them are alive"
+    codes "for" ++ first_names shortage.functions.items ++ need_words shortage.need shortage.have
 
 abbrev pub no_plan_words : Option Shortage → List ℕ
 no_plan_words None = codes "No plan meets the least and greatest numbers of workers"

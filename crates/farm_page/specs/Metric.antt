@@ -1,6 +1,6 @@
 -- The metrics of a farm: their names, what they mean, and their values.
 use Rattle.std.specs.Prelude.{ℕ, Bool, List, Option, Some, None, codes, if◌then◌else◌, is_none, option_map}
-use Rattle.farm_page.specs.Health.{is_late}
+use Rattle.farm_page.specs.Health.{is_ending, is_late}
 use Rattle.farm_page.specs.View.{has_plan}
 use Rattle.farm_page.specs.declared.health.Moment.{Moment}
 use Rattle.farm_page.specs.declared.metric.Metric.{Metric}
@@ -23,6 +23,7 @@ name metric.HasPlan = codes "poolman_has_plan"
 name metric.Backlog = codes "poolman_backlog_jobs"
 name metric.Unserved = codes "poolman_unserved_jobs"
 name metric.IsLate = codes "poolman_is_late"
+name metric.IsEnding = codes "poolman_is_ending"
 name metric.AliveWorkers = codes "poolman_alive_workers"
 name metric.Workers = codes "poolman_workers"
 name metric.FunctionWaiting = codes "poolman_function_waiting_jobs"
@@ -43,7 +44,8 @@ help metric.Attempts = codes "Attempts to plan."
 help metric.HasPlan = codes "1 if the last attempt led to a plan, else 0."
 help metric.Backlog = codes "Jobs that wait for each worker of a function, at most."
 help metric.Unserved = codes "Jobs that wait for a function that workers alive may do and none does, at most."
-help metric.IsLate = codes "1 if the last attempt is older than three rounds, else 0."
+help metric.IsLate = codes "1 if the farm goes on and its last attempt is older than three rounds, else 0."
+help metric.IsEnding = codes "1 if the farm is to end, else 0."
 help metric.AliveWorkers = codes "Workers alive."
 help metric.Workers = codes "Workers of the settings."
 help metric.FunctionWaiting = codes "Jobs that wait for a worker."
@@ -65,6 +67,7 @@ kind metric.HasPlan = Gauge
 kind metric.Backlog = Gauge
 kind metric.Unserved = Gauge
 kind metric.IsLate = Gauge
+kind metric.IsEnding = Gauge
 kind metric.AliveWorkers = Gauge
 kind metric.Workers = Gauge
 kind metric.FunctionWaiting = Gauge
@@ -105,6 +108,7 @@ farm_value view moment metric.HasPlan = Some (number (has_plan view.outcome))
 farm_value view moment metric.Backlog = backlog_of view.outcome
 farm_value view moment metric.Unserved = unserved_of view.outcome
 farm_value view moment metric.IsLate = Some (number (is_late moment))
+farm_value view moment metric.IsEnding = Some (number (is_ending moment))
 farm_value view moment metric.AliveWorkers = Some view.workers.alive
 farm_value view moment metric.Workers = Some view.workers.all
 farm_value view moment _ = None

@@ -54,7 +54,8 @@ ends_family ends = head metric.EndedWorkers ++ flat_map end_sample ends
 
 abbrev pub farm_metrics : List Metric
 farm_metrics =
-    metric.Attempts ∷ metric.HasPlan ∷ metric.Backlog ∷ metric.Unserved ∷ metric.IsLate ∷ metric.AliveWorkers ∷ metric.Workers ∷ []
+    metric.Attempts ∷ metric.HasPlan ∷ metric.Backlog ∷ metric.Unserved ∷ metric.IsLate ∷ metric.IsEnding ∷ metric.AliveWorkers
+    ∷ metric.Workers ∷ []
 
 abbrev pub function_metrics : List Metric
 function_metrics =

@@ -16,9 +16,9 @@ const NAMED: usize = 3;
 pub enum Condition {
     /// It has a plan, all its hosts are reached, all its workers are alive, and each function with jobs has a worker.
     Well,
-    /// It has a plan, but not all that the settings have.
+    /// It has a plan, but not all that the settings have; or it ends.
     Watch,
-    /// It has no plan.
+    /// It has no plan, or its last attempt is late; and it goes on.
     Bad,
 }
 
@@ -99,18 +99,29 @@ fn push_first_names(out: &mut String, functions: &[String]) -> Result<(), AllocE
     write!(out, " and {more} more")
 }
 
+/// Adds how many workers are needed, and how many there are.
+fn push_need(out: &mut String, need: Option<u64>, have: u64) -> Result<(), AllocError>
+    ensures { OnOk result (string_bytes out.new ≡ string_bytes out.old ++ spec.need_words need have) }
+{
+    match need {
+        Some(need) => write!(
+            out,
+            " {need} workers are needed, and {have} that may do them are alive"
+        ),
+        None => write!(
+            out,
+            " the {have} workers alive that may do them are not enough"
+        ),
+    }
+}
+
 /// What a shortage is, as `for x y 3 workers are needed, and 2 that may do them are alive`. The only error is out of memory.
 pub fn shortage_words(alloc: Global, shortage: &Shortage) -> Result<String, AllocError>
     ensures { IfOk result (λ words. string_bytes words ≡ spec.shortage_words shortage.now) }
 {
-    let need = shortage.need;
-    let have = shortage.have;
     let mut out = String::from_str(alloc, "for")?;
     push_first_names(&mut out, &shortage.functions)?;
-    write!(
-        out,
-        " {need} workers are needed, and {have} that may do them are alive"
-    )?;
+    push_need(&mut out, shortage.need, shortage.have)?;
     Ok(out)
 }
 

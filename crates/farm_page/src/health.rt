@@ -8,6 +8,15 @@ use crate::view::FarmView;
 use std::alloc::{AllocError, Global};
 use std::fmt::Write;
 
+/// Whether a farm goes on.
+#[derive(Clone, Copy, Debug, PartialEq, Eq)]
+pub enum FarmPhase {
+    /// It makes attempts.
+    GoesOn,
+    /// It begins no more attempts, and its workers finish their jobs.
+    Ends,
+}
+
 /// When a farm is looked at.
 #[derive(Clone, Copy)]
 pub struct Moment {
@@ -15,28 +24,40 @@ pub struct Moment {
     pub age_ms: u64,
     /// How many milliseconds are between two attempts.
     pub round_ms: u32,
+    /// Whether it goes on.
+    pub phase: FarmPhase,
 }
 
 impl Moment {
-    /// Whether the last attempt is older than three rounds.
+    /// Whether the farm ends.
+    pub fn is_ending(self) -> bool
+        ensures { result ≡ spec.is_ending self }
+    {
+        matches!(self.phase, FarmPhase::Ends)
+    }
+
+    /// Whether the farm goes on, and its last attempt is older than three rounds.
     pub fn is_late(self) -> bool
         ensures { result ≡ spec.is_late self }
     {
-        self.age_ms > 3 * u64::from(self.round_ms)
+        !self.is_ending() && self.age_ms > 3 * u64::from(self.round_ms)
     }
 }
 
-/// Whether the last attempt led to a plan, and is no older than three rounds.
+/// Whether the farm goes on, and its last attempt led to a plan and is no older than three rounds.
 pub fn is_healthy(view: &FarmView, moment: Moment) -> bool
     ensures { result ≡ spec.is_healthy view.now moment }
 {
-    view.outcome.has_plan() && !moment.is_late()
+    view.outcome.has_plan() && !moment.is_late() && !moment.is_ending()
 }
 
-/// How a farm is at a moment: bad if its last attempt is older than three rounds.
+/// How a farm is at a moment: to be watched if it ends, and bad if its last attempt is late.
 pub fn condition_at(view: &FarmView, moment: Moment) -> Condition
     ensures { result ≡ spec.condition_at view.now moment }
 {
+    if moment.is_ending() {
+        return Condition::Watch;
+    }
     if moment.is_late() {
         Condition::Bad
     } else {
@@ -53,11 +74,17 @@ fn late_words(alloc: Global, age_ms: u64) -> Result<String, AllocError>
     Ok(words)
 }
 
-/// How a farm is at a moment, in one sentence without a full stop: the farm's own, or that its last attempt is older than three rounds.
-/// The only error is out of memory.
+/// How a farm is at a moment, in one sentence without a full stop: the farm's own, or that it ends, or that its last attempt is late. The
+/// only error is out of memory.
 pub fn sentence_at(alloc: Global, view: &FarmView, moment: Moment) -> Result<String, AllocError>
     ensures { IfOk result (λ words. string_bytes words ≡ spec.sentence_at view.now moment) }
 {
+    if moment.is_ending() {
+        return String::from_str(
+            alloc,
+            "The farm ends: no more attempts begin, and workers finish their jobs",
+        );
+    }
     if moment.is_late() {
         late_words(alloc, moment.age_ms)
     } else {
@@ -65,7 +92,7 @@ pub fn sentence_at(alloc: Global, view: &FarmView, moment: Moment) -> Result<Str
     }
 }
 
-/// The line that says whether a farm is well: its sentence, or that its last attempt is too old. The only error is out of memory.
+/// The line that says whether a farm is well: its sentence at the moment. The only error is out of memory.
 pub fn health_text(alloc: Global, view: &FarmView, moment: Moment) -> Result<String, AllocError>
     ensures { IfOk result (λ line. string_bytes line ≡ spec.health_text view.now moment) }
 {

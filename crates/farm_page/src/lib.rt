@@ -5,11 +5,11 @@
 //!
 //! | request | answer |
 //! |---|---|
-//! | `GET /` | the page, which asks for itself again every five seconds, `/?still` not; it is bad if the last attempt is late |
+//! | `GET /` | the page, asked for again every five seconds, `/?still` not; it is bad if the last attempt is late, not if the farm ends |
 //! | `GET /metrics` | the metrics, in the text format of Prometheus |
 //! | `GET /evidence` | the report, the status text and the lost workers of one attempt, in one text |
 //! | `GET /report`, `/status.txt`, `/lost` | its parts |
-//! | `GET /health` | 200 if the last attempt led to a plan and is no older than three rounds, else 503; its body says how the farm is |
+//! | `GET /health` | 200 if the farm goes on and its last attempt led to a plan, no more than three rounds ago, else 503; and how it is |
 //! | `POST /drain` | the end of the farm, if it comes from this machine with the header `poolman: drain` |
 //!
 //! HEAD has the headers of GET. A request for another host gets 403, another path 404, another method 405.
@@ -42,7 +42,7 @@ pub use condition::{Condition, condition_of, sentence, shortage_words};
 pub use evidence::{evidence_text, lost_text};
 pub use failures::Failures;
 pub use headers::{Header, headers_of};
-pub use health::{Moment, condition_at, health_text, is_healthy, sentence_at};
+pub use health::{FarmPhase, Moment, condition_at, health_text, is_healthy, sentence_at};
 pub use markup::{Markup, escaped};
 pub use metric::{Metric, MetricKind};
 pub use metrics::metrics_text;

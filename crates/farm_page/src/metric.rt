@@ -19,6 +19,8 @@ pub enum Metric {
     Unserved,
     /// Whether the last attempt is late.
     IsLate,
+    /// Whether the farm ends.
+    IsEnding,
     /// Workers alive.
     AliveWorkers,
     /// Workers of the settings.
@@ -81,6 +83,7 @@ impl Metric {
             Metric::Backlog => "poolman_backlog_jobs",
             Metric::Unserved => "poolman_unserved_jobs",
             Metric::IsLate => "poolman_is_late",
+            Metric::IsEnding => "poolman_is_ending",
             Metric::AliveWorkers => "poolman_alive_workers",
             Metric::Workers => "poolman_workers",
             Metric::FunctionWaiting => "poolman_function_waiting_jobs",
@@ -108,7 +111,9 @@ impl Metric {
             Metric::Backlog => "Jobs that wait for each worker of a function, at most.",
             Metric::Unserved =>
                 "Jobs that wait for a function that workers alive may do and none does, at most.",
-            Metric::IsLate => "1 if the last attempt is older than three rounds, else 0.",
+            Metric::IsLate =>
+                "1 if the farm goes on and its last attempt is older than three rounds, else 0.",
+            Metric::IsEnding => "1 if the farm is to end, else 0.",
             Metric::AliveWorkers => "Workers alive.",
             Metric::Workers => "Workers of the settings.",
             Metric::FunctionWaiting => "Jobs that wait for a worker.",
@@ -152,6 +157,7 @@ pub fn farm_value(view: &FarmView, moment: Moment, metric: Metric) -> Option<u64
         (Metric::Unserved, Outcome::Unserved(jobs)) => Some(*jobs),
         (Metric::Unserved, Outcome::Backlog(_)) => Some(0),
         (Metric::IsLate, _) => Some(u64::from(moment.is_late())),
+        (Metric::IsEnding, _) => Some(u64::from(moment.is_ending())),
         (Metric::AliveWorkers, _) => Some(u64::from(view.workers.alive)),
         (Metric::Workers, _) => Some(u64::from(view.workers.all)),
         _ => None,

@@ -11,12 +11,13 @@ use crate::writing::{put_label, put_number, put_text};
 use std::alloc::{AllocError, Global};
 
 /// The metrics of a farm.
-const OF_FARM: [Metric; 7] = [
+const OF_FARM: [Metric; 8] = [
     Metric::Attempts,
     Metric::HasPlan,
     Metric::Backlog,
     Metric::Unserved,
     Metric::IsLate,
+    Metric::IsEnding,
     Metric::AliveWorkers,
     Metric::Workers,
 ];

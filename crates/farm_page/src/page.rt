@@ -91,7 +91,7 @@ fn head(alloc: Global, view: &FarmView, moment: Moment, title: &str) -> Result<M
     Ok(out)
 }
 
-/// Adds what shows that no plan is better. The sentence of a farm without a plan says it already, if that is not late.
+/// Adds what shows that no plan is better. The sentence of a farm without a plan says it already, if that is not late and does not end.
 fn put_shortage(alloc: Global, out: &mut Markup, view: &FarmView) -> Result<(), AllocError> {
     let shortage = match &view.shortage {
         Some(shortage) if view.outcome.has_plan() => shortage,

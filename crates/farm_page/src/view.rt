@@ -132,8 +132,8 @@ pub struct FailureView {
 pub struct Shortage {
     /// The functions' names.
     pub functions: Vec<String>,
-    /// How many workers they would need.
-    pub need: u64,
+    /// How many workers they would need. None if no number of the workers alive would do.
+    pub need: Option<u64>,
     /// How many workers alive may do any of them.
     pub have: u64,
 }

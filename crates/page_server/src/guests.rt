@@ -92,6 +92,14 @@ impl Guests {
         self.present.retain(|guest| guest.number != number);
     }
 
+    /// What peers say from now on is not read: nobody waits for one that says nothing. What they are answered is still written.
+    pub(crate) fn stop_hearing(&self) {
+        for guest in self.present.iter() {
+            // A connection that has ended already is as good.
+            let _ = guest.stream.shutdown(Shutdown::Read);
+        }
+    }
+
     /// Ends the connection of the first peer that does not wait for the end of its farm: it gives up its place. Whether there was one.
     pub(crate) fn cut_off_first(&mut self) -> bool
         ensures there { result ≡ nat_lt (spec.first_to_go self.old.present.items) (length self.old.present.items) }

@@ -197,6 +197,11 @@ impl Places {
         held.taken.all < MOST_PEERS
     }
 
+    /// Reads nothing more of what peers say, and answers what they have asked.
+    pub fn stop_hearing<R: Wait>(&self, rt: &R) {
+        self.held.lock(rt).guests.stop_hearing();
+    }
+
     /// How many are taken.
     pub fn count<R: Wait>(&self, rt: &R) -> u32
         ensures { result ≤ 64 }

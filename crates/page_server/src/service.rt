@@ -12,7 +12,8 @@ use crate::places::Ticket;
 use crate::shared_page::{PageTimes, SharedPage};
 use bytes::{BufMut, Bytes};
 use farm_page::{
-    Asked, Attempts, Failures, FarmView, Moment, Outcome, Reply, Seen, Site, Workers, reply_to,
+    Asked, Attempts, Failures, FarmPhase, FarmView, Moment, Outcome, Reply, Seen, Site, Workers,
+    reply_to,
 };
 use http::{Request, StatusCode};
 use http_server::{Response, Service};
@@ -61,6 +62,15 @@ fn before_attempts(alloc: Global) -> Result<FarmView, AllocError> {
 }
 
 impl<'a, R: Wait + Clock> PageService<'a, R> {
+    /// Whether the farm goes on.
+    fn phase(&self) -> FarmPhase {
+        if self.page.end.is_raised(self.rt) {
+            FarmPhase::Ends
+        } else {
+            FarmPhase::GoesOn
+        }
+    }
+
     /// What is answered of a farm that was seen so many milliseconds ago.
     fn reply_of(&self, farm: &FarmView, age_ms: u64, asked: &Asked<'_>) -> Result<Reply, AllocError>
         ensures { IfOk result
@@ -69,6 +79,7 @@ impl<'a, R: Wait + Clock> PageService<'a, R> {
         let moment = Moment {
             age_ms,
             round_ms: self.times.round_ms,
+            phase: self.phase(),
         };
         let seen = Seen { farm, moment };
         reply_to(self.alloc, &seen, &self.place, asked)

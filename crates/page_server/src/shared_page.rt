@@ -107,7 +107,8 @@ impl SharedPage {
         }
     }
 
-    /// Lets nobody in any more, and waits until all have left, but no longer than so many milliseconds.
+    /// Lets nobody in any more, and waits until all have left, but no longer than so many milliseconds. Peers get their answers, and those
+    /// that ask nothing leave at once.
     pub fn close<R: Wait + Clock>(&self, rt: &R, milliseconds: u32) {
         let mut held = self.access.lock(rt);
         if held.is_shut() {
@@ -116,6 +117,7 @@ impl SharedPage {
         drop(held);
         self.changed.notify_all();
         self.closed.raise(rt);
+        self.places.stop_hearing(rt);
         let _ = self.places.wait_until_empty(rt, milliseconds);
     }
 }

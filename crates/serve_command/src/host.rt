@@ -46,6 +46,9 @@ pub trait FarmHost: Host {
     /// Whether the farm has to end. Once it has, it always has.
     fn is_to_end(&self) -> bool;
 
+    /// The farm has to end from now on.
+    fn begin_end(&self) {}
+
     /// Waits for so many milliseconds, or until the farm has to end.
     fn rest(&self, milliseconds: u32);
 

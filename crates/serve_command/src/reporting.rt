@@ -227,6 +227,10 @@ impl<'e, H: FarmHost> Watch for Reporting<'e, H> {
 impl<'e, H: FarmHost> Progress for Reporting<'e, H> {
     fn attempted(&self, made: &Attempted<'_>) {
         self.note(made.attempt);
+        // Not before: a status is not read to its end once the farm has to end.
+        if self.outlook() == Outlook::SlotUsed {
+            self.host.begin_end();
+        }
         if gave_no_status(made.attempt) && self.host.last_failure().is_none() {
             self.host.doubt();
         }

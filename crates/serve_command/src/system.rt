@@ -217,6 +217,10 @@ impl<
         self.edges.end.is_raised(&self.rt)
     }
 
+    fn begin_end(&self) {
+        self.edges.end.raise(&self.rt);
+    }
+
     fn rest(&self, milliseconds: u32) {
         self.edges.end.rest(&self.rt, milliseconds);
     }
