@@ -64,6 +64,10 @@ class Page:
     def is_unwell(self):
         return self.health() == 503
 
+    def says_the_end(self):
+        status, _, body = self.ask("GET", "/health")
+        return status == 503 and body.startswith(b"The farm ends")
+
     def wait_until_well(self):
         wait_until(self.is_well, self.patience, "the page says that the farm is well")
 

@@ -4,8 +4,9 @@ tests/serve/run calls this. Three hosts run the service of examples/serve with f
 is no HTTP, or send without an end. Clients ask for jobs of six functions. Meanwhile each healthy host is killed in mid job, the next
 plan but one gives its functions to others, and it is started again and gets jobs; and the server is killed and started again. Each job
 has to be answered rightly, and to be in a service's log. The page has to refuse what is asked wrongly, and to give the evidence of a plan
-that `poolman check` finds shown. A drain ends the farm; its totals have to account for each job. SIGTERM has to end the unit's script as
-a drain does, also if it comes twice, and a services file without a URL has to be refused before anything is dialled.
+that `poolman check` finds shown. A drain in mid job ends the farm, as its page says meanwhile; its totals have to account for each job.
+SIGTERM has to end the unit's script as a drain does, also if it comes twice, and a services file without a URL has to be refused before
+anything is dialled.
 
 With `long` there is only the farm: 100,000 jobs of 20 clients, which begin once the page keeps as many attempts as it ever does. Each host
 is killed three times, and the farm has to hold no more descriptors in the last tenth of the jobs than in the second, and no more memory
@@ -22,12 +23,13 @@ import subprocess
 import sys
 import threading
 import time
+from concurrent.futures import ThreadPoolExecutor
 
 sys.dont_write_bytecode = True
 TOP = os.path.join(os.path.dirname(os.path.abspath(__file__)), "../..")
 sys.path.insert(0, f"{TOP}/tests/gearmand")
 
-from farm import FAILED, HOST, TOTALS, at_once, held, wait_until
+from farm import FAILED, HOST, SUBMIT_JOB, TOTALS, Client, at_once, held, request, wait_until
 
 import hosts
 from asking import ask_rightly, mixed_jobs, wanted
@@ -238,9 +240,32 @@ class Farm:
         status, told, said = drain(self.program, self.processes.folder)
         held((status, said) == (0, "") and any(TOTALS.fullmatch(line) for line in told.splitlines()), f"the drain: {status} {told} {said}")
 
+    def hold_a_job(self, client):
+        """Asks for a job that a service does not do until it is killed. The name of its host."""
+        orders = {name: f"{self.processes.folder}/{name}.order" for name in HEALTHY}
+        for order in orders.values():
+            open(order, "w").close()
+        client.socket.sendall(request(SUBMIT_JOB, b"hold", b"held", b""))
+
+        def holders():
+            return [name for name, order in orders.items() if os.path.exists(f"{order}.held")]
+
+        wait_until(holders, PATIENCE, "a job is held")
+        return holders()[0]
+
+    def drain_in_mid_job(self):
+        """The page says that the farm ends for as long as a job is done, and the drain waits for that."""
+        with contextlib.closing(Client(self.server, PATIENCE)) as client, ThreadPoolExecutor(1) as drainer:
+            name = self.hold_a_job(client)
+            drained = drainer.submit(self.drain)
+            wait_until(self.page.says_the_end, PATIENCE, "the page says that the farm ends")
+            held(not drained.done(), "a drain did not wait for a job")
+            self.services[name].kill()
+            drained.result()
+
     def end(self):
         """Ends poolman by a drain, and holds its totals to what was answered."""
-        self.drain()
+        self.drain_in_mid_job()
         status = self.poolman.wait(PATIENCE)
         held(status in (0, 1), f"poolman ended with status {status}")
         lines = self.lines()
