@@ -5,6 +5,7 @@ pub mod Headers
 pub mod Health
 pub mod Kept
 pub mod Markup
+pub mod Measured
 pub mod Metric
 pub mod Metrics
 pub mod Replying

@@ -6,13 +6,13 @@ use Rattle.std.specs.Int.{div_ceil}
 use Rattle.std.specs.List.{flat_map}
 use Rattle.std.specs.Option.{option_map_or}
 use Rattle.farm_page.specs.Escaping.{page_text}
-use Rattle.farm_page.specs.Metric.{function_value, host_value}
+use Rattle.farm_page.specs.Measured.{function_value, host_value}
 use Rattle.farm_page.specs.declared.cells.Gap.{Gap}
 use Rattle.farm_page.specs.declared.cells.Gap.TheVariants.{Any, Unknown}
 use Rattle.farm_page.specs.declared.cells.Mark.{Mark}
 use Rattle.farm_page.specs.declared.cells.Mark.TheVariants.{Bad, Plain, Warn}
-use Rattle.farm_page.specs.declared.metric.Metric.TheVariants.{FunctionCompleted, FunctionFailed, FunctionLost}
-use Rattle.farm_page.specs.declared.metric.Metric.TheVariants.{FunctionMost, FunctionRunning, FunctionWaiting, HostAlive}
+use Rattle.farm_page.specs.declared.measured.FunctionNumber.TheVariants as function
+use Rattle.farm_page.specs.declared.measured.HostNumber.TheVariants as host
 use Rattle.farm_page.specs.declared.view.EndView.{EndView}
 use Rattle.farm_page.specs.declared.view.FailureEnd.{FailureEnd}
 use Rattle.farm_page.specs.declared.view.FailureEnd.TheVariants.{Failed, Lost, Said}
@@ -85,20 +85,20 @@ waiting_per_worker f = option_map_or (waiting_per f) f.workers None
 -- what waits, what runs, and the workers
 abbrev pub workers_cells : FunctionView → ℕ → List ℕ
 workers_cells f all =
-    cell_if (function_value f FunctionWaiting) Unknown ++ cell_if (waiting_per_worker f) Unknown
-    ++ cell_if (function_value f FunctionRunning) Unknown ++ workers_cell f
+    cell_if (function_value f function.Waiting) Unknown ++ cell_if (waiting_per_worker f) Unknown
+    ++ cell_if (function_value f function.Running) Unknown ++ workers_cell f
     ++ bar_if f.workers all f.least
 
 -- what became of the jobs
 abbrev pub jobs_cells : FunctionView → List ℕ
 jobs_cells f =
-    cell_if (function_value f FunctionCompleted) Unknown ++ fault_cell (function_value f FunctionFailed)
-    ++ fault_cell (function_value f FunctionLost)
+    cell_if (function_value f function.Completed) Unknown ++ fault_cell (function_value f function.Failed)
+    ++ fault_cell (function_value f function.Lost)
 
 -- the row of a function in a farm of so many workers
 abbrev pub function_row : ℕ → FunctionView → List ℕ
 function_row all f =
-    row_name (string_bytes f.name) ++ workers_cells f all ++ cell Plain f.least ++ cell_if (function_value f FunctionMost) Any
+    row_name (string_bytes f.name) ++ workers_cells f all ++ cell Plain f.least ++ cell_if (function_value f function.Most) Any
     ++ jobs_cells f ++ codes "</tr>\n"
 
 abbrev pub unreached_cell : List ℕ → List ℕ
@@ -109,7 +109,7 @@ reached_cell h = option_map_or (λ why. unreached_cell (string_bytes why)) h.unr
 
 abbrev pub host_row : HostView → List ℕ
 host_row h =
-    row_name (string_bytes h.name) ++ cell_if (host_value h HostAlive) Unknown ++ cell Plain h.all ++ bar_if h.alive h.all h.all
+    row_name (string_bytes h.name) ++ cell_if (host_value h host.Alive) Unknown ++ cell Plain h.all ++ bar_if h.alive h.all h.all
     ++ reached_cell h ++ codes "</tr>\n"
 
 -- a cause for which no worker ended has no row

@@ -1,55 +1,9 @@
-//! What is measured of a farm: the names of the metrics and their values.
+//! The metrics of a farm: a row for each. `/metrics`, the definitions of `specs/` and the docs take names and meanings from these rows.
 
 ghost use Rattle.std.specs.Prelude.{◌≡◌};
 ghost use Rattle.farm_page.specs.Metric as spec;
 
-use crate::health::Moment;
-use crate::view::{FarmView, FunctionView, HostView, Outcome};
-
-/// A metric.
-#[derive(Clone, Copy)]
-pub enum Metric {
-    /// Attempts that were made.
-    Attempts,
-    /// Whether the last attempt led to a plan.
-    HasPlan,
-    /// The backlog.
-    Backlog,
-    /// Jobs that some worker alive may do and none does.
-    Unserved,
-    /// Whether the last attempt is late.
-    IsLate,
-    /// Whether the farm ends.
-    IsEnding,
-    /// Workers alive.
-    AliveWorkers,
-    /// Workers of the settings.
-    Workers,
-    /// A function's jobs that wait.
-    FunctionWaiting,
-    /// A function's jobs that a worker has.
-    FunctionRunning,
-    /// A function's workers.
-    FunctionWorkers,
-    /// A function's least number of workers.
-    FunctionLeast,
-    /// A function's greatest number of workers.
-    FunctionMost,
-    /// A function's jobs that were answered with a result.
-    FunctionCompleted,
-    /// A function's jobs that were answered with a failure.
-    FunctionFailed,
-    /// A function's jobs that were lost.
-    FunctionLost,
-    /// Whether a host is reached.
-    HostReached,
-    /// A host's workers alive.
-    HostAlive,
-    /// A host's workers of the settings.
-    HostWorkers,
-    /// Workers that ended.
-    EndedWorkers,
-}
+use crate::measured::{FarmNumber, FunctionNumber, HostNumber};
 
 /// How a metric changes.
 #[derive(Clone, Copy)]
@@ -72,123 +26,169 @@ impl MetricKind {
     }
 }
 
-impl Metric {
-    /// The metric's name: with its unit, and `_total` at the end for a counter.
-    pub fn name(self) -> &'static str
-        ensures { result.now ≡ spec.name self }
-    {
-        match self {
-            Metric::Attempts => "poolman_attempts_total",
-            Metric::HasPlan => "poolman_has_plan",
-            Metric::Backlog => "poolman_backlog_jobs",
-            Metric::Unserved => "poolman_unserved_jobs",
-            Metric::IsLate => "poolman_is_late",
-            Metric::IsEnding => "poolman_is_ending",
-            Metric::AliveWorkers => "poolman_alive_workers",
-            Metric::Workers => "poolman_workers",
-            Metric::FunctionWaiting => "poolman_function_waiting_jobs",
-            Metric::FunctionRunning => "poolman_function_running_jobs",
-            Metric::FunctionWorkers => "poolman_function_workers",
-            Metric::FunctionLeast => "poolman_function_least_workers",
-            Metric::FunctionMost => "poolman_function_most_workers",
-            Metric::FunctionCompleted => "poolman_function_completed_jobs_total",
-            Metric::FunctionFailed => "poolman_function_failed_jobs_total",
-            Metric::FunctionLost => "poolman_function_lost_jobs_total",
-            Metric::HostReached => "poolman_host_reached",
-            Metric::HostAlive => "poolman_host_alive_workers",
-            Metric::HostWorkers => "poolman_host_workers",
-            Metric::EndedWorkers => "poolman_ended_workers_total",
-        }
-    }
+/// What a metric has samples of, and which number a sample shows.
+#[derive(Clone, Copy)]
+pub enum Value {
+    /// The farm: one sample, and no metric if it has no value now.
+    Farm(FarmNumber),
+    /// Each function of which the number is known.
+    Function(FunctionNumber),
+    /// Each host of which the number is known.
+    Host(HostNumber),
+    /// Each cause for which workers end: how many ended for it.
+    Cause,
+}
 
-    /// What the metric means.
-    pub fn help(self) -> &'static str
-        ensures { result.now ≡ spec.help self }
+impl Value {
+    /// The label that names what a sample is of. Empty if there is one sample, which has no label.
+    pub fn label(self) -> &'static str
+        ensures { result.now ≡ spec.label self }
     {
         match self {
-            Metric::Attempts => "Attempts to plan.",
-            Metric::HasPlan => "1 if the last attempt led to a plan, else 0.",
-            Metric::Backlog => "Jobs that wait for each worker of a function, at most.",
-            Metric::Unserved =>
-                "Jobs that wait for a function that workers alive may do and none does, at most.",
-            Metric::IsLate =>
-                "1 if the farm goes on and its last attempt is older than three rounds, else 0.",
-            Metric::IsEnding => "1 if the farm is to end, else 0.",
-            Metric::AliveWorkers => "Workers alive.",
-            Metric::Workers => "Workers of the settings.",
-            Metric::FunctionWaiting => "Jobs that wait for a worker.",
-            Metric::FunctionRunning => "Jobs that a worker has.",
-            Metric::FunctionWorkers => "Workers that do the function.",
-            Metric::FunctionLeast => "Workers that are to do the function at least.",
-            Metric::FunctionMost => "Workers that may do the function at most.",
-            Metric::FunctionCompleted => "Jobs that were answered with a result.",
-            Metric::FunctionFailed => "Jobs that were answered with a failure.",
-            Metric::FunctionLost => "Jobs whose worker ended without an answer.",
-            Metric::HostReached => "1 if the host is reached, else 0.",
-            Metric::HostAlive => "Workers of the host that are alive.",
-            Metric::HostWorkers => "Workers of the host by the settings.",
-            Metric::EndedWorkers => "Workers that ended, by cause.",
-        }
-    }
-
-    /// How the metric changes.
-    pub fn kind(self) -> MetricKind
-        ensures { result ≡ spec.kind self }
-    {
-        match self {
-            Metric::Attempts
-            | Metric::FunctionCompleted
-            | Metric::FunctionFailed
-            | Metric::FunctionLost
-            | Metric::EndedWorkers => MetricKind::Counter,
-            _ => MetricKind::Gauge,
+            Value::Farm(_) => "",
+            Value::Function(_) => "function",
+            Value::Host(_) => "host",
+            Value::Cause => "cause",
         }
     }
 }
 
-/// The value of a metric of the farm at a moment. None if it has none now, or is not of the farm.
-pub fn farm_value(view: &FarmView, moment: Moment, metric: Metric) -> Option<u64>
-    ensures { result ≡ spec.farm_value view.now moment metric }
-{
-    match (metric, &view.outcome) {
-        (Metric::Attempts, _) => Some(u64::from(view.attempt)),
-        (Metric::HasPlan, outcome) => Some(u64::from(outcome.has_plan())),
-        (Metric::Backlog, Outcome::Backlog(jobs)) => Some(*jobs),
-        (Metric::Unserved, Outcome::Unserved(jobs)) => Some(*jobs),
-        (Metric::Unserved, Outcome::Backlog(_)) => Some(0),
-        (Metric::IsLate, _) => Some(u64::from(moment.is_late())),
-        (Metric::IsEnding, _) => Some(u64::from(moment.is_ending())),
-        (Metric::AliveWorkers, _) => Some(u64::from(view.workers.alive)),
-        (Metric::Workers, _) => Some(u64::from(view.workers.all)),
-        _ => None,
-    }
+/// The row of a metric. `T` is how its words are held: a constant has a name in `specs/` only if no struct in it has a reference.
+#[derive(Clone, Copy)]
+pub struct Row<T> {
+    /// Its name: with its unit, and `_total` at the end for a counter.
+    pub name: T,
+    /// How it changes.
+    pub kind: MetricKind,
+    /// What its samples show.
+    pub value: Value,
+    /// What it means.
+    pub help: T,
 }
 
-/// The value of a metric of a function. None if it is not known, or not of a function.
-pub fn function_value(function: &FunctionView, metric: Metric) -> Option<u64>
-    ensures { result ≡ spec.function_value function.now metric }
-{
-    match metric {
-        Metric::FunctionWaiting => Some(u64::from(function.waiting?)),
-        Metric::FunctionRunning => Some(u64::from(function.running?)),
-        Metric::FunctionWorkers => Some(u64::from(function.workers?)),
-        Metric::FunctionLeast => Some(u64::from(function.least)),
-        Metric::FunctionMost => Some(u64::from(function.most?)),
-        Metric::FunctionCompleted => Some(function.jobs?.completed),
-        Metric::FunctionFailed => Some(function.jobs?.failed),
-        Metric::FunctionLost => Some(function.jobs?.lost),
-        _ => None,
-    }
-}
+/// A metric.
+pub type Metric = Row<&'static str>;
 
-/// The value of a metric of a host. None if it is not known, or not of a host.
-pub fn host_value(host: &HostView, metric: Metric) -> Option<u64>
-    ensures { result ≡ spec.host_value host.now metric }
-{
-    match metric {
-        Metric::HostReached => Some(u64::from(host.unreached.is_none())),
-        Metric::HostAlive => Some(u64::from(host.alive?)),
-        Metric::HostWorkers => Some(u64::from(host.all)),
-        _ => None,
-    }
-}
+/// All metrics, in the order in which they are told.
+pub static METRICS: [Metric; 20] = [
+    Row {
+        name: "poolman_attempts_total",
+        kind: MetricKind::Counter,
+        value: Value::Farm(FarmNumber::Attempts),
+        help: "Attempts to plan.",
+    },
+    Row {
+        name: "poolman_has_plan",
+        kind: MetricKind::Gauge,
+        value: Value::Farm(FarmNumber::HasPlan),
+        help: "1 if the last attempt led to a plan, else 0.",
+    },
+    Row {
+        name: "poolman_backlog_jobs",
+        kind: MetricKind::Gauge,
+        value: Value::Farm(FarmNumber::Backlog),
+        help: "Jobs that wait for each worker of a function, at most.",
+    },
+    Row {
+        name: "poolman_unserved_jobs",
+        kind: MetricKind::Gauge,
+        value: Value::Farm(FarmNumber::Unserved),
+        help: "Jobs that wait for a function that workers alive may do and none does, at most.",
+    },
+    Row {
+        name: "poolman_is_late",
+        kind: MetricKind::Gauge,
+        value: Value::Farm(FarmNumber::IsLate),
+        help: "1 if the farm goes on and its last attempt is older than three rounds, else 0.",
+    },
+    Row {
+        name: "poolman_is_ending",
+        kind: MetricKind::Gauge,
+        value: Value::Farm(FarmNumber::IsEnding),
+        help: "1 if the farm is to end, else 0.",
+    },
+    Row {
+        name: "poolman_alive_workers",
+        kind: MetricKind::Gauge,
+        value: Value::Farm(FarmNumber::AliveWorkers),
+        help: "Workers alive.",
+    },
+    Row {
+        name: "poolman_workers",
+        kind: MetricKind::Gauge,
+        value: Value::Farm(FarmNumber::Workers),
+        help: "Workers of the settings.",
+    },
+    Row {
+        name: "poolman_function_waiting_jobs",
+        kind: MetricKind::Gauge,
+        value: Value::Function(FunctionNumber::Waiting),
+        help: "Jobs that wait for a worker.",
+    },
+    Row {
+        name: "poolman_function_running_jobs",
+        kind: MetricKind::Gauge,
+        value: Value::Function(FunctionNumber::Running),
+        help: "Jobs that a worker has.",
+    },
+    Row {
+        name: "poolman_function_workers",
+        kind: MetricKind::Gauge,
+        value: Value::Function(FunctionNumber::Workers),
+        help: "Workers that do the function.",
+    },
+    Row {
+        name: "poolman_function_least_workers",
+        kind: MetricKind::Gauge,
+        value: Value::Function(FunctionNumber::Least),
+        help: "Workers that are to do the function at least.",
+    },
+    Row {
+        name: "poolman_function_most_workers",
+        kind: MetricKind::Gauge,
+        value: Value::Function(FunctionNumber::Most),
+        help: "Workers that may do the function at most.",
+    },
+    Row {
+        name: "poolman_function_completed_jobs_total",
+        kind: MetricKind::Counter,
+        value: Value::Function(FunctionNumber::Completed),
+        help: "Jobs that were answered with a result.",
+    },
+    Row {
+        name: "poolman_function_failed_jobs_total",
+        kind: MetricKind::Counter,
+        value: Value::Function(FunctionNumber::Failed),
+        help: "Jobs that were answered with a failure.",
+    },
+    Row {
+        name: "poolman_function_lost_jobs_total",
+        kind: MetricKind::Counter,
+        value: Value::Function(FunctionNumber::Lost),
+        help: "Jobs whose worker ended without an answer.",
+    },
+    Row {
+        name: "poolman_host_reached",
+        kind: MetricKind::Gauge,
+        value: Value::Host(HostNumber::Reached),
+        help: "1 if the host is reached, else 0.",
+    },
+    Row {
+        name: "poolman_host_alive_workers",
+        kind: MetricKind::Gauge,
+        value: Value::Host(HostNumber::Alive),
+        help: "Workers of the host that are alive.",
+    },
+    Row {
+        name: "poolman_host_workers",
+        kind: MetricKind::Gauge,
+        value: Value::Host(HostNumber::Workers),
+        help: "Workers of the host by the settings.",
+    },
+    Row {
+        name: "poolman_ended_workers_total",
+        kind: MetricKind::Counter,
+        value: Value::Cause,
+        help: "Workers that ended, by cause.",
+    },
+];

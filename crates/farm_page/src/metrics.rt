@@ -2,220 +2,157 @@
 
 ghost use Rattle.std.specs.Prelude.{◌≡◌, ◌++◌, IfOk, OnOk};
 ghost use Rattle.std.specs.List.{flat_map};
+ghost use Rattle.farm_page.specs.Metric as rows;
 ghost use Rattle.farm_page.specs.Metrics as spec;
 
 use crate::health::Moment;
-use crate::metric::{Metric, farm_value, function_value, host_value};
+use crate::measured::{FunctionNumber, HostNumber, farm_value, function_value, host_value};
+use crate::metric::{METRICS, Metric, Value};
 use crate::view::{EndView, FarmView, FunctionView, HostView};
 use crate::writing::{put_label, put_number, put_text};
 use std::alloc::{AllocError, Global};
 
-/// The metrics of a farm.
-const OF_FARM: [Metric; 8] = [
-    Metric::Attempts,
-    Metric::HasPlan,
-    Metric::Backlog,
-    Metric::Unserved,
-    Metric::IsLate,
-    Metric::IsEnding,
-    Metric::AliveWorkers,
-    Metric::Workers,
-];
-
-/// The metrics of a function.
-const OF_FUNCTION: [Metric; 8] = [
-    Metric::FunctionWaiting,
-    Metric::FunctionRunning,
-    Metric::FunctionWorkers,
-    Metric::FunctionLeast,
-    Metric::FunctionMost,
-    Metric::FunctionCompleted,
-    Metric::FunctionFailed,
-    Metric::FunctionLost,
-];
-
-/// The metrics of a host.
-const OF_HOST: [Metric; 3] = [Metric::HostReached, Metric::HostAlive, Metric::HostWorkers];
-
 /// Adds a line that tells something of a metric.
-fn put_told(out: &mut Vec<u8>, lead: &str, metric: Metric, words: &str) -> Result<(), AllocError>
-    ensures { OnOk result (out.new.items ≡ out.old.items ++ spec.told lead.now metric words.now) }
+fn put_told(out: &mut Vec<u8>, lead: &str, metric: &Metric, words: &str) -> Result<(), AllocError>
+    ensures { OnOk result (out.new.items ≡ out.old.items ++ spec.told lead.now (rows.metric_view metric.now) words.now) }
 {
     put_text(out, lead)?;
-    put_text(out, metric.name())?;
+    put_text(out, metric.name)?;
     put_text(out, " ")?;
     put_text(out, words)?;
     put_text(out, "\n")
 }
 
 /// Adds what a metric means, and its type.
-fn put_head(out: &mut Vec<u8>, metric: Metric) -> Result<(), AllocError>
-    ensures { OnOk result (out.new.items ≡ out.old.items ++ spec.head metric) }
+fn put_head(out: &mut Vec<u8>, metric: &Metric) -> Result<(), AllocError>
+    ensures { OnOk result (out.new.items ≡ out.old.items ++ spec.head (rows.metric_view metric.now)) }
 {
-    put_told(out, "# HELP ", metric, metric.help())?;
-    put_told(out, "# TYPE ", metric, metric.kind().name())
+    put_told(out, "# HELP ", metric, metric.help)?;
+    put_told(out, "# TYPE ", metric, metric.kind.name())
 }
 
-/// A sample of one function, host or cause.
-#[derive(Clone, Copy)]
-struct Labelled<'l> {
-    metric: Metric,
-    label: &'static str,
-    named: &'l str,
-}
-
-/// Adds a sample with its label.
-fn put_labelled(out: &mut Vec<u8>, sample: &Labelled<'_>, value: u64) -> Result<(), AllocError>
-    ensures { OnOk result (out.new.items
-        ≡ out.old.items ++ spec.labelled sample.now.metric sample.now.label.now sample.now.named.now value) }
+/// Adds a sample with its label: that of the function, host or cause of this name.
+fn put_labelled(
+    out: &mut Vec<u8>,
+    metric: &Metric,
+    named: &str,
+    value: u64,
+) -> Result<(), AllocError>
+    ensures { OnOk result (out.new.items ≡ out.old.items ++ spec.labelled (rows.metric_view metric.now) named.now value) }
 {
-    put_text(out, sample.metric.name())?;
+    put_text(out, metric.name)?;
     put_text(out, "{")?;
-    put_text(out, sample.label)?;
+    put_text(out, metric.value.label())?;
     put_text(out, "=\"")?;
-    put_label(out, sample.named.as_bytes())?;
+    put_label(out, named.as_bytes())?;
     put_text(out, "\"} ")?;
     put_number(out, value)?;
     put_text(out, "\n")
 }
 
-/// Adds a metric of the farm, if it has a value.
-fn put_of_farm(
+/// Adds a sample with its label, if its number is known.
+fn put_labelled_if(
     out: &mut Vec<u8>,
-    view: &FarmView,
-    moment: Moment,
-    metric: Metric,
+    metric: &Metric,
+    named: &str,
+    value: Option<u64>,
 ) -> Result<(), AllocError>
-    ensures { OnOk result (out.new.items ≡ out.old.items ++ spec.farm_family view.now moment metric) }
+    ensures { OnOk result (out.new.items ≡ out.old.items ++ spec.labelled_if (rows.metric_view metric.now) named.now value) }
 {
-    let Some(value) = farm_value(view, moment, metric) else {
+    match value {
+        Some(value) => put_labelled(out, metric, named, value),
+        None => Ok(()),
+    }
+}
+
+/// Adds a metric of the farm, if it has a value.
+fn put_of_farm(out: &mut Vec<u8>, metric: &Metric, value: Option<u64>) -> Result<(), AllocError>
+    ensures { OnOk result (out.new.items ≡ out.old.items ++ spec.farm_family (rows.metric_view metric.now) value) }
+{
+    let Some(value) = value else {
         return Ok(());
     };
     put_head(out, metric)?;
-    put_text(out, metric.name())?;
+    put_text(out, metric.name)?;
     put_text(out, " ")?;
     put_number(out, value)?;
     put_text(out, "\n")
 }
 
-/// Adds metrics of the farm.
-fn put_farm(
+/// Adds a metric of each function.
+fn put_of_functions(
+    out: &mut Vec<u8>,
+    metric: &Metric,
+    number: FunctionNumber,
+    functions: &[FunctionView],
+) -> Result<(), AllocError>
+    ensures { OnOk result (out.new.items
+        ≡ out.old.items ++ spec.function_family (rows.metric_view metric.now) number functions.now) }
+{
+    put_head(out, metric)?;
+    for function in functions {
+        let value = function_value(function, number);
+        put_labelled_if(out, metric, function.name.as_str(), value)?;
+    }
+    Ok(())
+}
+
+/// Adds a metric of each host.
+fn put_of_hosts(
+    out: &mut Vec<u8>,
+    metric: &Metric,
+    number: HostNumber,
+    hosts: &[HostView],
+) -> Result<(), AllocError>
+    ensures { OnOk result (out.new.items ≡ out.old.items ++ spec.host_family (rows.metric_view metric.now) number hosts.now) }
+{
+    put_head(out, metric)?;
+    for host in hosts {
+        let value = host_value(host, number);
+        put_labelled_if(out, metric, host.name.as_str(), value)?;
+    }
+    Ok(())
+}
+
+/// Adds how many workers ended, by cause.
+fn put_ends(out: &mut Vec<u8>, metric: &Metric, ends: &[EndView]) -> Result<(), AllocError>
+    ensures { OnOk result (out.new.items ≡ out.old.items ++ spec.ends_family (rows.metric_view metric.now) ends.now) }
+{
+    put_head(out, metric)?;
+    for end in ends {
+        put_labelled(out, metric, end.cause.as_str(), end.count)?;
+    }
+    Ok(())
+}
+
+/// Adds a metric with all its samples.
+fn put_metric(
+    out: &mut Vec<u8>,
+    view: &FarmView,
+    moment: Moment,
+    metric: &Metric,
+) -> Result<(), AllocError>
+    ensures { OnOk result (out.new.items ≡ out.old.items ++ spec.family view.now moment (rows.metric_view metric.now)) }
+{
+    match metric.value {
+        Value::Farm(number) => put_of_farm(out, metric, farm_value(view, moment, number)),
+        Value::Function(number) => put_of_functions(out, metric, number, &view.functions),
+        Value::Host(number) => put_of_hosts(out, metric, number, &view.hosts),
+        Value::Cause => put_ends(out, metric, &view.ends),
+    }
+}
+
+/// Adds metrics.
+fn put_metrics(
     out: &mut Vec<u8>,
     view: &FarmView,
     moment: Moment,
     metrics: &[Metric],
 ) -> Result<(), AllocError>
-    ensures { OnOk result (out.new.items ≡ out.old.items ++ flat_map (spec.farm_family view.now moment) metrics.now) }
+    ensures { OnOk result (out.new.items ≡ out.old.items ++ flat_map (spec.family view.now moment) (rows.metrics_view metrics.now)) }
 {
     for metric in metrics {
-        put_of_farm(out, view, moment, *metric)?;
-    }
-    Ok(())
-}
-
-/// Adds the sample of a function, if it has one.
-fn put_of_function(
-    out: &mut Vec<u8>,
-    function: &FunctionView,
-    metric: Metric,
-) -> Result<(), AllocError>
-    ensures { OnOk result (out.new.items ≡ out.old.items ++ spec.function_sample metric function.now) }
-{
-    let Some(value) = function_value(function, metric) else {
-        return Ok(());
-    };
-    let sample = Labelled {
-        metric,
-        label: "function",
-        named: function.name.as_str(),
-    };
-    put_labelled(out, &sample, value)
-}
-
-/// Adds a metric of each function.
-fn put_of_functions(
-    out: &mut Vec<u8>,
-    functions: &[FunctionView],
-    metric: Metric,
-) -> Result<(), AllocError>
-    ensures { OnOk result (out.new.items ≡ out.old.items ++ spec.function_family functions.now metric) }
-{
-    put_head(out, metric)?;
-    for function in functions {
-        put_of_function(out, function, metric)?;
-    }
-    Ok(())
-}
-
-/// Adds metrics of the functions.
-fn put_functions(
-    out: &mut Vec<u8>,
-    functions: &[FunctionView],
-    metrics: &[Metric],
-) -> Result<(), AllocError>
-    ensures { OnOk result (out.new.items ≡ out.old.items ++ flat_map (spec.function_family functions.now) metrics.now) }
-{
-    for metric in metrics {
-        put_of_functions(out, functions, *metric)?;
-    }
-    Ok(())
-}
-
-/// Adds the sample of a host, if it has one.
-fn put_of_host(out: &mut Vec<u8>, host: &HostView, metric: Metric) -> Result<(), AllocError>
-    ensures { OnOk result (out.new.items ≡ out.old.items ++ spec.host_sample metric host.now) }
-{
-    let Some(value) = host_value(host, metric) else {
-        return Ok(());
-    };
-    let sample = Labelled {
-        metric,
-        label: "host",
-        named: host.name.as_str(),
-    };
-    put_labelled(out, &sample, value)
-}
-
-/// Adds a metric of each host.
-fn put_of_hosts(out: &mut Vec<u8>, hosts: &[HostView], metric: Metric) -> Result<(), AllocError>
-    ensures { OnOk result (out.new.items ≡ out.old.items ++ spec.host_family hosts.now metric) }
-{
-    put_head(out, metric)?;
-    for host in hosts {
-        put_of_host(out, host, metric)?;
-    }
-    Ok(())
-}
-
-/// Adds metrics of the hosts.
-fn put_hosts(out: &mut Vec<u8>, hosts: &[HostView], metrics: &[Metric]) -> Result<(), AllocError>
-    ensures { OnOk result (out.new.items ≡ out.old.items ++ flat_map (spec.host_family hosts.now) metrics.now) }
-{
-    for metric in metrics {
-        put_of_hosts(out, hosts, *metric)?;
-    }
-    Ok(())
-}
-
-/// Adds how many workers ended for a cause.
-fn put_end(out: &mut Vec<u8>, end: &EndView) -> Result<(), AllocError>
-    ensures { OnOk result (out.new.items ≡ out.old.items ++ spec.end_sample end.now) }
-{
-    let sample = Labelled {
-        metric: Metric::EndedWorkers,
-        label: "cause",
-        named: end.cause.as_str(),
-    };
-    put_labelled(out, &sample, end.count)
-}
-
-/// Adds how many workers ended, by cause.
-fn put_ends(out: &mut Vec<u8>, ends: &[EndView]) -> Result<(), AllocError>
-    ensures { OnOk result (out.new.items ≡ out.old.items ++ spec.ends_family ends.now) }
-{
-    put_head(out, Metric::EndedWorkers)?;
-    for end in ends {
-        put_end(out, end)?;
+        put_metric(out, view, moment, metric)?;
     }
     Ok(())
 }
@@ -226,9 +163,6 @@ pub fn metrics_text(alloc: Global, view: &FarmView, moment: Moment) -> Result<Ve
     ensures { IfOk result (λ text. text.items ≡ spec.metrics_text view.now moment) }
 {
     let mut out = Vec::new(alloc);
-    put_farm(&mut out, view, moment, &OF_FARM)?;
-    put_functions(&mut out, &view.functions, &OF_FUNCTION)?;
-    put_hosts(&mut out, &view.hosts, &OF_HOST)?;
-    put_ends(&mut out, &view.ends)?;
+    put_metrics(&mut out, view, moment, &METRICS)?;
     Ok(out)
 }

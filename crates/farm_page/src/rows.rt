@@ -7,7 +7,7 @@ use crate::cells::{
     Gap, Mark, put_bar_if, put_cell, put_cell_if, put_fault_cell, put_gap, put_row_name, put_words,
 };
 use crate::markup::Markup;
-use crate::metric::{Metric, function_value, host_value};
+use crate::measured::{FunctionNumber, HostNumber, function_value, host_value};
 use crate::view::{EndView, FailureEnd, FailureView, FunctionView, HostView};
 use std::alloc::AllocError;
 
@@ -52,8 +52,8 @@ fn put_workers_cell(out: &mut Markup, function: &FunctionView) -> Result<(), All
 fn put_workers(out: &mut Markup, function: &FunctionView, all: u32) -> Result<(), AllocError>
     ensures { OnOk result (out.new ≡ out.old ++ spec.workers_cells function.now all) }
 {
-    let waiting = function_value(function, Metric::FunctionWaiting);
-    let running = function_value(function, Metric::FunctionRunning);
+    let waiting = function_value(function, FunctionNumber::Waiting);
+    let running = function_value(function, FunctionNumber::Running);
     put_cell_if(out, waiting, Gap::Unknown)?;
     put_cell_if(out, waiting_per_worker(function), Gap::Unknown)?;
     put_cell_if(out, running, Gap::Unknown)?;
@@ -65,9 +65,9 @@ fn put_workers(out: &mut Markup, function: &FunctionView, all: u32) -> Result<()
 fn put_jobs(out: &mut Markup, function: &FunctionView) -> Result<(), AllocError>
     ensures { OnOk result (out.new ≡ out.old ++ spec.jobs_cells function.now) }
 {
-    let completed = function_value(function, Metric::FunctionCompleted);
-    let failed = function_value(function, Metric::FunctionFailed);
-    let lost = function_value(function, Metric::FunctionLost);
+    let completed = function_value(function, FunctionNumber::Completed);
+    let failed = function_value(function, FunctionNumber::Failed);
+    let lost = function_value(function, FunctionNumber::Lost);
     put_cell_if(out, completed, Gap::Unknown)?;
     put_fault_cell(out, failed)?;
     put_fault_cell(out, lost)
@@ -77,7 +77,7 @@ fn put_jobs(out: &mut Markup, function: &FunctionView) -> Result<(), AllocError>
 pub fn put_function(out: &mut Markup, function: &FunctionView, all: u32) -> Result<(), AllocError>
     ensures { OnOk result (out.new ≡ out.old ++ spec.function_row all function.now) }
 {
-    let most = function_value(function, Metric::FunctionMost);
+    let most = function_value(function, FunctionNumber::Most);
     put_row_name(out, function.name.as_str())?;
     put_workers(out, function, all)?;
     put_cell(out, Mark::Plain, u64::from(function.least))?;
@@ -109,7 +109,7 @@ fn put_reached(out: &mut Markup, host: &HostView) -> Result<(), AllocError>
 pub fn put_host(out: &mut Markup, host: &HostView) -> Result<(), AllocError>
     ensures { OnOk result (out.new ≡ out.old ++ spec.host_row host.now) }
 {
-    let alive = host_value(host, Metric::HostAlive);
+    let alive = host_value(host, HostNumber::Alive);
     put_row_name(out, host.name.as_str())?;
     put_cell_if(out, alive, Gap::Unknown)?;
     put_cell(out, Mark::Plain, u64::from(host.all))?;

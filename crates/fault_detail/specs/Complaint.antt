@@ -3,22 +3,25 @@ use Rattle.std.specs.Prelude.{◌≡◌, ◌⊎◌, ℕ, List, [], ◌∷◌, �
 use Rattle.byte_io.specs.Sides.{HasPrefix, HasText, Output}
 use Rattle.plan_commands.specs.Fault.{fault_line}
 use Rattle.plan_commands.specs.declared.fault.Fault.{Fault}
-use Rattle.plan_commands.specs.declared.fault.Fault.TheVariants.{Memory}
 use Rattle.fault_detail.specs.Detail.{IsDetail, Names}
 use Rattle.fault_detail.specs.declared.complaint.Reader.{Reader}
 use Rattle.fault_detail.specs.declared.complaint.Reader.TheVariants as reader
 
+-- a write failed, and the sink has a prefix of the text
+abbrev pub IsCut : Output → List ℕ → Output → Type 0
+IsCut old text new = (count : ℕ) × HasPrefix old text count new
+
 -- A sink has the text, or a prefix of it if a write failed.
 abbrev pub SaysLine : List ℕ → Output → Output → Type 0
-SaysLine text old new = HasText old text new ⊎ ((count : ℕ) × HasPrefix old text count new)
+SaysLine text old new = HasText old text new ⊎ IsCut old text new
 
 -- the line of a fault, as error output shows it
 abbrev pub fault_text : Fault → List ℕ
 fault_text fault = codes "poolman: " ++ fault_line fault ++ 10 ∷ []
 
--- Error output has the line of the fault; or that of out of memory, if there is none for the line.
+-- Error output has the line of the fault.
 abbrev pub Complains : Fault → Output → Output → Type 0
-Complains fault old new = SaysLine (fault_text fault) old new ⊎ SaysLine (fault_text Memory) old new
+Complains fault old new = SaysLine (fault_text fault) old new
 
 -- Error output has a line that says what the fault is about. Or there is no memory for that line, and it has nothing.
 abbrev pub TellsMore : Names → Fault → Output → Output → Type 0

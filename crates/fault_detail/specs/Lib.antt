@@ -1,2 +1,3 @@
 pub mod Complaint
 pub mod Detail
+pub mod Pieces

@@ -6,7 +6,8 @@ ghost use Rattle.fault_detail.specs.Detail.{names_of};
 
 use crate::detail::detail_line;
 use crate::given::Given;
-use byte_io::{Sink, give_all};
+use crate::giving::{give, give_line};
+use byte_io::Sink;
 use plan_commands::Fault;
 use std::alloc::Global;
 
@@ -32,7 +33,7 @@ pub fn tell<E: Sink>(
 {
     match reader {
         Reader::Program => {
-            complain(alloc, fault, errors);
+            complain(fault, errors);
         }
         Reader::Person => tell_person(alloc, given, fault, errors),
     }
@@ -43,7 +44,7 @@ fn tell_person<E: Sink>(alloc: Global, given: &Given<'_>, fault: &Fault, errors:
     requires { (E.output errors.old).failures < 2 ^ 64 - 1 }
     ensures { spec.TellsPerson (names_of given.now) fault.now (E.output errors.old) (E.output errors.new) }
 {
-    let is_whole = complain(alloc, fault, errors);
+    let is_whole = complain(fault, errors);
     if is_whole {
         tell_more(alloc, given, fault, errors);
     }
@@ -59,16 +60,13 @@ fn tell_more<E: Sink>(alloc: Global, given: &Given<'_>, fault: &Fault, errors: &
     }
 }
 
-/// Writes the line of a fault; if there is no memory for it, that there is none. Returns whether the line went out whole.
-pub fn complain<E: Sink>(alloc: Global, fault: &Fault, errors: &mut E) -> bool
+/// Writes the line of a fault, which takes no memory. Returns whether the line went out whole.
+pub fn complain<E: Sink>(fault: &Fault, errors: &mut E) -> bool
     requires { (E.output errors.old).failures < 2 ^ 64 - 1 }
     ensures complains { spec.Complains fault.now (E.output errors.old) (E.output errors.new) }
     ensures whole { IsTrue result → (E.output errors.new).failures ≡ (E.output errors.old).failures }
 {
-    match format!(in alloc; "poolman: {fault}\n") {
-        Ok(line) => say(errors, line.as_bytes()),
-        Err(_) => say(errors, b"poolman: memory\n"),
-    }
+    give_line(errors, fault).is_ok()
 }
 
 /// Writes a text, or a prefix of it if a write fails, which cannot be reported. Returns whether the text went out whole.
@@ -77,5 +75,5 @@ pub fn say<E: Sink>(errors: &mut E, text: &[u8]) -> bool
     ensures says { spec.SaysLine text.now (E.output errors.old) (E.output errors.new) }
     ensures whole { IsTrue result → (E.output errors.new).failures ≡ (E.output errors.old).failures }
 {
-    give_all(errors, text).is_ok()
+    give(errors, text).is_ok()
 }

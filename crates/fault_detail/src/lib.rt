@@ -4,6 +4,8 @@
 mod complaint;
 mod detail;
 mod given;
+mod giving;
+mod pieces;
 mod sentence;
 mod wanted;
 mod wanted_services;

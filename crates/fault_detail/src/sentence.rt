@@ -1,6 +1,6 @@
 //! A fault in a sentence.
 
-use crate::wanted::wanted;
+use crate::wanted::wanted_of_settings;
 use crate::wanted_services::wanted_of_services;
 use devices::InputError;
 use plan_commands::{Fault, Mistake, ServicesMistake};
@@ -8,7 +8,7 @@ use std::alloc::{AllocError, Global};
 
 /// What is wrong with the settings, what is wanted in its place, and what the file has there.
 fn of_mistake(alloc: Global, mistake: &Mistake) -> Result<String, AllocError> {
-    match (wanted(mistake), &mistake.found) {
+    match (wanted_of_settings(mistake), &mistake.found) {
         (Some(words), Some(found)) => format!(in alloc; "{} ({words}, not {found})", mistake.error),
         (Some(words), None) => format!(in alloc; "{} ({words})", mistake.error),
         (None, Some(found)) => format!(in alloc; "{} ({found})", mistake.error),

@@ -1,45 +1,31 @@
 //! What the services may have, if a mistake breaks a bound.
 
+use crate::wanted::wanted_at;
+use file_keys::KeyValue;
 use plan_commands::ServicesMistake;
 use pool_settings::{Place, Section};
-use service_settings::{ServicesError, ServicesPlace};
+use service_settings::{
+    FUNCTION_KEYS, MACHINE_KEYS, PAGE_KEYS, ServicesError, ServicesPlace, TOP_KEYS,
+};
 
 /// What is wanted in the place of the mistake, if the refusal does not say it: a range or a type.
-pub fn wanted_of_services(mistake: &ServicesMistake) -> Option<&'static str> {
+pub fn wanted_of_services(mistake: &ServicesMistake) -> Option<KeyValue> {
     match mistake.error {
         ServicesError::BadValue => Some(wanted_value(&mistake.place)),
         _ => None,
     }
 }
 
-fn wanted_value(place: &ServicesPlace<String>) -> &'static str {
+fn wanted_value(place: &ServicesPlace<String>) -> KeyValue {
     match place {
-        ServicesPlace::At(Place::Key(key)) => wanted_at(key.as_str()),
-        ServicesPlace::At(Place::EntryKey(Section::Functions, _, _)) => {
-            "a number from 1 to 4294967295 is wanted"
+        ServicesPlace::At(Place::Key(key)) => wanted_at(&TOP_KEYS, key.as_str()),
+        ServicesPlace::At(Place::EntryKey(Section::Functions, _, key)) => {
+            wanted_at(&FUNCTION_KEYS, key.as_str())
         }
-        ServicesPlace::At(Place::EntryKey(Section::Machines, _, _)) => "a text is wanted",
-        ServicesPlace::At(_) => "a table is wanted",
-        ServicesPlace::PageKey(key) => wanted_of_page(key.as_str()),
-    }
-}
-
-/// What is wanted at a key of the top table.
-fn wanted_at(key: &str) -> &'static str {
-    if key == "url" {
-        "a text is wanted"
-    } else if key == "connect_ms" {
-        "a number from 1 to 60000 is wanted"
-    } else {
-        "a table is wanted"
-    }
-}
-
-/// What is wanted at a key of the page.
-fn wanted_of_page(key: &str) -> &'static str {
-    if key == "listen" {
-        "an address and a port from 1 to 65535 are wanted, as 127.0.0.1:4780"
-    } else {
-        "a list of names or addresses is wanted"
+        ServicesPlace::At(Place::EntryKey(Section::Machines, _, key)) => {
+            wanted_at(&MACHINE_KEYS, key.as_str())
+        }
+        ServicesPlace::At(_) => KeyValue::Table,
+        ServicesPlace::PageKey(key) => wanted_at(&PAGE_KEYS, key.as_str()),
     }
 }

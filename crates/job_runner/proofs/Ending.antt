@@ -18,22 +18,29 @@ use Rattle.job_runner.specs.Ends.{loss_of}
 use Rattle.job_runner.specs.Run.{FailsAs, Link, Lost, Served, Reason, tally_of}
 use Rattle.byte_io.specs.Sides.{and_then}
 use Rattle.job_runner.specs.Loop.{Halts}
+use Rattle.job_runner.specs.Acting.{account, bytes_by}
 use Rattle.job_runner.specs.Path.{Ended}
+use Rattle.job_runner.proofs.Law.{answers_follow}
 
-ends_lost : (duty : Duty) (bytes : List ℕ) (told : List Telling) (taken : List AssignedJob) (t : Tally) (b : Ledger) (reason : EndCause) (c : Cause) → Ends duty bytes told taken t b reason → Ends duty bytes told taken t (after_loss b c) reason
-ends_lost duty bytes told taken t b reason c e = record {
-  answered = e.answered;
-  begun = e.begun;
-  unwritten = e.unwritten;
+-- a loss is no part of a path
+path_lost : (session : Session) (told : List Telling) (t : Tally) (written : Option (List ℕ)) (b : Ledger) (reason : EndCause) (c : Cause) → Ended session told (account t written b) reason → Ended session told (account t written (after_loss b c)) reason
+path_lost session told t written b reason c e = record {
+  events = e.events;
+  sent = e.sent;
+  at = e.at;
+  path = e.path;
+  met = e.met;
+  packets = e.packets;
+  last = e.last;
+  reach = e.reach;
+  reached = e.reached;
+  written_is = e.written_is;
+  each_sent = e.each_sent;
   later = e.later;
+  messages_are = e.messages_are;
+  all_met = e.all_met;
+  orders_are = e.orders_are;
   told_are = e.told_are;
-  undone = e.undone;
-  in_order = e.in_order;
-  booked = e.booked;
-  cut = e.cut;
-  whole = e.whole;
-  proper = e.proper;
-  introduced = e.introduced;
   chain = record {
     answered_is = e.chain.answered_is;
     reported = e.chain.reported;
@@ -43,27 +50,7 @@ ends_lost duty bytes told taken t b reason c e = record {
     grabs = e.chain.grabs;
     reports = e.chain.reports;
   };
-}
-
-path_lost : (session : Session) (written : Option (List ℕ)) (b : Ledger) (reason : EndCause) (c : Cause) → Ended session written b reason → Ended session written (after_loss b c) reason
-path_lost session written b reason c e = record {
-  events = e.events;
-  sent = e.sent;
-  at = e.at;
-  path = e.path;
-  met = e.met;
-  packets = e.packets;
-  last = e.last;
-  part = e.part;
-  lost = e.lost;
-  parts = e.parts;
-  cut = e.cut;
-  proper = e.proper;
-  written_is = e.written_is;
-  later = e.later;
-  messages_are = e.messages_are;
-  all_met = e.all_met;
-  orders_are = e.orders_are;
+  booked = e.booked;
 }
 
 -- ---- what was written, read again
@@ -118,42 +105,36 @@ one_where_asked law duty bytes told taken t b reason e before after p same asked
 abbrev pub Promised : Duty → (EndCause → List Telling → Type 0) → List ℕ → Option (List ℕ) → Link → Link → Ledger → SessionEnd → Type 0
 Promised duty End read before old new book e = (bytes : List ℕ) × (told : List Telling) × (new.output.got ≡ and_then before bytes) × End e.cause told × Served (session_of duty before read) told bytes old new book e
 
+-- all of it follows from the path
+promised : SaysItsPackets → (duty : Duty) (End : EndCause → List Telling → Type 0) (read : List ℕ) (before : Option (List ℕ)) (old new : Link) (b : Ledger) (e : SessionEnd) (told : List Telling) → End e.cause told
+    → Ended (session_of duty before read) told (account (tally_of e) new.output.got b) e.cause → Reason (session_of duty before read) old new (tally_of e) b e.cause → FailsAs old new e.cause → Lost (loss_of e.cause) b → Promised duty End read before old new b e
+promised law duty End read before old new b e told ran path reason faults lost =
+    let bytes = text_of path.sent ++ bytes_by path.reach path.packets in
+    let ends : Ends duty bytes told (assignments read) (tally_of e) b e.cause = answers_follow (session_of duty before read) told (account (tally_of e) new.output.got b) e.cause path in (
+      bytes,
+      told,
+      path.written_is,
+      ran,
+      record {
+        ends = ends;
+        whole = read_again law duty bytes told (assignments read) (tally_of e) b e.cause ends;
+        work = work_done law duty bytes told (assignments read) (tally_of e) b e.cause ends;
+        registers = one_registered law duty bytes told (assignments read) (tally_of e) b e.cause ends;
+        asking = one_where_asked law duty bytes told (assignments read) (tally_of e) b e.cause ends;
+        path = path;
+        reason = reason;
+        faults = faults;
+        lost = lost;
+      },
+    )
+
 -- with no loss
 pub promised_kept : SaysItsPackets → (duty : Duty) (End : EndCause → List Telling → Type 0) (read : List ℕ) (before : Option (List ℕ)) (old new : Link) (b : Ledger) (e : SessionEnd) → Halts (session_of duty before read) End new.output.got (tally_of e) b e.cause × Reason (session_of duty before read) old new (tally_of e) b e.cause → FailsAs old new e.cause → b.losses ≡ 0 → loss_of e.cause ≡ None → Promised duty End read before old new b e
-promised_kept law duty End read before old new b e ran faults none is = (
-  ran.0.bytes,
-  ran.0.told,
-  ran.0.at,
-  ran.0.ran,
-  record {
-    ends = ran.0.ends;
-    whole = read_again law duty ran.0.bytes ran.0.told (assignments read) (tally_of e) b e.cause ran.0.ends;
-    work = work_done law duty ran.0.bytes ran.0.told (assignments read) (tally_of e) b e.cause ran.0.ends;
-    registers = one_registered law duty ran.0.bytes ran.0.told (assignments read) (tally_of e) b e.cause ran.0.ends;
-    asking = one_where_asked law duty ran.0.bytes ran.0.told (assignments read) (tally_of e) b e.cause ran.0.ends;
-    path = ran.0.ended;
-    reason = ran.1;
-    faults = faults;
-    lost = subst (λ (o : Option Cause). Lost o b) (sym is) none;
-  },
-)
+promised_kept law duty End read before old new b e ran faults none is =
+    promised law duty End read before old new b e ran.0.told ran.0.ran ran.0.ended ran.1 faults (subst (λ (o : Option Cause). Lost o b) (sym is) none)
 
 -- with one
 pub promised_lost : SaysItsPackets → (duty : Duty) (End : EndCause → List Telling → Type 0) (read : List ℕ) (before : Option (List ℕ)) (old new : Link) (b after : Ledger) (e : SessionEnd) (c : Cause) → Halts (session_of duty before read) End new.output.got (tally_of e) b e.cause × Reason (session_of duty before read) old new (tally_of e) b e.cause → FailsAs old new e.cause → b.losses ≡ 0 → loss_of e.cause ≡ Some c → after ≡ after_loss b c → Promised duty End read before old new after e
-promised_lost law duty End read before old new b after e c ran faults none is same = subst (λ (x : Ledger). Promised duty End read before old new x e) (sym same) (
-  ran.0.bytes,
-  ran.0.told,
-  ran.0.at,
-  ran.0.ran,
-  record {
-    ends = ends_lost duty ran.0.bytes ran.0.told (assignments read) (tally_of e) b e.cause c ran.0.ends;
-    whole = read_again law duty ran.0.bytes ran.0.told (assignments read) (tally_of e) (after_loss b c) e.cause (ends_lost duty ran.0.bytes ran.0.told (assignments read) (tally_of e) b e.cause c ran.0.ends);
-    work = work_done law duty ran.0.bytes ran.0.told (assignments read) (tally_of e) b e.cause ran.0.ends;
-    registers = one_registered law duty ran.0.bytes ran.0.told (assignments read) (tally_of e) (after_loss b c) e.cause (ends_lost duty ran.0.bytes ran.0.told (assignments read) (tally_of e) b e.cause c ran.0.ends);
-    asking = one_where_asked law duty ran.0.bytes ran.0.told (assignments read) (tally_of e) (after_loss b c) e.cause (ends_lost duty ran.0.bytes ran.0.told (assignments read) (tally_of e) b e.cause c ran.0.ends);
-    path = path_lost (session_of duty before read) new.output.got b e.cause c ran.0.ended;
-    reason = ran.1;
-    faults = faults;
-    lost = subst (λ (o : Option Cause). Lost o (after_loss b c)) (sym is) (ap (λ (n : ℕ). n + 1) none, refl);
-  },
-)
+promised_lost law duty End read before old new b after e c ran faults none is same = subst (λ (x : Ledger). Promised duty End read before old new x e) (sym same)
+    (promised law duty End read before old new (after_loss b c) e ran.0.told ran.0.ran (path_lost (session_of duty before read) ran.0.told (tally_of e) new.output.got b e.cause c ran.0.ended) ran.1 faults
+    (subst (λ (o : Option Cause). Lost o (after_loss b c)) (sym is) (ap (λ (n : ℕ). n + 1) none, refl)))

@@ -10,13 +10,4 @@ use Rattle.job_runner.specs.Ends.{loss_of, end_label}
 pub gone_label : (end : EndCause) → loss_of end ≡ None → end ≢ cause.Retired → label 2 (codes "Gone") ≡ end_label end
 gone_label cause.Retired kept other = absurd (other refl)
 gone_label cause.Gone kept other = refl
-gone_label cause.BadPacket kept other = absurd cc
-gone_label cause.ServerError kept other = absurd cc
-gone_label cause.ReadFault kept other = absurd cc
-gone_label cause.WriteFault kept other = absurd cc
-gone_label cause.TurnsUsed kept other = absurd cc
-gone_label cause.Memory kept other = absurd cc
-gone_label cause.HistoryFull kept other = absurd cc
-gone_label cause.Closed kept other = absurd cc
-gone_label cause.Stopped kept other = absurd cc
-gone_label cause.Unserved kept other = absurd cc
+gone_label lost kept other = absurd cc

@@ -11,8 +11,10 @@ pub mod Asking
 pub mod Paths
 pub mod Turning
 pub mod Telling
+pub mod Law
 pub mod Ending
 pub mod Replies
 pub mod Changes
 pub mod Tables
 pub mod Names
+pub mod Parts

@@ -1,27 +1,18 @@
 -- Packets that change the function keep one function at a time.
-use Rattle.std.proofs.Common.{◌≡◌, ◌≢◌, ℕ, ◌<◌, ◌≤◌, Bool, true, false, List, [], ◌∷◌, ◌++◌, length, take, drop, Option, Some, None, Ok, Err, refl, sym, ap, subst, ◌∙◌, arith}
+use Rattle.std.proofs.Common.{◌≡◌, ℕ, ◌<◌, ◌≤◌, Bool, true, false, List, [], ◌∷◌, length, Option, Some, None, refl, sym, ap, subst, ◌∙◌, arith}
 use Rattle.std.specs.List.{filter}
 use Rattle.std.specs.Prelude.{IfSome}
 use Rattle.std.specs.Option.{option_to_list}
 use Rattle.std.specs.Cmp.Lexicographic.{same_text}
 use Rattle.std.proofs.lemmas.Bool.{eq-eqb}
-use Rattle.std.proofs.lemmas.List.{append-nil, take-append-drop}
-use Rattle.gear_packets.specs.Request.{Packet, cant_do}
-use Rattle.gear_packets.specs.Response.{AssignedJob}
-use Rattle.gear_packets.specs.Text.{text_of, is_same_name, is_work, register, registered_by}
-use Rattle.job_runner.specs.declared.end.EndCause.{EndCause}
-use Rattle.job_runner.specs.declared.end.EndCause.TheVariants as cause
-use Rattle.job_runner.specs.declared.end.EndCause.TheVariants.{WriteFault, Memory}
+use Rattle.gear_packets.specs.Request.{cant_do}
+use Rattle.gear_packets.specs.Text.{is_same_name, is_work, register, registered_by}
 use Rattle.worker_state.specs.OrderParts.{OrderParts}
 use Rattle.job_runner.specs.declared.answering.Tally.{Tally}
-use Rattle.job_runner.specs.Told.{Telling, jobs_of}
 use Rattle.job_runner.specs.Book.{Ledger, after_order}
-use Rattle.byte_io.specs.Sides.{and_then}
-use Rattle.job_runner.specs.Course.{Duty, OneAtATime, Wrote, Even, Chain, Ends, Sends, obeying, name_of, known, IsServing}
+use Rattle.job_runner.specs.Course.{OneAtATime, Even, Chain, obeying, name_of, known, IsServing}
 use Rattle.job_runner.specs.Following.{phase_with}
-use Rattle.job_runner.proofs.Told.{goes_after}
-use Rattle.job_runner.proofs.Steps.{ends_whole, Leads, wrote_on, cut_on, left_over}
-use Rattle.job_runner.proofs.Exits.{Left}
+use Rattle.job_runner.proofs.Steps.{Leads}
 
 text_self : (text : List ℕ) → is_same_name text text ≡ true
 text_self [] = refl
@@ -90,46 +81,3 @@ even_chain t b n even = record {
   grabs = even.grabs ∙ sym even.grabbed;
   reports = even.reports ∙ sym even.reported;
 }
-
--- an end at rest
-pub ends_at_rest : (duty : Duty) (bytes : List ℕ) (registered : List (List ℕ)) (done : List Telling) (t : Tally) (b : Ledger) (cause : EndCause) → Wrote duty bytes registered done → Even t b (length done) → cause ≢ WriteFault → Ends duty bytes done (jobs_of done) t b cause
-ends_at_rest duty bytes registered done t b cause w even no-fault =
-    let all : done ++ [] ≡ done = append-nil done in
-    subst (λ (x : List Telling). Ends duty bytes x (jobs_of done) t b cause) all
-    (ends_whole duty bytes registered done [] [] (jobs_of done) t b cause w (λ e. refl) (ap jobs_of (sym all) ∙ sym (append-nil (jobs_of (done ++ [])))) (subst (λ (x : List Telling). length x ≤ t.grabbed) (sym all) (omega (arith, even.grabbed))) (even_chain t b (length done) even) no-fault)
-
--- ---- packets that were sent
-
--- whole
-pub sent_whole : (duty : Duty) (before : Option (List ℕ)) (bytes : List ℕ) (old new : Option (List ℕ)) (from to : List (List ℕ)) (packets : List Packet) (done : List Telling) → Sends old new packets (Ok tt) → old ≡ and_then before bytes
-    → Wrote duty bytes from done → Leads from packets to [] → (more : List ℕ) × (new ≡ and_then before more) × Wrote duty more to done
-sent_whole duty before bytes old new from to packets done sends at w leads =
-    let more = bytes ++ text_of packets in (
-      more,
-      goes_after before bytes (text_of packets) old new at sends.0,
-      subst (λ (d : List Telling). Wrote duty more to d) (append-nil done) (wrote_on duty bytes from to packets done [] w sends.1 leads),
-    )
-
--- or not: the session ends
-pub sent_part : (duty : Duty) (before : Option (List ℕ)) (bytes : List ℕ) (old new : Option (List ℕ)) (from to : List (List ℕ)) (packets : List Packet) (done : List Telling) (t : Tally) (b : Ledger) (e : EndCause) → Sends old new packets (Err e) → old ≡ and_then before bytes
-    → Wrote duty bytes from done → Leads from packets to [] → Even t b (length done) → Left duty before new done (jobs_of done) t b e
-sent_part duty before bytes old new from to packets done t b WriteFault sends at w leads even =
-    let part = take sends.0 (text_of packets) in
-    let all : done ++ [] ≡ done = append-nil done in (
-      bytes ++ part,
-      goes_after before bytes part old new at sends.2,
-      subst (λ (x : List Telling). Ends duty (bytes ++ part) x (jobs_of done) t b WriteFault) all
-          (cut_on duty bytes from to packets done [] (jobs_of done) part (drop sends.0 (text_of packets)) t b w sends.3 leads (sym (take-append-drop sends.0 (text_of packets))) (left_over sends.0 (text_of packets) sends.1)
-          (ap jobs_of (sym all)) (subst (λ (x : List Telling). length x ≤ t.grabbed) (sym all) (omega (arith, even.grabbed))) (even_chain t b (length done) even)),
-    )
-sent_part duty before bytes old new from to packets done t b Memory sends at w leads even = (bytes, sends ∙ at, ends_at_rest duty bytes from done t b Memory w even (λ e. cc))
-sent_part duty before bytes old new from to packets done t b cause.Retired sends at w leads even = absurd sends
-sent_part duty before bytes old new from to packets done t b cause.Gone sends at w leads even = absurd sends
-sent_part duty before bytes old new from to packets done t b cause.BadPacket sends at w leads even = absurd sends
-sent_part duty before bytes old new from to packets done t b cause.ServerError sends at w leads even = absurd sends
-sent_part duty before bytes old new from to packets done t b cause.ReadFault sends at w leads even = absurd sends
-sent_part duty before bytes old new from to packets done t b cause.TurnsUsed sends at w leads even = absurd sends
-sent_part duty before bytes old new from to packets done t b cause.HistoryFull sends at w leads even = absurd sends
-sent_part duty before bytes old new from to packets done t b cause.Closed sends at w leads even = absurd sends
-sent_part duty before bytes old new from to packets done t b cause.Stopped sends at w leads even = absurd sends
-sent_part duty before bytes old new from to packets done t b cause.Unserved sends at w leads even = absurd sends

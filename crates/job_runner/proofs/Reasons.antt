@@ -9,9 +9,10 @@ use Rattle.job_runner.specs.declared.answering.Tally.{Tally}
 use Rattle.job_runner.specs.Book.{Ledger}
 use Rattle.job_runner.specs.Course.{Session, AnswerReason, PortReason}
 use Rattle.job_runner.specs.Run.{Link, NoFault, Reason, ReadReason}
-use Rattle.job_runner.specs.Loop.{IsSendFault, StepReason}
+use Rattle.job_runner.specs.Loop.{StepReason}
+use Rattle.job_runner.specs.Path.{IsSendEnd}
 
-pub send_reason : (generation : ℕ) (b : Ledger) (e : EndCause) → IsSendFault e → PortReason generation b e
+pub send_reason : (generation : ℕ) (b : Ledger) (e : EndCause) → IsSendEnd e → PortReason generation b e
 send_reason generation b WriteFault h = tt
 send_reason generation b Memory h = tt
 send_reason generation b cause.Retired h = absurd h

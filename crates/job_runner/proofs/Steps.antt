@@ -1,16 +1,11 @@
 -- What an answer adds to what a session wrote.
-use Rattle.std.proofs.Common.{◌≡◌, ◌≢◌, ℕ, ◌<◌, ◌≤◌, Bool, true, false, cond, List, [], ◌∷◌, ◌++◌, length, drop, map, Option, Some, None, refl, sym, ap, subst, ◌∙◌, arith}
+use Rattle.std.proofs.Common.{◌≡◌, ℕ, ◌<◌, ◌≤◌, Bool, true, false, cond, List, [], ◌∷◌, ◌++◌, length, drop, map, Option, Some, None, refl, sym, ap, ◌∙◌, arith}
 use Rattle.std.specs.List.{filter, list_all, AllByRecursion}
 use Rattle.std.proofs.lemmas.List.{append-nil, append_assoc, length-drop}
-use Rattle.gear_packets.specs.Request.{Packet, can_do, cant_do, pre_sleep, grab_job, set_client_id, work_status, work_complete, work_fail, work_data, work_warning, IsSent, encoding}
-use Rattle.gear_packets.specs.Response.{AssignedJob}
+use Rattle.gear_packets.specs.Request.{Packet, can_do, cant_do, pre_sleep, grab_job, set_client_id, work_status, work_complete, work_fail, work_data, work_warning, encoding}
 use Rattle.gear_packets.specs.Text.{text_of, is_work, register, registered_by}
-use Rattle.job_runner.specs.declared.end.EndCause.{EndCause}
-use Rattle.job_runner.specs.declared.end.EndCause.TheVariants.{WriteFault, Unserved}
-use Rattle.job_runner.specs.declared.answering.Tally.{Tally}
-use Rattle.job_runner.specs.Told.{Told, Remark, piece, warning, progress, Finish, complete, fail, remark_packet, finish_packet, told_packets, can_send, answer_to, Telling, jobs_of, reply, replies}
-use Rattle.job_runner.specs.Book.{Ledger}
-use Rattle.job_runner.specs.Course.{Duty, asks, OneAtATime, Introduces, MayIntroduce, Wrote, Chain, Ends}
+use Rattle.job_runner.specs.Told.{Told, Remark, piece, warning, progress, Finish, complete, fail, remark_packet, finish_packet, told_packets, can_send, answer_to, Telling, reply, replies}
+use Rattle.job_runner.specs.Course.{asks, OneAtATime, Introduces, MayIntroduce}
 
 -- ---- lists of packets
 
@@ -42,7 +37,7 @@ pub introduces_append : (worker : List ℕ) (ps qs : List Packet) → Introduces
 introduces_append worker [] qs h = absurd h
 introduces_append worker (p ∷ ps) qs h = h
 
-replies_append : (xs bs : List Telling) → replies (xs ++ bs) ≡ replies xs ++ replies bs
+pub replies_append : (xs bs : List Telling) → replies (xs ++ bs) ≡ replies xs ++ replies bs
 replies_append [] bs = refl
 replies_append (a ∷ xs) bs = ap (λ (t : List Packet). reply a ++ t) (replies_append xs bs) ∙ sym (append_assoc (reply a) (replies xs) (replies bs))
 
@@ -127,85 +122,6 @@ pub may_introduce : (worker : List ℕ) (ps : List Packet) → Introduces worker
 may_introduce worker [] h = tt
 may_introduce worker (p ∷ ps) h = h
 
--- what was written goes on by packets that lead on
-pub wrote_on : (duty : Duty) (bytes : List ℕ) (from to : List (List ℕ)) (packets : List Packet) (done more : List Telling) → Wrote duty bytes from done → AllByRecursion IsSent packets → Leads from packets to more
-    → Wrote duty (bytes ++ text_of packets) to (done ++ more)
-wrote_on duty bytes from to packets done more w each l = record {
-  sent = w.sent ++ packets;
-  bytes_are = ap (λ (t : List ℕ). t ++ text_of packets) w.bytes_are ∙ sym (text_append w.sent packets);
-  each_sent = all_append IsSent w.sent packets w.each_sent each;
-  introduces = introduces_append duty.worker w.sent packets w.introduces;
-  works = works_append w.sent packets ∙ ap (λ (x : List Packet). x ++ filter is_work packets) w.works ∙ ap (λ (x : List Packet). replies done ++ x) l.works ∙ sym (replies_append done more);
-  one = one_append [] w.sent packets w.one (subst (λ (names : List (List ℕ)). OneAtATime names packets) (sym w.registered_is) l.one);
-  registered_is = registered_append [] w.sent packets ∙ ap (λ (names : List (List ℕ)). registered_by names packets) w.registered_is ∙ l.registered_is;
-  few = l.few;
-}
-
--- or is cut within them
-pub cut_on : (duty : Duty) (bytes : List ℕ) (from to : List (List ℕ)) (packets : List Packet) (done more : List Telling) (taken : List AssignedJob) (part lost : List ℕ) (tally : Tally) (book : Ledger) → Wrote duty bytes from done → AllByRecursion IsSent packets → Leads from packets to more
-    → text_of packets ≡ part ++ lost → 0 < length lost → taken ≡ jobs_of (done ++ more) → length (done ++ more) ≤ tally.grabbed → Chain tally book (length done) (length more) → Ends duty (bytes ++ part) (done ++ more) taken tally book WriteFault
-cut_on duty bytes from to packets done more taken part lost tally book w each l text proper order booked chain =
-    let starts = introduces_append duty.worker w.sent packets w.introduces in
-    record {
-      answered = done;
-      begun = more;
-      unwritten = [];
-      later = [];
-      told_are = ap (λ (x : List Telling). done ++ x) (sym (append-nil more));
-      undone = λ e. absurd cc;
-      in_order = order ∙ sym (append-nil (jobs_of (done ++ more)));
-      booked = booked;
-      cut = record {
-        sent = w.sent;
-        next = packets;
-        part = part;
-        lost = lost;
-        bytes_are = ap (λ (t : List ℕ). t ++ part) w.bytes_are;
-        next_is = text;
-        each_sent = all_append IsSent w.sent packets w.each_sent each;
-        introduces = may_introduce duty.worker (w.sent ++ packets) starts;
-        works = w.works;
-        next_works = l.works;
-        one = one_append [] w.sent packets w.one (subst (λ (names : List (List ℕ)). OneAtATime names packets) (sym w.registered_is) l.one);
-      };
-      whole = λ other. absurd (other refl);
-      proper = λ e. proper;
-      introduced = λ e. starts;
-      chain = chain;
-    }
-
--- a session that ends with whole packets, and with nothing of what jobs told since
-pub ends_whole : (duty : Duty) (bytes : List ℕ) (registered : List (List ℕ)) (done since : List Telling) (later taken : List AssignedJob) (tally : Tally) (book : Ledger) (cause : EndCause) → Wrote duty bytes registered done → (cause ≡ Unserved → since ≡ []) → taken ≡ jobs_of (done ++ since) ++ later → length (done ++ since) ≤ tally.grabbed → Chain tally book (length done) 0 → cause ≢ WriteFault → Ends duty bytes (done ++ since) taken tally book cause
-ends_whole duty bytes registered done since later taken tally book cause w none order booked chain no-fault =
-    let starts : Introduces duty.worker (w.sent ++ []) = introduces_append duty.worker w.sent [] w.introduces in
-    record {
-      answered = done;
-      begun = [];
-      unwritten = since;
-      later = later;
-      told_are = refl;
-      undone = none;
-      in_order = order;
-      booked = booked;
-      cut = record {
-        sent = w.sent;
-        next = [];
-        part = [];
-        lost = [];
-        bytes_are = w.bytes_are ∙ sym (append-nil (text_of w.sent));
-        next_is = refl;
-        each_sent = rw (append-nil w.sent) w.each_sent;
-        introduces = may_introduce duty.worker (w.sent ++ []) starts;
-        works = w.works;
-        next_works = refl;
-        one = rw (append-nil w.sent) w.one;
-      };
-      whole = λ other. refl;
-      proper = λ e. absurd (no-fault e);
-      introduced = λ e. starts;
-      chain = chain;
-    }
-
 -- an answer leads on
 pub reply_leads : (registered : List (List ℕ)) (t : Telling) → length registered ≤ 1 → Leads registered (reply t) registered (t ∷ [])
 reply_leads registered t few =
@@ -217,16 +133,6 @@ reply_leads registered t few =
       works = work_kept answer work ∙ sym (append-nil answer);
       few = few;
     }
-
-pub wrote_answer : (duty : Duty) (bytes : List ℕ) (registered : List (List ℕ)) (done : List Telling) (t : Telling) → Wrote duty bytes registered done → AllByRecursion IsSent (reply t)
-    → Wrote duty (bytes ++ text_of (reply t)) registered (done ++ t ∷ [])
-wrote_answer duty bytes registered done t w each = wrote_on duty bytes registered registered (reply t) done (t ∷ []) w each (reply_leads registered t w.few)
-
--- a session that ends within an answer
-pub ends_cut : (duty : Duty) (bytes : List ℕ) (registered : List (List ℕ)) (done : List Telling) (t : Telling) (part lost : List ℕ) (tally : Tally) (book : Ledger) → Wrote duty bytes registered done → AllByRecursion IsSent (reply t)
-    → text_of (reply t) ≡ part ++ lost → 0 < length lost → length (done ++ t ∷ []) ≤ tally.grabbed → Chain tally book (length done) 1 → Ends duty (bytes ++ part) (done ++ t ∷ []) (jobs_of (done ++ t ∷ [])) tally book WriteFault
-ends_cut duty bytes registered done t part lost tally book w each text proper booked chain =
-    cut_on duty bytes registered registered (reply t) done (t ∷ []) (jobs_of (done ++ t ∷ [])) part lost tally book w each (reply_leads registered t w.few) text proper refl booked chain
 
 -- what is left after a prefix
 pub left_over : (count : ℕ) (text : List ℕ) → count < length text → 0 < length (drop count text)

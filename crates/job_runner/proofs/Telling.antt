@@ -3,25 +3,20 @@ use Rattle.std.proofs.Common.{◌≡◌, ◌≢◌, ℕ, List, [], ◌∷◌, �
 use Rattle.std.specs.Prelude.{IfErr}
 use Rattle.std.specs.List.{AllByRecursion}
 use Rattle.std.proofs.Math.Seq.{take-append_seam}
-use Rattle.std.proofs.lemmas.List.{map-append, append-nil, append_assoc, length-map}
+use Rattle.std.proofs.lemmas.List.{map-append, append_assoc, length-map}
 use Rattle.gear_packets.specs.Response.{AssignedJob}
 use Rattle.job_runner.specs.declared.jobs.NotDone.{NotDone}
 use Rattle.job_runner.specs.declared.jobs.NotDone.TheVariants as not_done
 use Rattle.job_runner.specs.declared.end.EndCause.{EndCause}
 use Rattle.job_runner.specs.declared.end.EndCause.TheVariants as cause
-use Rattle.job_runner.specs.declared.state.State.{State}
-use Rattle.job_runner.specs.declared.answering.Tally.{Tally}
 use Rattle.job_runner.specs.Told.{Told, Telling, telling, jobs_of, AreTold, IsMeant, meant}
+use Rattle.job_runner.specs.declared.worker.Worker.{Worker}
+use Rattle.job_runner.specs.Acting.{Asked, Came, Does, Moment, told_at}
 use Rattle.job_runner.specs.Book.{Ledger}
-use Rattle.job_runner.specs.Course.{Duty, Wrote, Even, Ends, PortReason}
-use Rattle.job_runner.specs.Run.{Acts, EndTold, IsLeftBy, ToldSince, end_of}
-use Rattle.job_runner.specs.Loop.{IsSendFault}
-use Rattle.job_runner.proofs.Orders.{ends_at_rest}
+use Rattle.job_runner.specs.Course.{PortReason}
+use Rattle.job_runner.specs.Run.{EndTold, IsLeftBy, ToldSince, end_of}
+use Rattle.job_runner.specs.Path.{IsSendEnd}
 use Rattle.job_runner.proofs.Reasons.{port_served}
-use Rattle.job_runner.proofs.Turning.{ends_later}
-
-pub jobs_push : (done : List Telling) (t : Telling) → jobs_of (done ++ t ∷ []) ≡ jobs_of done ++ t.job ∷ []
-jobs_push done t = map-append (λ (x : Telling). x.job) done (t ∷ [])
 
 -- more was told after it
 pub told_on : {J : Type 0} (tells : J → J → AssignedJob → Option Told → Type 0) (first middle last : J) (xs ys : List Telling)
@@ -44,9 +39,9 @@ pub port_serves : (generation : ℕ) (b : Ledger) (result : Result (Unit {0}) En
 port_serves generation b (Ok u) h = tt
 port_serves generation b (Err e) h = port_served generation b e h
 
-pub send_serves : (result : Result (Unit {0}) EndCause) → IfErr result IsSendFault → IsOfNoJob result
+pub send_serves : (result : Result (Unit {0}) EndCause) → IfErr result IsSendEnd → IsOfNoJob result
 send_serves (Ok u) h = tt
-send_serves (Err e) h = λ same. subst IsSendFault same h
+send_serves (Err e) h = λ same. subst IsSendEnd same h
 
 -- a step in which this was told
 pub told_so : {J : Type 0} (tells : J → J → AssignedJob → Option Told → Type 0) (fails : J → J → AssignedJob → NotDone → Type 0) (old new : J)
@@ -54,20 +49,13 @@ pub told_so : {J : Type 0} (tells : J → J → AssignedJob → Option Told → 
 told_so tells fails old new since (Ok u) served h = h
 told_so tells fails old new since (Err e) served h = (new, h, inl (refl, served))
 
--- a step that was given no job
-pub unchanged : (duty : Duty) (bytes : List ℕ) (done : List Telling) (none : List AssignedJob) (s : State) (b : Ledger) (result : Result (Unit {0}) EndCause) → none ≡ []
-    → Acts duty bytes done (jobs_of done) s b result → Acts duty bytes (done ++ []) (jobs_of done ++ none) s b result
-unchanged duty bytes done none s b result e h =
-    let taken : jobs_of done ≡ jobs_of done ++ none = sym (append-nil (jobs_of done)) ∙ ap (λ (x : List AssignedJob). jobs_of done ++ x) (sym e) in
-    subst (λ (d : List Telling). Acts duty bytes d (jobs_of done ++ none) s b result) (sym (append-nil done))
-    (subst (λ (x : List AssignedJob). Acts duty bytes done x s b result) taken h)
+-- a step at a message
+abbrev pub Acted : {J : Type 0} → (J → J → AssignedJob → Option Told → Type 0) → (J → J → AssignedJob → NotDone → Type 0) → J → J → Worker → Asked → Moment → Moment → Result (Unit {0}) EndCause → Type 0
+Acted tells fails first last worker a old new result = (came : Came) × ToldSince tells fails first last (told_at a came) result × Does worker a came old new result
 
--- an end at rest, at a message
-pub ends_at_message : (duty : Duty) (bytes : List ℕ) (registered : List (List ℕ)) (done : List Telling) (more : List AssignedJob) (t : Tally) (b : Ledger) (reason : EndCause)
-    → Wrote duty bytes registered done → Even t b (length done) → reason ≢ cause.WriteFault → Ends duty bytes (done ++ []) (jobs_of done ++ more) t b reason
-ends_at_message duty bytes registered done more t b reason w even no-fault =
-    subst (λ (d : List Telling). Ends duty bytes d (jobs_of done ++ more) t b reason) (sym (append-nil done))
-    (ends_later duty bytes done (jobs_of done) more (jobs_of done ++ more) t b reason (ends_at_rest duty bytes registered done t b reason w even no-fault) refl)
+pub acted_at : {J : Type 0} (tells : J → J → AssignedJob → Option Told → Type 0) (fails : J → J → AssignedJob → NotDone → Type 0) (first last : J) (worker : Worker) (a b : Asked) (old new : Moment) (result : Result (Unit {0}) EndCause)
+    → a ≡ b → Acted tells fails first last worker b old new result → Acted tells fails first last worker a old new result
+acted_at tells fails first last worker a b old new result e h = subst (λ (x : Asked). Acted tells fails first last worker x old new result) (sym e) h
 
 -- ---- jobs that tell what they mean
 

@@ -7,7 +7,7 @@ use Rattle.gear_packets.specs.Request.{Packet, can_do, cant_do, pre_sleep, grab_
 use Rattle.gear_packets.specs.Request.{work_data, work_warning, IsSent}
 use Rattle.gear_packets.specs.PacketRefusals.{request_refusal}
 use Rattle.gear_packets.specs.Response.{AssignedJob}
-use Rattle.gear_packets.specs.Text.{text_of, is_work, register, registered_by}
+use Rattle.gear_packets.specs.Text.{text_of, is_work, register}
 use Rattle.job_runner.specs.declared.end.EndCause.{EndCause}
 use Rattle.job_runner.specs.declared.end.EndCause.TheVariants.{WriteFault, Retired, Stopped, Memory}
 use Rattle.job_runner.specs.declared.end.EndCause.TheVariants as cause
@@ -65,17 +65,6 @@ Introduces worker (p ∷ ps) = p ≡ set_client_id worker
 abbrev pub MayIntroduce : List ℕ → List Packet → Type 0
 MayIntroduce worker [] = Unit {0}
 MayIntroduce worker (p ∷ ps) = p ≡ set_client_id worker
-
--- The bytes are whole packets, which answer these jobs and leave these functions registered.
-pub record Wrote (duty : Duty) (bytes : List ℕ) (registered : List (List ℕ)) (answered : List Telling) : Type 0 where
-  pub sent : List Packet
-  pub bytes_are : bytes ≡ text_of sent
-  pub each_sent : AllByRecursion IsSent sent
-  pub introduces : Introduces duty.worker sent
-  pub works : filter is_work sent ≡ replies answered
-  pub one : OneAtATime [] sent
-  pub registered_is : registered_by [] sent ≡ registered
-  pub few : length registered ≤ 1
 
 -- The bytes are whole packets, which answer these jobs, and a prefix of a text that was begun and answers `begun`: no job, or the next.
 pub record Cut (duty : Duty) (bytes : List ℕ) (answered begun : List Telling) : Type 0 where

@@ -1,5 +1,5 @@
 -- The loss that each end of a session is for the pool, and the labels of ends: a loss has the label of its cause.
-use Rattle.std.specs.Prelude.{codes, Option, Some, None}
+use Rattle.std.specs.Prelude.{ℕ, codes, Option, Some, None}
 use Rattle.refusal.specs.Label.{Label, label}
 use Rattle.worker_state.specs.declared.cause.Cause.{Cause}
 use Rattle.worker_state.specs.declared.cause.Cause.TheVariants as loss
@@ -29,3 +29,18 @@ kept_label other = label 2 (codes "Gone")
 
 abbrev pub end_label : EndCause → Label
 end_label end = elim (loss_of end) [ Some lost ↦ cause_label lost | None ↦ kept_label end ]
+
+-- the place of a cause among all
+abbrev pub place_of : EndCause → ℕ
+place_of cause.Retired = 0
+place_of cause.Gone = 1
+place_of cause.BadPacket = 2
+place_of cause.ServerError = 3
+place_of cause.ReadFault = 4
+place_of cause.WriteFault = 5
+place_of cause.TurnsUsed = 6
+place_of cause.Memory = 7
+place_of cause.HistoryFull = 8
+place_of cause.Closed = 9
+place_of cause.Stopped = 10
+place_of cause.Unserved = 11

@@ -9,3 +9,4 @@ pub mod Path
 pub mod Run
 pub mod Listening
 pub mod Loop
+pub mod Holding

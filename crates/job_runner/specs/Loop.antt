@@ -1,8 +1,7 @@
 -- A session between its reads.
-use Rattle.std.specs.Prelude.{◌≡◌, ◌≢◌, ℕ, ◌<◌, List, [], ◌∷◌, length, Option, None}
+use Rattle.std.specs.Prelude.{◌≡◌, ℕ, ◌<◌, List, [], ◌∷◌, length, Option, None}
 use Rattle.gear_packets.specs.Response.{Message, server_error}
-use Rattle.gear_packets.specs.Text.{Reading, assignments_in, assignments}
-use Rattle.byte_io.specs.Sides.{and_then}
+use Rattle.gear_packets.specs.Text.{Reading, reading, read_after, assignments_in}
 use Rattle.worker_state.specs.declared.slot.WorkerName.{WorkerName}
 use Rattle.pool_settings.specs.Settings.{Settings}
 use Rattle.pool_settings.specs.Slots.{worker_text}
@@ -14,8 +13,8 @@ use Rattle.job_runner.specs.declared.answering.Tally.{Tally}
 use Rattle.job_runner.specs.declared.worker.Worker.{Worker}
 use Rattle.job_runner.specs.Told.{Telling}
 use Rattle.job_runner.specs.Book.{Ledger}
-use Rattle.job_runner.specs.Course.{Duty, Session, session_of, Ends, PortReason}
-use Rattle.job_runner.specs.Run.{Rests}
+use Rattle.job_runner.specs.Course.{Duty, Session, session_of, PortReason}
+use Rattle.job_runner.specs.Acting.{account}
 use Rattle.job_runner.specs.Path.{Went, Ended, place_of}
 
 abbrev pub first_state : State
@@ -33,12 +32,6 @@ duty_in worker = duty_of worker.place.settings.now worker.pass.now
 abbrev pub session_in : Worker → Option (List ℕ) → List ℕ → Session
 session_in worker before read = session_of (duty_in worker) before read
 
--- the ends that sending one packet may have
-abbrev pub IsSendFault : EndCause → Type 0
-IsSendFault cause.Memory = Unit {0}
-IsSendFault cause.WriteFault = Unit {0}
-IsSendFault other = ⊥
-
 -- Why a session ends at a message, or at its port. `old` and `new` are its counts before and after.
 abbrev pub StepReason : ℕ → Message → Tally → Tally → Ledger → EndCause → Type 0
 StepReason generation m old new book cause.BadPacket = (new.grabbed ≡ old.grabbed) × (0 < length (assignments_in (m ∷ [])))
@@ -46,27 +39,19 @@ StepReason generation m old new book cause.ServerError = (code text : List ℕ) 
 StepReason generation m old new book cause.Unserved = Unit {0}
 StepReason generation m old new book other = PortReason generation book other
 
--- Now that `written` is on the link, all messages that were given are served, by jobs that were run in this way.
+-- Now that `written` is on the link, all messages that were given are served, by jobs that were run in this way. The bytes read say
+-- those, and those that the reader still holds.
 pub record HasServed (session : Session) (Ran : List Telling → Type 0) (written : Option (List ℕ)) (reader : Reading) (s : State)
     (book : Ledger) : Type 0 where
-  pub bytes : List ℕ
   pub told : List Telling
   pub given : List Message
   pub ran : Ran told
-  pub at : written ≡ and_then session.before bytes
-  pub rests : Rests session bytes told given reader s book
-  pub went : Went session.duty session.before written given book (place_of s)
-
--- jobs were run in this way, and none of them ends the session
-abbrev pub EndsForNoJob : (List Telling → Type 0) → EndCause → List Telling → Type 0
-EndsForNoJob Ran reason told = Ran told × (reason ≢ cause.Unserved)
+  pub heard : reading session.read ≡ read_after given reader
+  pub went : Went session.duty session.before given told (account s.tally written book) (place_of s)
 
 -- the session is at its end, by jobs that were run in this way
 pub record Halts (session : Session) (Ran : EndCause → List Telling → Type 0) (written : Option (List ℕ)) (tally : Tally) (book : Ledger)
     (reason : EndCause) : Type 0 where
-  pub bytes : List ℕ
   pub told : List Telling
   pub ran : Ran reason told
-  pub at : written ≡ and_then session.before bytes
-  pub ends : Ends session.duty bytes told (assignments session.read) tally book reason
-  pub ended : Ended session written book reason
+  pub ended : Ended session told (account tally written book) reason

@@ -1,9 +1,9 @@
 -- A session as the path that it takes: what it meets, one thing after the other, and what it writes at each.
-use Rattle.std.specs.Prelude.{◌≡◌, ◌≢◌, ◌⊎◌, ◌<◌, ℕ, List, [], ◌∷◌, ◌++◌, length, Option, Some, None}
+use Rattle.std.specs.Prelude.{◌≡◌, ◌≢◌, ◌≤◌, ℕ, List, [], ◌∷◌, ◌++◌, length, Option, Some, None}
 use Rattle.std.specs.Option.{option_to_list}
-use Rattle.std.specs.List.{filter_map}
-use Rattle.gear_packets.specs.Request.{Packet, set_client_id, pre_sleep}
-use Rattle.gear_packets.specs.Response.{AssignedJob, Message}
+use Rattle.std.specs.List.{filter_map, AllByRecursion}
+use Rattle.gear_packets.specs.Request.{Packet, set_client_id, pre_sleep, IsSent}
+use Rattle.gear_packets.specs.Response.{AssignedJob, Message, assign}
 use Rattle.gear_packets.specs.Text.{text_of, reading}
 use Rattle.byte_io.specs.Sides.{and_then}
 use Rattle.worker_state.specs.OrderParts.{OrderParts}
@@ -13,11 +13,11 @@ use Rattle.job_runner.specs.declared.end.EndCause.TheVariants as cause
 use Rattle.job_runner.specs.declared.order.Phase.{Phase}
 use Rattle.job_runner.specs.declared.order.Phase.TheVariants.{Waiting, Asleep}
 use Rattle.job_runner.specs.declared.state.State.{State}
-use Rattle.job_runner.specs.Told.{Told, answer_to}
-use Rattle.job_runner.specs.Book.{Ledger}
-use Rattle.job_runner.specs.Course.{Duty, Session, IsStop, obeying, name_of}
+use Rattle.job_runner.specs.Told.{Telling, telling, reply}
+use Rattle.job_runner.specs.Course.{Duty, Session, Even, Chain, IsStop, obeying, name_of}
 use Rattle.job_runner.specs.Following.{meant_by, phase_with}
-use Rattle.job_runner.specs.Acting.{asked_by, skip, sleep, follow, serve, end}
+use Rattle.job_runner.specs.Acting.{asked_by, skip, sleep, follow, end, Account, Came, reply_of, IsJobEnd}
+use Rattle.job_runner.specs.Acting.{Reach, whole_by, begun_by, bytes_by, IsReach}
 
 -- what a session meets
 pub data Event : Type 0 where
@@ -27,8 +27,10 @@ pub data Event : Type 0 where
   ordered : OrderParts → Event
   -- an order that it looks at, since nothing came in the time of one read
   looked : OrderParts → Event
-  -- a message
+  -- a message, with which nothing was told of a job
   heard : Message → Event
+  -- a job that it was given, with what was told of it
+  ran : Telling → Event
 
 -- where it is
 pub data Stage : Type 0 where
@@ -73,24 +75,13 @@ pub data Step (duty : Duty) : Place → Event → List Packet → Place → Type
       → Step duty (place f (hearing phase)) (heard m) (pre_sleep ∷ []) (place f (hearing Asleep))
   woken : (f : Option ℕ) (phase : Phase) (m : Message) → asked_by m phase ≡ follow
       → Step duty (place f (hearing phase)) (heard m) [] (place f following)
-  served : (f : Option ℕ) (phase : Phase) (m : Message) (job : AssignedJob) (told : Option Told) → asked_by m phase ≡ serve job
-      → Step duty (place f (hearing phase)) (heard m) (answer_to job.handle told) (place f following)
+  served : (f : Option ℕ) (t : Telling) → Step duty (place f (hearing Waiting)) (ran t) (reply t) (place f following)
 
 -- A path from the start of a session: what it met, what it wrote, and where it is.
 pub data Path (duty : Duty) : List Event → List Packet → Place → Type 0 where
   start : Path duty [] [] (place None unnamed)
   then : (events : List Event) (sent : List Packet) (from : Place) (event : Event) (packets : List Packet) (to : Place)
       → Path duty events sent from → Step duty from event packets to → Path duty (events ++ event ∷ []) (sent ++ packets) to
-
--- the ends that answering a job may have
-abbrev pub IsAnswerEnd : EndCause → Type 0
-IsAnswerEnd cause.Retired = Unit {0}
-IsAnswerEnd cause.Gone = Unit {0}
-IsAnswerEnd cause.HistoryFull = Unit {0}
-IsAnswerEnd cause.Memory = Unit {0}
-IsAnswerEnd cause.Unserved = Unit {0}
-IsAnswerEnd WriteFault = Unit {0}
-IsAnswerEnd other = ⊥
 
 -- the ends that sending packets may have
 abbrev pub IsSendEnd : EndCause → Type 0
@@ -107,6 +98,11 @@ IsWaitEnd cause.TurnsUsed = Unit {0}
 IsWaitEnd cause.BadPacket = Unit {0}
 IsWaitEnd other = ⊥
 
+-- what a session meets that is given a job, by what that comes to
+abbrev pub event_of : AssignedJob → Came → Event
+event_of job None = heard (assign job)
+event_of job (Some told) = ran (telling job told)
+
 -- How a session ends: where, at what, if it met something, with which packets to be written, and for which cause.
 pub data Last (duty : Duty) : Place → Option Event → List Packet → EndCause → Type 0 where
   stopped : (f : Option ℕ) (order : OrderParts) → IsStop duty.generation order
@@ -117,9 +113,8 @@ pub data Last (duty : Duty) : Place → Option Event → List Packet → EndCaus
       → Last duty (place f (hearing phase)) (Some (heard m)) [] reason
   unsent : (from to : Place) (event : Event) (packets : List Packet) (reason : EndCause) → Step duty from event packets to
       → IsSendEnd reason → Last duty from (Some event) packets reason
-  unbooked : (f : Option ℕ) (phase : Phase) (m : Message) (job : AssignedJob) (told : Option Told) (reason : EndCause)
-      → asked_by m phase ≡ serve job → IsAnswerEnd reason
-      → Last duty (place f (hearing phase)) (Some (heard m)) (answer_to job.handle told) reason
+  unanswered : (f : Option ℕ) (job : AssignedJob) (came : Came) (reason : EndCause) → IsJobEnd came reason
+      → Last duty (place f (hearing Waiting)) (Some (event_of job came)) (reply_of job came) reason
   waiting : (f : Option ℕ) (phase : Phase) (reason : EndCause) → IsWaitEnd reason
       → Last duty (place f (hearing phase)) None [] reason
 
@@ -128,12 +123,21 @@ message_at starts = None
 message_at (ordered order) = None
 message_at (looked order) = None
 message_at (heard m) = Some m
+message_at (ran t) = Some (assign t.job)
 
 abbrev pub order_at : Event → Option OrderParts
 order_at starts = None
 order_at (ordered order) = Some order
 order_at (looked order) = Some order
 order_at (heard m) = None
+order_at (ran t) = None
+
+abbrev pub telling_at : Event → Option Telling
+telling_at starts = None
+telling_at (ordered order) = None
+telling_at (looked order) = None
+telling_at (heard m) = None
+telling_at (ran t) = Some t
 
 abbrev pub messages_in : List Event → List Message
 messages_in events = filter_map message_at events
@@ -141,15 +145,22 @@ messages_in events = filter_map message_at events
 abbrev pub orders_in : List Event → List OrderParts
 orders_in events = filter_map order_at events
 
+abbrev pub tellings_in : List Event → List Telling
+tellings_in events = filter_map telling_at events
+
 -- A session so far: it took a path, on which it wrote all that it wrote, met the messages given in their order, and the orders that its
--- port answered in theirs.
-pub record Went (duty : Duty) (before written : Option (List ℕ)) (given : List Message) (book : Ledger) (at : Place) : Type 0 where
+-- port answered in theirs, and on which this was told of the jobs. It counted each of these, and so did its port.
+pub record Went (duty : Duty) (before : Option (List ℕ)) (given : List Message) (told : List Telling) (now : Account) (at : Place) :
+    Type 0 where
   pub events : List Event
   pub sent : List Packet
   pub path : Path duty events sent at
-  pub written_is : written ≡ and_then before (text_of sent)
+  pub written_is : now.written ≡ and_then before (text_of sent)
+  pub each_sent : AllByRecursion IsSent sent
   pub messages_are : messages_in events ≡ given
-  pub orders_are : orders_in events ≡ book.orders
+  pub told_are : tellings_in events ≡ told
+  pub orders_are : orders_in events ≡ now.book.orders
+  pub even : Even now.tally now.book (length told)
 
 -- a session waits for more to read: it has met nothing, or only that nothing came in the time of one read
 abbrev pub WaitsForMore : Option Event → Type 0
@@ -159,8 +170,8 @@ WaitsForMore (Some other) = ⊥
 
 -- A session at its end: it took a path, and ended in one way after it. The packets that it had to write then are written whole or not at
 -- all, and where the write failed as far as it came. Where it waited for more, it has met all messages that it read, unless there was no
--- memory to read on.
-pub record Ended (session : Session) (written : Option (List ℕ)) (book : Ledger) (reason : EndCause) : Type 0 where
+-- memory to read on. This was told of the jobs on the way and at the end. The counts are in their order, by how far the last reply came.
+pub record Ended (session : Session) (told : List Telling) (now : Account) (reason : EndCause) : Type 0 where
   pub events : List Event
   pub sent : List Packet
   pub at : Place
@@ -168,13 +179,15 @@ pub record Ended (session : Session) (written : Option (List ℕ)) (book : Ledge
   pub met : Option Event
   pub packets : List Packet
   pub last : Last session.duty at met packets reason
-  pub part : List ℕ
-  pub lost : List ℕ
-  pub parts : text_of packets ≡ part ++ lost
-  pub cut : reason ≢ WriteFault → (part ≡ []) ⊎ (lost ≡ [])
-  pub proper : reason ≡ WriteFault → 0 < length lost
-  pub written_is : written ≡ and_then session.before (text_of sent ++ part)
+  pub reach : Reach
+  pub reached : IsReach reach packets reason
+  pub written_is : now.written ≡ and_then session.before (text_of sent ++ bytes_by reach packets)
+  pub each_sent : AllByRecursion IsSent sent
   pub later : List Message
   pub messages_are : (reading session.read).messages ≡ messages_in (events ++ option_to_list met) ++ later
   pub all_met : WaitsForMore met → reason ≢ cause.Memory → later ≡ []
-  pub orders_are : orders_in (events ++ option_to_list met) ≡ book.orders
+  pub orders_are : orders_in (events ++ option_to_list met) ≡ now.book.orders
+  pub told_are : told ≡ tellings_in events ++ tellings_in (option_to_list met)
+  pub chain : Chain now.tally now.book (length (whole_by reach (tellings_in events) (tellings_in (option_to_list met))))
+      (length (begun_by reach (tellings_in (option_to_list met))))
+  pub booked : length told ≤ now.tally.grabbed

@@ -4,33 +4,22 @@ use Rattle.std.specs.Prelude.{map}
 use Rattle.std.specs.List.{AllByRecursion}
 use Rattle.gear_packets.specs.Request.{Packet}
 use Rattle.gear_packets.specs.Response.{AssignedJob, Message, server_error}
-use Rattle.gear_packets.specs.Text.{Reading, reading, read_after, assignments_in, assignments, sent, text_of, registered, work_requests}
+use Rattle.gear_packets.specs.Text.{reading, assignments, sent, text_of, registered, work_requests}
 use Rattle.gear_packets.specs.Reading.{fault_of}
 use Rattle.byte_io.specs.Sides.{Input, Output}
 use Rattle.job_runner.specs.declared.end.EndCause.{EndCause}
 use Rattle.job_runner.specs.declared.end.EndCause.TheVariants as cause
 use Rattle.job_runner.specs.declared.end.SessionEnd.{SessionEnd}
 use Rattle.worker_state.specs.declared.cause.Cause.{Cause}
-use Rattle.job_runner.specs.declared.state.State.{State}
 use Rattle.job_runner.specs.declared.answering.Tally.{Tally}
 use Rattle.job_runner.specs.Ends.{loss_of}
-use Rattle.job_runner.specs.Told.{Told, Telling, jobs_of, replies, AreTold, IsMeant, meant}
+use Rattle.job_runner.specs.Told.{Told, Telling, replies, AreTold, IsMeant, meant}
 use Rattle.job_runner.specs.declared.jobs.NotDone.{NotDone}
 use Rattle.job_runner.specs.declared.jobs.NotDone.TheVariants as not_done
 use Rattle.job_runner.specs.Book.{Ledger}
+use Rattle.job_runner.specs.Acting.{account}
 use Rattle.job_runner.specs.Path.{Ended}
-use Rattle.job_runner.specs.Course.{Duty, Session, asks, Wrote, Even, Ends, GoesOnOrEnds, known, IsServing, PortReason}
-
--- Between two messages, the reader aside: each job so far is answered, and the counts agree.
-pub record AreAnswered (duty : Duty) (bytes : List ℕ) (done : List Telling) (s : State) (book : Ledger) : Type 0 where
-  pub wrote : Wrote duty bytes (known duty.functions s.registered) done
-  pub even : Even s.tally book (length done)
-  pub serving : IsServing (length duty.functions) s.phase s.registered
-
--- what a step leaves, by what all jobs told and by the jobs that were assigned
-abbrev pub Acts : Duty → List ℕ → List Telling → List AssignedJob → State → Ledger → Result (Unit {0}) EndCause → Type 0
-Acts duty bytes told taken s book result =
-    GoesOnOrEnds (AreAnswered duty bytes told s book × (jobs_of told ≡ taken)) (Ends duty bytes told taken s.tally book) result
+use Rattle.job_runner.specs.Course.{Session, asks, Ends, GoesOnOrEnds, PortReason}
 
 -- how a session ends if a job fails so
 abbrev pub end_of : NotDone → EndCause
@@ -53,13 +42,6 @@ abbrev pub ToldSince : {J : Type 0} → (J → J → AssignedJob → Option Told
     → List Telling → Result (Unit {0}) EndCause → Type 0
 ToldSince tells fails old new since result =
     GoesOnOrEnds (AreTold tells old new since) (λ reason. EndTold tells fails old new reason since) result
-
--- The bytes read say the messages that were given, and those that the reader still holds. Each job assigned so far told this.
-pub record Rests (session : Session) (bytes : List ℕ) (told : List Telling) (given : List Message) (reader : Reading) (s : State)
-    (book : Ledger) : Type 0 where
-  pub heard : reading session.read ≡ read_after given reader
-  pub jobs_are : jobs_of told ≡ assignments_in given
-  pub holds : AreAnswered session.duty bytes told s book
 
 -- a stream names an error
 abbrev pub HasError : List Message → Type 0
@@ -125,7 +107,7 @@ pub record Served (session : Session) (told : List Telling) (bytes : List ℕ) (
   pub registers : (k : ℕ) → length (registered (text_of (take k (ends.cut.sent ++ ends.cut.next)))) ≤ 1
   pub asking : (before after : List Packet) (p : Packet)
       → ends.cut.sent ++ ends.cut.next ≡ before ++ p ∷ after → asks p ≡ true → length (registered (text_of (before ++ p ∷ []))) ≡ 1
-  pub path : Ended session new.output.got book e.cause
+  pub path : Ended session told (account (tally_of e) new.output.got book) e.cause
   pub reason : Reason session old new (tally_of e) book e.cause
   pub faults : FailsAs old new e.cause
   pub lost : Lost (loss_of e.cause) book

@@ -91,10 +91,6 @@ abbrev pub AreTold : {J : Type 0} → (J → J → AssignedJob → Option Told �
 AreTold tells first last [] = last ≡ first
 AreTold {J} tells first last (t ∷ ts) = (next : J) × tells first next t.job t.told × AreTold tells next last ts
 
--- jobs told just this
-abbrev pub IsTold : List Telling → List Telling → Type 0
-IsTold told tellings = tellings ≡ told
-
 -- jobs that tell what a function of their name and input says
 abbrev pub IsMeant : (List ℕ → List ℕ → Option Told) → Telling → Type 0
 IsMeant meaning t = t.told ≡ meaning t.job.function t.job.payload

@@ -1,8 +1,8 @@
 //! How a session ends, and why.
 
-ghost use Rattle.std.specs.Prelude.{◌≡◌, IfSome};
+ghost use Rattle.std.specs.Prelude.{◌≡◌, ◌<◌, IfSome, length};
 ghost use Rattle.worker_state.specs.Causes.{cause_label};
-ghost use Rattle.job_runner.specs.Ends.{end_label, loss_of};
+ghost use Rattle.job_runner.specs.Ends.{end_label, loss_of, place_of};
 
 use refusal::{Label, Labelled};
 use worker_state::Cause;
@@ -39,7 +39,34 @@ pub enum EndCause {
     Unserved,
 }
 
+/// How many causes there are for which a session ends.
+const CAUSES: usize = 12;
+
 impl EndCause {
+    /// All of them, in the order of their numbers.
+    pub const ALL: [EndCause; CAUSES] = [
+        EndCause::Retired,
+        EndCause::Gone,
+        EndCause::BadPacket,
+        EndCause::ServerError,
+        EndCause::ReadFault,
+        EndCause::WriteFault,
+        EndCause::TurnsUsed,
+        EndCause::Memory,
+        EndCause::HistoryFull,
+        EndCause::Closed,
+        EndCause::Stopped,
+        EndCause::Unserved,
+    ];
+
+    /// Its place in [`ALL`](EndCause::ALL).
+    pub fn place(self) -> usize
+        ensures exact { result ≡ place_of self }
+        ensures inside { result < length EndCause.ALL }
+    {
+        self as usize
+    }
+
     /// The cause for which the worker is lost: the one of the same number and name. None if it is retired, or lost already.
     pub fn loss(self) -> Option<Cause>
         ensures exact { result ≡ loss_of self }

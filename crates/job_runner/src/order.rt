@@ -1,24 +1,19 @@
 //! Orders, as a session obeys them.
 
-ghost use Rattle.std.specs.Prelude.{◌≡◌, ◌↔◌, ◌+◌, ◌-◌, ◌<◌, ◌≤◌, ◌^◌, ℕ, List, length, IsTrue, IfOk, IfErr, OnOk, IfSome, Option};
+ghost use Rattle.std.specs.Prelude.{◌≡◌, ◌↔◌, ◌+◌, ◌-◌, ◌<◌, ◌≤◌, ◌^◌, ℕ, List, length, IsTrue, IfOk, IfSome, Option};
 ghost use Rattle.std.specs.List.{AllByRecursion};
 ghost use Rattle.gear_packets.specs.Request.{IsSent};
 ghost use Rattle.std.specs.Option.{option_map, option_to_list};
 ghost use Rattle.gear_packets.specs.Requests.{packet_of};
 ghost use Rattle.gear_packets.specs.Text.{text_of};
-ghost use Rattle.byte_io.specs.Sides.{and_then};
 ghost use Rattle.worker_state.specs.Registration.{seen_name};
-ghost use Rattle.job_runner.specs.Course.{Duty, Wrote, Even, Ends, GoesOnOrEnds, IsAccepted, IsFunctionName, Sends, asking, known};
-ghost use Rattle.job_runner.specs.Course.{name_of, obeying, IsStop, PortReason};
-ghost use Rattle.job_runner.specs.Following.{meant_by, phase_with, scene, Follows};
+ghost use Rattle.job_runner.specs.Course.{IsAccepted, IsFunctionName, Sends, asking};
+ghost use Rattle.job_runner.specs.Course.{name_of, obeying, IsStop};
+ghost use Rattle.job_runner.specs.Following.{meant_by, phase_with};
 ghost use Rattle.job_runner.specs.Run.{LinkKept, seen_link};
-ghost use Rattle.job_runner.specs.declared.answering.Tally.{Tally};
-ghost use Rattle.job_runner.specs.Told.{Telling, jobs_of};
 
 use crate::end::EndCause;
-use crate::port::PoolPort;
 use crate::sending::add_if;
-use crate::worker::Worker;
 use byte_io::{Sink, give_all};
 use gear_packets::Request;
 use plan_model::FuncId;
@@ -113,7 +108,7 @@ fn encode_change<'n>(
 }
 
 /// Writes the packets that lead from one function to another, and ask for a job of it.
-fn write_change<L: Sink>(
+pub fn write_change<L: Sink>(
     alloc: Global,
     link: &mut L,
     settings: &Settings,
@@ -133,45 +128,5 @@ fn write_change<L: Sink>(
     let Ok(()) = give_all(link, text.as_slice()) else {
         return Err(EndCause::WriteFault);
     };
-    Ok(())
-}
-
-/// Reads the order, and writes what it asks for: the packets that lead to its function, with the request for a job of it.
-pub fn obey<L: Sink, P: PoolPort>(
-    worker: &Worker<'_>,
-    link: &mut L,
-    port: &mut P,
-    registered: &mut Option<u32>,
-) -> Result<(), EndCause>
-    requires { (L.output link.old).failures < 2 ^ 64 - 1 }
-    ensures obeys { (duty : Duty) (before : Option (List ℕ)) (bytes : List ℕ) (done : List Telling) (tally : Tally) →
-        duty.functions ≡ worker.now.place.settings.now.functions → (L.output link.old).got ≡ and_then before bytes
-        → Wrote duty bytes (known duty.functions registered.old) done → Even tally (P.book port.old) (length done) →
-        (more : List ℕ) × ((L.output link.new).got ≡ and_then before more)
-        × GoesOnOrEnds (Wrote duty more (known duty.functions registered.new) done × Even tally (P.book port.new) (length done))
-        (Ends duty more done (jobs_of done) tally (P.book port.new)) result }
-    ensures follows { Follows worker.now (scene registered.old (L.output link.old).got (P.book port.old))
-        (scene registered.new (L.output link.new).got (P.book port.new)) result }
-    ensures there { OnOk result (IfSome registered.new (λ f. f < length worker.now.place.settings.now.functions)) }
-    ensures reason { IfErr result (PortReason worker.now.pass.now.generation (P.book port.new)) }
-    ensures link { LinkKept (seen_link L.input L.output link.old) (seen_link L.input L.output link.new) result }
-    ensures losses { (P.book port.new).losses ≡ (P.book port.old).losses }
-{
-    let order = port.order(worker.pass);
-    if stops(&order, worker.pass) {
-        return Err(EndCause::Stopped);
-    }
-    let wanted = wanted_of(&order, worker.pass, worker.place.settings);
-    match write_change(
-        worker.place.alloc,
-        link,
-        worker.place.settings,
-        *registered,
-        wanted,
-    ) {
-        Ok(()) => {}
-        Err(cause) => return Err(cause),
-    }
-    *registered = wanted;
     Ok(())
 }

@@ -1,19 +1,16 @@
 //! What a session knows between two messages, and the order that it then obeys.
 
-ghost use Rattle.std.specs.Prelude.{◌≡◌, ◌≢◌, ◌+◌, ◌-◌, ◌<◌, ◌≤◌, ◌^◌, ◌++◌, [], ◌∷◌, ℕ, List, length, IfOk, IfErr, OnOk, Option, Some};
-ghost use Rattle.std.specs.Prelude.{None};
+ghost use Rattle.std.specs.Prelude.{◌≡◌, ◌≢◌, ◌+◌, ◌-◌, ◌<◌, ◌≤◌, ◌^◌, ℕ, List, length, IfErr, Option, Some, None};
 ghost use Rattle.gear_packets.specs.Reading.{job_of};
-ghost use Rattle.byte_io.specs.Sides.{and_then};
-ghost use Rattle.job_runner.specs.Book.{Ledger};
-ghost use Rattle.job_runner.specs.Course.{Duty, AnswerReason, PortReason, CanCount, CanBook};
-ghost use Rattle.job_runner.specs.Told.{Telling, jobs_of};
-ghost use Rattle.job_runner.specs.Run.{AreAnswered, Acts, LinkKept, ToldSince, seen_link};
-ghost use Rattle.job_runner.specs.Acting.{moment, FollowsOrder, Serves};
+ghost use Rattle.job_runner.specs.Course.{AnswerReason, PortReason, CanCount, CanBook};
+ghost use Rattle.job_runner.specs.Holding.{Idles, SameParts, link_of, now_of};
+ghost use Rattle.job_runner.specs.Run.{LinkKept, ToldSince};
+ghost use Rattle.job_runner.specs.Acting.{tellings_of, Came, FollowsOrder, Serves};
 
-use crate::answering::{Tally, answer};
+use crate::answering::Tally;
 use crate::end::EndCause;
 use crate::jobs::Jobs;
-use crate::order::{Phase, obey, phase_with};
+use crate::order::{Phase, phase_with, stops, wanted_of, write_change};
 use crate::port::PoolPort;
 use crate::worker::Worker;
 use byte_io::Sink;
@@ -30,62 +27,66 @@ pub struct State {
     pub tally: Tally,
 }
 
-/// Obeys the current order.
-pub fn follow<L: Sink, P: PoolPort>(
-    worker: &Worker<'_>,
-    link: &mut L,
-    port: &mut P,
-    state: &mut State,
-) -> Result<(), EndCause>
-    requires { (L.output link.old).failures < 2 ^ 64 - 1 }
-    ensures acts { (duty : Duty) (before : Option (List ℕ)) (bytes : List ℕ) (done : List Telling) →
-        duty.functions ≡ worker.now.place.settings.now.functions
-        → (L.output link.old).got ≡ and_then before bytes → AreAnswered duty bytes done state.old (P.book port.old) →
-        (more : List ℕ) × ((L.output link.new).got ≡ and_then before more)
-        × Acts duty more done (jobs_of done) state.new (P.book port.new) result }
-    ensures follows { FollowsOrder worker.now (moment state.old (L.output link.old).got (P.book port.old))
-        (moment state.new (L.output link.new).got (P.book port.new)) result }
-    ensures link { LinkKept (seen_link L.input L.output link.old) (seen_link L.input L.output link.new) result }
-    ensures reason { IfErr result (PortReason worker.now.pass.now.generation (P.book port.new)) }
-    ensures losses { (P.book port.new).losses ≡ (P.book port.old).losses }
-{
-    match obey(worker, link, port, &mut state.registered) {
-        Ok(()) => {
-            state.phase = phase_with(state.registered);
-            Ok(())
-        }
-        Err(cause) => Err(cause),
-    }
+/// A session while it goes on: what it works on, and what it knows.
+#[derive(Drop)]
+pub struct Session<'l, 'p, 'j, L, P, J> {
+    /// Its link to the server.
+    pub link: &'l mut L,
+    /// Its port to the pool.
+    pub port: &'p mut P,
+    /// What runs its jobs.
+    pub jobs: &'j mut J,
+    /// What it knows.
+    pub state: State,
 }
 
-/// Answers an assignment, and then obeys the current order.
-pub fn serve_job<L: Sink, P: PoolPort, J: Jobs>(
-    worker: &Worker<'_>,
-    link: &mut L,
-    port: &mut P,
-    jobs: &mut J,
-    state: &mut State,
-    job: Assignment,
-) -> Result<(), EndCause>
-    requires link { (L.output link.old).failures < 2 ^ 64 - 1 }
-    requires tally { CanCount state.old.tally }
-    requires port { CanBook (P.book port.old) }
-    ensures acts { (duty : Duty) (before : Option (List ℕ)) (bytes : List ℕ) (done : List Telling) →
-        duty.functions ≡ worker.now.place.settings.now.functions
-        → (L.output link.old).got ≡ and_then before bytes → AreAnswered duty bytes done state.old (P.book port.old) →
-        (more : List ℕ) × (since : List Telling) × ((L.output link.new).got ≡ and_then before more)
-        × ToldSince J.tells J.fails jobs.old jobs.new since result
-        × Acts duty more (done ++ since) (jobs_of done ++ job_of job ∷ []) state.new (P.book port.new) result }
-    ensures serves { Serves worker.now (job_of job)
-        (moment state.old (L.output link.old).got (P.book port.old)) (moment state.new (L.output link.new).got (P.book port.new)) result }
-    ensures link { LinkKept (seen_link L.input L.output link.old) (seen_link L.input L.output link.new) result }
-    ensures reason { IfErr result (AnswerReason worker.now.pass.now.generation (P.book port.new)) }
-    ensures losses { (P.book port.new).losses ≡ (P.book port.old).losses }
-{
-    match answer(worker, link, port, jobs, &mut state.tally, job) {
-        Ok(()) => {}
-        Err(cause) => return Err(cause),
+impl<'l, 'p, 'j, L: Sink, P: PoolPort, J: Jobs> Session<'l, 'p, 'j, L, P, J> {
+    /// Reads the order, and writes what it asks for: the packets that lead to its function, with the request for a job of it.
+    pub fn follow(&mut self, worker: &Worker<'_>) -> Result<(), EndCause>
+        requires { (L.output self.old.link.now).failures < 2 ^ 64 - 1 }
+        ensures idles { Idles self.old self.new }
+        ensures follows { FollowsOrder worker.now (now_of L.output P.book self.old) (now_of L.output P.book self.new) result }
+        ensures link { LinkKept (link_of L.input L.output self.old) (link_of L.input L.output self.new) result }
+        ensures reason { IfErr result (PortReason worker.now.pass.now.generation (P.book self.new.port.now)) }
+        ensures losses { (P.book self.new.port.now).losses ≡ (P.book self.old.port.now).losses }
+    {
+        let order = self.port.order(worker.pass);
+        if stops(&order, worker.pass) {
+            return Err(EndCause::Stopped);
+        }
+        let settings = worker.place.settings;
+        let wanted = wanted_of(&order, worker.pass, settings);
+        write_change(
+            worker.place.alloc,
+            self.link,
+            settings,
+            self.state.registered,
+            wanted,
+        )?;
+        self.state.registered = wanted;
+        self.state.phase = phase_with(wanted);
+        Ok(())
     }
-    port.note_readiness(jobs.readiness());
-    follow(worker, link, port, state)
+
+    /// Answers an assignment, and then obeys the current order.
+    pub fn serve_job(&mut self, worker: &Worker<'_>, job: Assignment) -> Result<(), EndCause>
+        requires link { (L.output self.old.link.now).failures < 2 ^ 64 - 1 }
+        requires tally { CanCount self.old.state.tally }
+        requires port { CanBook (P.book self.old.port.now) }
+        ensures parts { SameParts self.old self.new }
+        ensures serves { (came : Came)
+            × ToldSince J.tells J.fails self.old.jobs.now self.new.jobs.now (tellings_of (job_of job) came) result
+            × Serves worker.now (job_of job) came (now_of L.output P.book self.old) (now_of L.output P.book self.new) result }
+        ensures link { LinkKept (link_of L.input L.output self.old) (link_of L.input L.output self.new) result }
+        ensures reason { IfErr result (AnswerReason worker.now.pass.now.generation (P.book self.new.port.now)) }
+        ensures losses { (P.book self.new.port.now).losses ≡ (P.book self.old.port.now).losses }
+    {
+        match self.answer(worker, job) {
+            Ok(()) => {}
+            Err(cause) => return Err(cause),
+        }
+        let readiness = self.jobs.readiness();
+        self.port.note_readiness(readiness);
+        self.follow(worker)
+    }
 }

@@ -3,7 +3,7 @@ pub mod Trees
 pub mod Found
 pub mod Searches
 pub mod SlotSums
-pub mod Ranges
+pub mod Counts
 pub mod Passing
 pub mod Risen
 pub mod Planned

@@ -1,6 +1,6 @@
 -- A tree that passes the checks, and what its settings keep.
 use Rattle.std.proofs.Common.{◌≡◌, ℕ, ◌<◌, ◌≤◌, List, [], ◌∷◌, Bool, true, false, Option, Some, None, is_some, leb, length, get_or, All, refl, sym, subst, ◌∙◌, arith}
-use Rattle.std.specs.Prelude.{sum, IsTrue, unwrap_or, option_and_then}
+use Rattle.std.specs.Prelude.{codes, sum, IsTrue, option_and_then}
 use Rattle.std.specs.List.{list_all, range_with_len}
 use Rattle.std.specs.Option.{option_map_or, option_or}
 use Rattle.std.specs.List.Sorted.{IsStrictlyIncreasing}
@@ -19,8 +19,10 @@ use Rattle.pool_settings.specs.declared.place.Place.TheVariants as place
 use Rattle.pool_settings.specs.Place.{first_in, unless}
 use Rattle.pool_settings.specs.Settings.{AreSettings, Settings}
 use Rattle.pool_settings.specs.Reading as spec
-use Rattle.pool_settings.specs.Tree.{Entry, entries_at, entries_of}
-use Rattle.pool_settings.proofs.Ranges.{IsFrom, count_few, limit_range, text_range}
+use Rattle.file_keys.specs.Tree.{Entry, entries_at, entries_of}
+use Rattle.file_keys.specs.Keys.{number_in, text_in}
+use Rattle.file_keys.proofs.Ranges.{IsFrom, number_in_range, text_in_range}
+use Rattle.pool_settings.proofs.Counts.{count_few}
 
 -- each check is passed
 pub record Passes (tree : Members) : Type 0 where
@@ -85,10 +87,10 @@ table_there key check tree h = by (table_of key tree) h
 -- both tables are there
 pub tables_there : (tree : Members) → Passes tree → (is_some (table_of spec.functions_key tree) ≡ true) × (is_some (table_of spec.machines_key tree) ≡ true)
 tables_there tree p =
-    let limits = none_of (spec.bad_limit tree) _ p.good_values in
-    let functions = none_of (spec.bad_table spec.functions_key spec.bad_count_of tree) _ limits.1 in
-    let machines = none_of (spec.bad_table spec.machines_key spec.bad_machine_of tree) None functions.1 in
-    (table_there spec.functions_key spec.bad_count_of tree functions.0, table_there spec.machines_key spec.bad_machine_of tree machines.0)
+    let limits = none_of (spec.bad_top_value tree) _ p.good_values in
+    let functions = none_of (spec.bad_table spec.functions_key spec.bad_function tree) _ limits.1 in
+    let machines = none_of (spec.bad_table spec.machines_key spec.bad_machine tree) None functions.1 in
+    (table_there spec.functions_key spec.bad_function tree functions.0, table_there spec.machines_key spec.bad_machine tree machines.0)
 
 -- where no entry's name is at fault, each is good
 all_named : (p : List ℕ → Bool) (at : Entry → spec.Where) (es : List Entry) → first_in (λ e. unless (p e.0) (at e)) es ≡ None → list_all (λ e. p e.0) es ≡ true
@@ -120,19 +122,12 @@ AreSettings-settings_of tree h functions_rise machines_rise =
     let n = length (spec.names_of functions) in
     let names = none_of (spec.bad_function_name functions) _ p.good_names in
     let machine_names = none_of (spec.bad_machine_name machines) None names.1 in
-    let limits = (none_of (spec.bad_limit tree) _ p.good_values).0 in
-    let first = none_of (unless (is_some (spec.server_in tree)) (place.Key spec.server_key)) _ limits in
-    let second = none_of (unless (is_some (spec.job_timeout_in tree)) (place.Key spec.job_timeout_key)) _ first.1 in
-    let third = none_of (unless (is_some (spec.max_runs_in tree)) (place.Key spec.max_runs_key)) _ second.1 in
-    let fourth = none_of (unless (is_some (spec.round_in tree)) (place.Key spec.round_key)) _ third.1 in
-    let fifth = none_of (unless (is_some (spec.lull_in tree)) (place.Key spec.lull_key)) _ fourth.1 in
-    let sixth = none_of (unless (is_some (spec.history_in tree)) (place.Key spec.history_key)) None fifth.1 in
-    let server = text_range 1 255 _ (get_member spec.server_key tree) (omega arith, omega arith) (is_good _ _ first.0) in
-    let job_timeout : IsFrom 1 4294967295 (unwrap_or (spec.job_timeout_in tree) 0) = limit_range spec.job_timeout_key 1 4294967295 60000 tree (omega arith, omega arith) (is_good _ _ second.0) in
-    let max_runs : IsFrom 1 4294967295 (unwrap_or (spec.max_runs_in tree) 0) = limit_range spec.max_runs_key 1 4294967295 4294967295 tree (omega arith, omega arith) (is_good _ _ third.0) in
-    let round : IsFrom 1 3600000 (unwrap_or (spec.round_in tree) 0) = limit_range spec.round_key 1 3600000 1000 tree (omega arith, omega arith) (is_good _ _ fourth.0) in
-    let lull : IsFrom 1 3600000 (unwrap_or (spec.lull_in tree) 0) = limit_range spec.lull_key 1 3600000 100 tree (omega arith, omega arith) (is_good _ _ fifth.0) in
-    let history : IsFrom 1 1048576 (unwrap_or (spec.history_in tree) 0) = limit_range spec.history_key 1 1048576 1048576 tree (omega arith, omega arith) (is_good _ _ sixth.0) in
+    let server : IsFrom 1 255 (length (text_in tree spec.server_row)) = text_in_range spec.server_key (codes "127.0.0.1:4730") spec.server_row.help 1 255 tree (omega arith, omega arith) in
+    let job_timeout : IsFrom 1 4294967295 (number_in tree spec.job_timeout_row) = number_in_range spec.job_timeout_row tree refl in
+    let max_runs : IsFrom 1 4294967295 (number_in tree spec.max_runs_row) = number_in_range spec.max_runs_row tree refl in
+    let round : IsFrom 1 3600000 (number_in tree spec.round_row) = number_in_range spec.round_row tree refl in
+    let lull : IsFrom 1 3600000 (number_in tree spec.lull_row) = number_in_range spec.lull_row tree refl in
+    let history : IsFrom 1 1048576 (number_in tree spec.history_row) = number_in_range spec.history_row tree refl in
     let many_functions : n ≡ length functions = length-map functions (λ e. e.0) in
     let many_machines : length (spec.names_of machines) ≡ length machines = length-map machines (λ e. e.0) in
     record {

@@ -9,7 +9,7 @@ use Rattle.toml.specs.Errors.{IsBlank}
 use Rattle.pool_settings.specs.Entries.{table_entries}
 use Rattle.pool_settings.specs.Place.{place_view}
 use Rattle.pool_settings.specs.Reading as reading
-use Rattle.pool_settings.specs.Tree.{entries_at}
+use Rattle.file_keys.specs.Tree.{entries_at}
 use Rattle.pool_settings.specs.declared.checks.Tables.{Tables}
 use Rattle.pool_settings.specs.declared.error.SettingsError.{SettingsError}
 use Rattle.pool_settings.specs.declared.error.SettingsError.TheVariants as error

@@ -1,16 +1,17 @@
 -- The settings as the code keeps them.
-use Rattle.std.specs.Prelude.{map, string_bytes}
+use Rattle.std.specs.Prelude.{map, slice_index, string_bytes}
 use Rattle.pool_settings.specs.Settings.{Settings}
+use Rattle.pool_settings.specs.declared.keys.TheConstants.{HISTORY_PLACE, JOB_TIMEOUT_PLACE, LULL_PLACE, MAX_RUNS_PLACE, ROUND_PLACE}
 use Rattle.pool_settings.specs.declared.settings.Settings.TheInside.{Inside}
 
 abbrev pub settings_view : Inside → Settings
 settings_view s = record {
   server = string_bytes s.server;
-  job_timeout_ms = s.job_timeout_ms;
-  max_runs = s.max_runs;
-  round_ms = s.round_ms;
-  lull_ms = s.lull_ms;
-  history = s.history;
+  job_timeout_ms = slice_index s.numbers JOB_TIMEOUT_PLACE;
+  max_runs = slice_index s.numbers MAX_RUNS_PLACE;
+  round_ms = slice_index s.numbers ROUND_PLACE;
+  lull_ms = slice_index s.numbers LULL_PLACE;
+  history = slice_index s.numbers HISTORY_PLACE;
   functions = s.functions;
   least = s.least.items;
   most = s.most.items;

@@ -3,7 +3,6 @@ pub mod Settings
 pub mod Slots
 pub mod Rows
 pub mod Planning
-pub mod Tree
 pub mod Place
 pub mod Fault
 pub mod Reading

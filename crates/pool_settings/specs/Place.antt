@@ -1,7 +1,7 @@
 -- Where in a settings file a fault is.
 use Rattle.std.specs.Prelude.{List, [], ◌∷◌, Bool, Option, Some, None, if◌then◌else◌}
 use Rattle.std.specs.Option.{option_or}
-use Rattle.pool_settings.specs.Tree.{Entry}
+use Rattle.file_keys.specs.Tree.{Entry}
 use Rattle.pool_settings.specs.declared.place.Place.{Place}
 use Rattle.pool_settings.specs.declared.place.Place.TheVariants as place
 

@@ -1,22 +1,22 @@
 //! The checks of a settings file. Each looks at the whole tree, and answers where the first fault is.
 
-ghost use Rattle.std.specs.Prelude.{◌≡◌, ◌&&◌, IfOk, is_some, false};
-ghost use Rattle.std.specs.Option.{option_map_or};
-ghost use Rattle.std.specs.List.{list_all};
-ghost use Rattle.toml.specs.Data.{as_str};
-ghost use Rattle.toml.specs.View.{array_view, table_view, view};
+ghost use Rattle.std.specs.Prelude.{◌≡◌, IfOk};
+ghost use Rattle.toml.specs.View.{table_view, view};
+ghost use Rattle.file_keys.specs.Keys.{keys_view};
+ghost use Rattle.file_keys.specs.Tree.{Entry, entries_at, has_key};
 ghost use Rattle.pool_settings.specs.Entries.{AnswersAs, entries_if, found_in, shown, table_entries};
 ghost use Rattle.pool_settings.specs.Fault.{HasTables};
 ghost use Rattle.pool_settings.specs.Place as places;
 ghost use Rattle.pool_settings.specs.Reading as spec;
-ghost use Rattle.pool_settings.specs.Tree.{Entry, entries_at, values_of};
 ghost use Rattle.std.specs.Prelude.{Option};
 
-use crate::bounds::MAX_WORKERS;
-use crate::keys::bad_limit;
+use crate::keys::{
+    FIRST_FUNCTION_KEYS, FUNCTION_KEYS, FUNCTIONS, MACHINE_KEYS, MACHINES, TOP_KEYS, VERSION,
+};
 use crate::name_rules::{is_machine_name, is_name};
 use crate::place::{Place, Section};
-use crate::tree::{number_between, table_at, value_at};
+use crate::tree::table_at;
+use file_keys::{Key, first_bad, first_missing, is_known, number_of, value_at};
 use toml::{Table, Value};
 
 /// The two tables of a settings file whose keys are names.
@@ -53,16 +53,13 @@ where
 pub fn version_in(tree: &Table) -> Option<u32>
     ensures { result ≡ spec.version_in (table_view tree.now) }
 {
-    match value_at(tree, "version") {
-        Some(value) => number_between(1, 2, value),
-        None => None,
-    }
+    number_of(&VERSION, tree)
 }
 
 pub fn bad_version(tree: &Table) -> Option<Place<&str>>
     ensures { shown result ≡ spec.bad_version (table_view tree.now) }
 {
-    unless(version_in(tree).is_some(), Place::Key("version"))
+    unless(version_in(tree).is_some(), Place::Key(VERSION.name))
 }
 
 fn is_version_2(tree: &Table) -> bool
@@ -73,44 +70,14 @@ fn is_version_2(tree: &Table) -> bool
 
 // ---- known keys
 
-fn is_limit_key(key: &str) -> bool
-    ensures { result ≡ spec.is_limit_key key.now }
-{
-    key == "job_timeout_ms"
-        || key == "max_runs"
-        || key == "round_ms"
-        || key == "lull_ms"
-        || key == "history"
-}
-
-fn is_top_key(key: &str) -> bool
-    ensures { result ≡ spec.is_top_key key.now }
-{
-    key == "version"
-        || key == "server"
-        || is_limit_key(key)
-        || key == "functions"
-        || key == "machines"
-}
-
-fn is_function_key(tree: &Table, key: &str) -> bool
-    ensures { result ≡ spec.is_function_key (table_view tree.now) key.now }
-{
-    key == "least" || key == "most" && is_version_2(tree)
-}
-
-fn is_machine_key(key: &str) -> bool
-    ensures { result ≡ spec.is_machine_key key.now }
-{
-    key == "workers" || key == "functions"
-}
-
-fn is_entry_key(section: Section, tree: &Table, key: &str) -> bool
-    ensures { result ≡ spec.is_entry_key section (table_view tree.now) key.now }
+/// The keys that the table of a function or a machine may have in the version of the file.
+fn entry_keys(section: Section, tree: &Table) -> &'static [Key]
+    ensures { keys_view result.now ≡ spec.entry_keys section (table_view tree.now) }
 {
     match section {
-        Section::Functions => is_function_key(tree, key),
-        Section::Machines => is_machine_key(key),
+        Section::Functions if is_version_2(tree) => &FUNCTION_KEYS,
+        Section::Functions => &FIRST_FUNCTION_KEYS,
+        Section::Machines => &MACHINE_KEYS,
     }
 }
 
@@ -118,7 +85,7 @@ fn unknown_top_key(tree: &Table) -> Option<Place<&str>>
     ensures { shown result ≡ spec.unknown_top_key (table_view tree.now) }
 {
     first_in(Some(tree), |key, _value| {
-        unless(is_top_key(key), Place::Key(key))
+        unless(is_known(&TOP_KEYS, key), Place::Key(key))
     })
 }
 
@@ -131,11 +98,9 @@ fn unknown_key_of<'t>(
 ) -> Option<Place<&'t str>>
     ensures { shown result ≡ spec.unknown_key_of section (table_view tree.now) (name.now, view value.now) }
 {
+    let keys = entry_keys(section, tree);
     first_in(value.as_table(), |key, _value| {
-        unless(
-            is_entry_key(section, tree, key),
-            Place::EntryKey(section, name, key),
-        )
+        unless(is_known(keys, key), Place::EntryKey(section, name, key))
     })
 }
 
@@ -156,14 +121,14 @@ pub fn unknown_key(tree: &Table) -> Option<Place<&str>>
     ensures { shown result ≡ spec.unknown_key (table_view tree.now) }
 {
     unknown_top_key(tree)
-        .or_else(|| unknown_key_in(Section::Functions, tree, table_at(tree, "functions")))
-        .or_else(|| unknown_key_in(Section::Machines, tree, table_at(tree, "machines")))
+        .or_else(|| unknown_key_in(Section::Functions, tree, table_at(tree, FUNCTIONS.name)))
+        .or_else(|| unknown_key_in(Section::Machines, tree, table_at(tree, MACHINES.name)))
 }
 
 // ---- needed keys
 
 pub fn has_key(table: &Table, key: &str) -> bool
-    ensures { result ≡ spec.has_key key.now (table_view table.now) }
+    ensures { result ≡ has_key key.now (table_view table.now) }
 {
     value_at(table, key).is_some()
 }
@@ -172,23 +137,21 @@ pub fn has_key(table: &Table, key: &str) -> bool
 fn missing_key_of<'t>(name: &'t str, value: &'t Value) -> Option<Place<&'t str>>
     ensures { shown result ≡ spec.missing_key_of (name.now, view value.now) }
 {
-    let machine = value.as_table()?;
-    unless(
-        has_key(machine, "workers"),
-        Place::EntryKey(Section::Machines, name, "workers"),
-    )
-    .or_else(|| unless(
-        has_key(machine, "functions"),
-        Place::EntryKey(Section::Machines, name, "functions"),
-    ))
+    let key = first_missing(&MACHINE_KEYS, value.as_table()?)?;
+    Some(Place::EntryKey(Section::Machines, name, key))
+}
+
+fn missing_top_key(tree: &Table) -> Option<Place<&str>>
+    ensures { shown result ≡ spec.missing_top_key (table_view tree.now) }
+{
+    let key = first_missing(&TOP_KEYS, tree)?;
+    Some(Place::Key(key))
 }
 
 pub fn missing_key(tree: &Table) -> Option<Place<&str>>
     ensures { shown result ≡ spec.missing_key (table_view tree.now) }
 {
-    unless(has_key(tree, "functions"), Place::Key("functions"))
-        .or_else(|| unless(has_key(tree, "machines"), Place::Key("machines")))
-        .or_else(|| first_in(table_at(tree, "machines"), missing_key_of))
+    missing_top_key(tree).or_else(|| first_in(table_at(tree, MACHINES.name), missing_key_of))
 }
 
 // ---- names
@@ -218,98 +181,41 @@ fn bad_machine_name(table: Option<&Table>) -> Option<Place<&str>>
 pub fn bad_name(tree: &Table) -> Option<Place<&str>>
     ensures { shown result ≡ spec.bad_name (table_view tree.now) }
 {
-    bad_function_name(table_at(tree, "functions")).or_else(|| bad_machine_name(table_at(
-        tree, "machines",
+    bad_function_name(table_at(tree, FUNCTIONS.name)).or_else(|| bad_machine_name(table_at(
+        tree,
+        MACHINES.name,
     )))
 }
 
 // ---- values
 
-fn is_worker_count(value: &Value) -> bool
-    ensures { result ≡ is_some (spec.worker_count (view value.now)) }
+fn bad_top_value(tree: &Table) -> Option<Place<&str>>
+    ensures { shown result ≡ spec.bad_top_value (table_view tree.now) }
 {
-    number_between(0, MAX_WORKERS, value).is_some()
+    let key = first_bad(&TOP_KEYS, tree)?;
+    Some(Place::Key(key))
 }
 
-fn has_good_count(table: &Table, key: &str) -> bool
-    ensures { result ≡ spec.has_good_count key.now (table_view table.now) }
-{
-    match value_at(table, key) {
-        Some(value) => is_worker_count(value),
-        None => true,
-    }
-}
-
-/// Where a function's table is no table, or has no number of workers at a key that it has.
-fn bad_count_of<'t>(name: &'t str, value: &'t Value) -> Option<Place<&'t str>>
-    ensures { shown result ≡ spec.bad_count_of (name.now, view value.now) }
+/// Where a function's table is no table, or has a bad value.
+fn bad_function<'t>(name: &'t str, value: &'t Value) -> Option<Place<&'t str>>
+    ensures { shown result ≡ spec.bad_function (name.now, view value.now) }
 {
     let Some(function) = value.as_table() else {
         return Some(Place::Entry(Section::Functions, name));
     };
-    unless(
-        has_good_count(function, "least"),
-        Place::EntryKey(Section::Functions, name, "least"),
-    )
-    .or_else(|| unless(
-        has_good_count(function, "most"),
-        Place::EntryKey(Section::Functions, name, "most"),
-    ))
+    let key = first_bad(&FUNCTION_KEYS, function)?;
+    Some(Place::EntryKey(Section::Functions, name, key))
 }
 
-fn are_texts(values: &Vec<Value>) -> bool
-    ensures { result ≡ list_all (λ d. is_some (as_str d)) (values_of (array_view values.now)) }
-{
-    for value in values {
-        if !value.is_str() {
-            return false;
-        }
-    }
-    true
-}
-
-fn is_list_of_texts(value: &Value) -> bool
-    ensures { result ≡ spec.is_list_of_texts (view value.now) }
-{
-    match value.as_array() {
-        Some(values) => are_texts(values),
-        None => false,
-    }
-}
-
-fn has_workers(machine: &Table) -> bool
-    ensures { result ≡ spec.has_workers (table_view machine.now) }
-{
-    match value_at(machine, "workers") {
-        Some(value) => is_worker_count(value),
-        None => false,
-    }
-}
-
-fn has_listing(machine: &Table) -> bool
-    ensures { result ≡ spec.has_listing (table_view machine.now) }
-{
-    match value_at(machine, "functions") {
-        Some(value) => is_list_of_texts(value),
-        None => false,
-    }
-}
-
-/// Where a machine's table is no table, or has no number of workers or no list of texts.
-fn bad_machine_of<'t>(name: &'t str, value: &'t Value) -> Option<Place<&'t str>>
-    ensures { shown result ≡ spec.bad_machine_of (name.now, view value.now) }
+/// Where a machine's table is no table, or has a bad value.
+fn bad_machine<'t>(name: &'t str, value: &'t Value) -> Option<Place<&'t str>>
+    ensures { shown result ≡ spec.bad_machine (name.now, view value.now) }
 {
     let Some(machine) = value.as_table() else {
         return Some(Place::Entry(Section::Machines, name));
     };
-    unless(
-        has_workers(machine),
-        Place::EntryKey(Section::Machines, name, "workers"),
-    )
-    .or_else(|| unless(
-        has_listing(machine),
-        Place::EntryKey(Section::Machines, name, "functions"),
-    ))
+    let key = first_bad(&MACHINE_KEYS, machine)?;
+    Some(Place::EntryKey(Section::Machines, name, key))
 }
 
 /// The table at a key, if it is one and a check finds no fault in its entries. Else where the first fault is.
@@ -331,17 +237,17 @@ where
 }
 
 fn function_table(tree: &Table) -> Result<&Table, Place<&str>>
-    ensures fault { found_in result ≡ spec.bad_table spec.functions_key spec.bad_count_of (table_view tree.now) }
+    ensures fault { found_in result ≡ spec.bad_table spec.functions_key spec.bad_function (table_view tree.now) }
     ensures table { IfOk result (λ table. table_entries table.now ≡ entries_at spec.functions_key (table_view tree.now)) }
 {
-    sound_table(tree, "functions", bad_count_of)
+    sound_table(tree, FUNCTIONS.name, bad_function)
 }
 
 fn machine_table(tree: &Table) -> Result<&Table, Place<&str>>
-    ensures fault { found_in result ≡ spec.bad_table spec.machines_key spec.bad_machine_of (table_view tree.now) }
+    ensures fault { found_in result ≡ spec.bad_table spec.machines_key spec.bad_machine (table_view tree.now) }
     ensures table { IfOk result (λ table. table_entries table.now ≡ entries_at spec.machines_key (table_view tree.now)) }
 {
-    sound_table(tree, "machines", bad_machine_of)
+    sound_table(tree, MACHINES.name, bad_machine)
 }
 
 /// The tables of functions and machines of a tree whose values are good. Else where the first bad value is.
@@ -349,7 +255,7 @@ pub fn tables_of(tree: &Table) -> Result<Tables<'_>, Place<&str>>
     ensures fault { found_in result ≡ spec.bad_value (table_view tree.now) }
     ensures tables { IfOk result (HasTables (table_view tree.now)) }
 {
-    if let Some(place) = bad_limit(tree) {
+    if let Some(place) = bad_top_value(tree) {
         return Err(place);
     }
     let functions = match function_table(tree) {

@@ -1,7 +1,9 @@
 //! A settings file whose text is TOML: which keys it gives, and what it means.
 
-ghost use Rattle.std.specs.Prelude.{◌≡◌, ◌≢◌, IfErr, IfOk, None, Ok, Some};
+ghost use Rattle.std.specs.Prelude.{◌≡◌, ◌≢◌, IfErr, IfOk, None, Ok, Some, option_map};
 ghost use Rattle.toml.specs.View.{table_view};
+ghost use Rattle.file_keys.specs.Keys.{key_view, number_of, text_of};
+ghost use Rattle.file_keys.specs.Tree.{has_key};
 ghost use Rattle.pool_settings.specs.Fault.{RefusesText, RefusesTree};
 ghost use Rattle.pool_settings.specs.Reading as spec;
 
@@ -9,8 +11,10 @@ use crate::Settings;
 use crate::checked::checked;
 use crate::checks::{has_key, version_in};
 use crate::fault::{SettingsFault, text_fault};
+use crate::keys::FUNCTIONS;
 use crate::settings::settings_of;
 use crate::tree::table_at;
+use file_keys::{Key, number_of, text_of};
 use std::alloc::Global;
 use toml::Table;
 
@@ -59,9 +63,23 @@ impl SettingsFile {
         version_in(&self.tree)
     }
 
+    /// The number at a key of the top table, or its default.
+    pub fn number(&self, key: &Key) -> Option<u32>
+        ensures { result ≡ number_of (key_view key.now) (table_view self.now.tree) }
+    {
+        number_of(key, &self.tree)
+    }
+
+    /// The text of bounded length at a key of the top table, or its default.
+    pub fn text(&self, key: &Key) -> Option<&str>
+        ensures { option_map (λ t. t.now) result ≡ text_of (key_view key.now) (table_view self.now.tree) }
+    {
+        text_of(key, &self.tree)
+    }
+
     /// Whether the top table has a key.
     pub fn has_key(&self, key: &str) -> bool
-        ensures { result ≡ spec.has_key key.now (table_view self.now.tree) }
+        ensures { result ≡ has_key key.now (table_view self.now.tree) }
     {
         has_key(&self.tree, key)
     }
@@ -70,7 +88,7 @@ impl SettingsFile {
     pub fn function_has_key(&self, function: &str, key: &str) -> bool
         ensures { result ≡ spec.function_has_key function.now key.now (table_view self.now.tree) }
     {
-        let Some(functions) = table_at(&self.tree, "functions") else {
+        let Some(functions) = table_at(&self.tree, FUNCTIONS.name) else {
             return false;
         };
         match table_at(functions, function) {

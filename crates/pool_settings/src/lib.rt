@@ -22,6 +22,7 @@ mod tree;
 pub use error::SettingsError;
 pub use fault::SettingsFault;
 pub use file::SettingsFile;
+pub use keys::{FUNCTION_KEYS, MACHINE_KEYS, TOP_KEYS, keys_text};
 pub use law::names_are_one_to_one;
 pub use name_rules::{is_machine_name, is_name};
 pub use place::{Counted, Place, Section};

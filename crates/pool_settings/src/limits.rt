@@ -4,22 +4,24 @@ ghost use Rattle.std.specs.Prelude.{◌≡◌, length, nat_le, not, option_map, 
 ghost use Rattle.std.specs.List.{filter_map, find};
 ghost use Rattle.toml.specs.Data.{as_str};
 ghost use Rattle.toml.specs.View.{array_view, table_view, view};
+ghost use Rattle.file_keys.specs.Tree.{values_of};
 ghost use Rattle.pool_settings.specs.Entries.{entries_if, shown, table_entries};
 ghost use Rattle.pool_settings.specs.Reading as spec;
-ghost use Rattle.pool_settings.specs.Tree.{values_of};
 
 use crate::bounds::MAX_WORKERS;
 use crate::build::{count_at, listed_in};
 use crate::checks::{first_in, unless};
+use crate::keys::{FUNCTIONS, MACHINES, WORKERS};
 use crate::place::{Counted, Place};
-use crate::tree::{table_at, value_at};
+use crate::tree::table_at;
+use file_keys::value_at;
 use plan_model::{MAX_FUNCTIONS, MAX_MACHINES};
 use toml::{Table, Value};
 
 fn is_function(tree: &Table, name: &str) -> bool
     ensures { result ≡ spec.is_function_of (table_view tree.now) name.now }
 {
-    match table_at(tree, "functions") {
+    match table_at(tree, FUNCTIONS.name) {
         Some(functions) => value_at(functions, name).is_some(),
         None => false,
     }
@@ -55,7 +57,7 @@ fn unknown_function_of<'t>(
 pub fn unknown_function(tree: &Table) -> Option<Place<&str>>
     ensures { shown result ≡ spec.unknown_function (table_view tree.now) }
 {
-    first_in(table_at(tree, "machines"), |machine, value| {
+    first_in(table_at(tree, MACHINES.name), |machine, value| {
         unknown_function_of(tree, machine, value)
     })
 }
@@ -74,7 +76,7 @@ fn table_workers_fit(table: &Table) -> bool
 {
     let mut total = 0;
     for (_name, machine) in table {
-        total += count_at(machine, "workers", 0);
+        total += count_at(machine, WORKERS.name, 0);
         if total > MAX_WORKERS {
             return false;
         }
@@ -94,8 +96,8 @@ fn workers_fit(table: Option<&Table>) -> bool
 pub fn too_many(tree: &Table) -> Option<Place<&str>>
     ensures { shown result ≡ spec.too_many (table_view tree.now) }
 {
-    let machines = table_at(tree, "machines");
-    let functions = table_at(tree, "functions");
+    let machines = table_at(tree, MACHINES.name);
+    let functions = table_at(tree, FUNCTIONS.name);
     if count_of(machines) > MAX_MACHINES {
         return Some(Place::Count(Counted::Machines));
     }

@@ -15,11 +15,15 @@ ghost use Rattle.pool_settings.specs.Slots as slots;
 
 use crate::build::{read_counts, read_rows};
 use crate::checks::Tables;
-use crate::keys::{history_in, job_timeout_in, lull_in, max_runs_in, round_in, server_in};
+use crate::keys::{
+    HISTORY_PLACE, JOB_TIMEOUT_PLACE, LEAST, LULL_PLACE, MAX_RUNS_PLACE, MOST, ROUND_PLACE, SERVER,
+    TOP, TOP_KEYS, WORKERS,
+};
 use crate::names::Names;
 use crate::planning::live_workers;
 use crate::slots::SlotTable;
 use crate::{SettingsError, SettingsFile};
+use file_keys::{numbers_in, text_in};
 use gear_status::Load;
 use plan_model::{FuncId, Input, MachineId, SlotId};
 use std::alloc::{AllocError, Global};
@@ -32,11 +36,7 @@ use toml::Table;
 #[derive(Drop)]
 pub struct Settings {
     server: String,
-    job_timeout_ms: u32,
-    max_runs: u32,
-    round_ms: u32,
-    lull_ms: u32,
-    history: u32,
+    numbers: [u32; TOP],
     functions: Names,
     least: Vec<u32>,
     most: Vec<u32>,
@@ -64,21 +64,17 @@ pub fn settings_of(alloc: Global, tree: &Table, tables: Tables<'_>) -> Result<Se
     requires tables { HasTables (table_view tree.now) tables }
     ensures { IfOk result (λ s. s ≡ spec.settings_of (table_view tree.now)) }
 {
-    let server = String::from_str(alloc, server_in(tree).unwrap_or(""))?;
+    let server = String::from_str(alloc, text_in(&SERVER, tree))?;
     let functions = Names::of_table(alloc, tables.functions)?;
-    let least = read_counts(alloc, tables.functions, "least", 0)?;
+    let least = read_counts(alloc, tables.functions, LEAST.name, 0)?;
     let machines = Names::of_table(alloc, tables.machines)?;
-    let workers = read_counts(alloc, tables.machines, "workers", 0)?;
+    let workers = read_counts(alloc, tables.machines, WORKERS.name, 0)?;
     let slots = SlotTable::new(alloc, workers)?;
-    let most = read_counts(alloc, tables.functions, "most", slots.len())?;
+    let most = read_counts(alloc, tables.functions, MOST.name, slots.len())?;
     let may = read_rows(alloc, &functions, tables.machines)?;
     Ok(Settings {
         server,
-        job_timeout_ms: job_timeout_in(tree).unwrap_or(0),
-        max_runs: max_runs_in(tree).unwrap_or(0),
-        round_ms: round_in(tree).unwrap_or(0),
-        lull_ms: lull_in(tree).unwrap_or(0),
-        history: history_in(tree).unwrap_or(0),
+        numbers: numbers_in(&TOP_KEYS, tree),
         functions,
         least,
         most,
@@ -89,23 +85,7 @@ pub fn settings_of(alloc: Global, tree: &Table, tables: Tables<'_>) -> Result<Se
 }
 
 impl Settings {
-    /// Reads a settings file: TOML, with the keys of this table and no others.
-    ///
-    /// | key | place | value | default |
-    /// |---|---|---|---|
-    /// | `version` | top | 1 or 2 | required |
-    /// | `server` | top | a text of 1 to 255 bytes, dialled as `host:port` | `127.0.0.1:4730` |
-    /// | `job_timeout_ms` | top | 1 to 4,294,967,295 milliseconds | 60,000 |
-    /// | `max_runs` | top | 1 to 4,294,967,295 | 4,294,967,295 |
-    /// | `round_ms` | top | 1 to 3,600,000 milliseconds | 1,000 |
-    /// | `lull_ms` | top | 1 to 3,600,000 milliseconds | 100 |
-    /// | `history` | top | 1 to 1,048,576 events | 1,048,576 |
-    /// | `functions` | top | a table of one table for each function | required |
-    /// | `least` | a function | 0 to 4,096 workers | 0 |
-    /// | `most` | a function, in version 2 | 0 to 4,096 workers | the number of all workers in the file |
-    /// | `machines` | top | a table of one table for each machine | required |
-    /// | `workers` | a machine | 0 to 4,096 | required |
-    /// | `functions` | a machine | a list of texts, each the name of a function | required |
+    /// Reads a settings file: TOML, with the keys that [`crate::keys_text`] lists and no others. `most` is a key of version 2.
     ///
     /// A name has 1 to 64 bytes from `!` to `~`, and a machine's holds no `/` and no `#`. A function that a machine lists twice is
     /// permitted once. The file is checked in the order of `SettingsError`, each check over the whole file before the next, and the
@@ -133,11 +113,7 @@ impl Settings {
     {
         Ok(Settings {
             server: String::from_str(alloc, self.server.as_str())?,
-            job_timeout_ms: self.job_timeout_ms,
-            max_runs: self.max_runs,
-            round_ms: self.round_ms,
-            lull_ms: self.lull_ms,
-            history: self.history,
+            numbers: self.numbers,
             functions: self.functions.copy(alloc)?,
             least: Vec::from_slice(alloc, &self.least)?,
             most: Vec::from_slice(alloc, &self.most)?,
@@ -164,7 +140,7 @@ impl Settings {
         ensures all { result ≡ self.now.job_timeout_ms }
         ensures some { 1 ≤ result }
     {
-        self.job_timeout_ms
+        self.numbers[JOB_TIMEOUT_PLACE]
     }
 
     /// The runs after which a worker is replaced: at least 1.
@@ -172,7 +148,7 @@ impl Settings {
         ensures all { result ≡ self.now.max_runs }
         ensures some { 1 ≤ result }
     {
-        self.max_runs
+        self.numbers[MAX_RUNS_PLACE]
     }
 
     /// The pause between two rounds, in milliseconds: from 1 to 3,600,000.
@@ -181,7 +157,7 @@ impl Settings {
         ensures some { 1 ≤ result }
         ensures few { result ≤ 3600000 }
     {
-        self.round_ms
+        self.numbers[ROUND_PLACE]
     }
 
     /// How long a read waits before it counts as a timeout, in milliseconds: from 1 to 3,600,000.
@@ -190,7 +166,7 @@ impl Settings {
         ensures some { 1 ≤ result }
         ensures few { result ≤ 3600000 }
     {
-        self.lull_ms
+        self.numbers[LULL_PLACE]
     }
 
     /// The most events that the pool keeps: from 1 to 1,048,576.
@@ -199,7 +175,7 @@ impl Settings {
         ensures some { 1 ≤ result }
         ensures few { result ≤ 1048576 }
     {
-        self.history
+        self.numbers[HISTORY_PLACE]
     }
 }
 

@@ -16,54 +16,37 @@ use Rattle.pool_supervisor.specs.EndCounts.{with_cause}
 use Rattle.pool_supervisor.specs.declared.run_end.RunEnd.{RunEnd}
 use Rattle.pool_supervisor.specs.Joined.{Joins}
 use Rattle.pool_supervisor.specs.Sessions.{Counts, no_counts, counts_of, counted, PastSession, past_session, AllHad, HasEnded, IsPast, Covers, closing_of}
-use Rattle.pool_supervisor.specs.Tries.{Rule, Look, dials_of, IsOneDial, DialsOnce, FillsSlot, FillFrom, IsSeenAs, FillsOne, Fills, Try, calls_of, joined_of, joined_by, line_of, IsTry, Attempts, Dials}
+use Rattle.pool_supervisor.specs.Tries.{Rule, Look, dials_of, IsOneDial, DialsOnce, FillFrom, FillsOne, Fills, Try, calls_of, joined_of, joined_by, line_of, IsTry, Attempts, Dials}
 use Rattle.pool_supervisor.proofs.Sessions.{all_covered, are_sums, counted_both, counted_none, same_counts}
 use Rattle.pool_supervisor.proofs.Called.{called_none, called_both, flat_map_both}
 
 -- ---- slots
 
--- a slot in which a worker was live, for which nothing was dialled
-pub fills_none : (settings : Settings) (allows : Rule) (slot : ℕ) (before : Option (List DialCall)) → IsSeenAs settings slot true → FillsOne settings allows slot before before
-fills_none settings allows slot before seen = record {
-  look = record { state = seen.0; dials = [] };
-  calls = sym (called_none before);
-  fills = (seen.1, subst (λ (b : Bool). DialsOnce (allows slot) b []) seen.2 refl);
-}
+-- a slot for which nothing was dialled
+pub fills_none : (allows : Rule) (slot : ℕ) (before : Option (List DialCall)) → FillsOne allows slot before before
+fills_none allows slot before = record { look = record { dials = [] }; calls = sym (called_none before); fills = inl refl }
 
--- an empty slot that may not have a worker, for which nothing was dialled
-pub fills_denied : (settings : Settings) (allows : Rule) (slot : ℕ) (before : Option (List DialCall)) → allows slot false ≡ true → IsSeenAs settings slot false
-    → FillsOne settings allows slot before before
-fills_denied settings allows slot before denied seen = record {
-  look = record { state = seen.0; dials = [] };
-  calls = sym (called_none before);
-  fills = (seen.1, subst (λ (b : Bool). DialsOnce (allows slot) b []) seen.2 (inr (denied, refl)));
-}
+-- a slot that may have a worker, for which one dial was made
+pub fills_once : (allows : Rule) (slot : ℕ) (before now : Option (List DialCall)) (dials : List DialCall) → IsOneDial dials → allows slot true ≡ true
+    → now ≡ then_called before dials → FillsOne allows slot before now
+fills_once allows slot before now dials one allowed calls = record { look = record { dials = dials }; calls = calls; fills = inr (allowed, one) }
 
--- an empty slot that may have a worker, for which one dial was made
-pub fills_once : (settings : Settings) (allows : Rule) (slot : ℕ) (before now : Option (List DialCall)) (dials : List DialCall) → IsOneDial dials → allows slot true ≡ true → IsSeenAs settings slot false
-    → now ≡ then_called before dials → FillsOne settings allows slot before now
-fills_once settings allows slot before now dials one allowed seen calls = record {
-  look = record { state = seen.0; dials = dials };
-  calls = calls;
-  fills = (seen.1, subst (λ (b : Bool). DialsOnce (allows slot) b dials) seen.2 (inl (allowed, one)));
-}
+fill_one_more : (allows : Rule) (first slot : ℕ) (looks : List Look) (look : Look) → slot ≡ first + length looks → FillFrom allows first looks
+    → DialsOnce (allows slot) look.dials → FillFrom allows first (looks ++ look ∷ [])
+fill_one_more allows first slot [] look at all fills = (subst (λ (k : ℕ). DialsOnce (allows k) look.dials) (omega (arith, at)) fills, tt)
+fill_one_more allows first slot (l ∷ looks) look at all fills = (all.0, fill_one_more allows (first + 1) slot looks look (omega (arith, at)) all.1 fills)
 
-fill_one_more : (settings : Settings) (allows : Rule) (first slot : ℕ) (looks : List Look) (look : Look) → slot ≡ first + length looks → FillFrom settings allows first looks
-    → FillsSlot settings allows slot look → FillFrom settings allows first (looks ++ look ∷ [])
-fill_one_more settings allows first slot [] look at all fills = (subst (λ (k : ℕ). FillsSlot settings allows k look) (omega (arith, at)) fills, tt)
-fill_one_more settings allows first slot (l ∷ looks) look at all fills = (all.0, fill_one_more settings allows (first + 1) slot looks look (omega (arith, at)) all.1 fills)
+pub no_slots : (allows : Rule) (before : Option (List DialCall)) → Fills allows 0 before before
+no_slots allows before = record { looks = []; calls = sym (called_none before); all = refl; each = tt }
 
-pub no_slots : (settings : Settings) (allows : Rule) (before : Option (List DialCall)) → Fills settings allows 0 before before
-no_slots settings allows before = record { looks = []; calls = sym (called_none before); all = refl; each = tt }
-
-pub one_slot_more : (settings : Settings) (allows : Rule) (count : ℕ) (before between now : Option (List DialCall)) → Fills settings allows count before between
-    → FillsOne settings allows count between now → Fills settings allows (count + 1) before now
-one_slot_more settings allows count before between now f one = record {
+pub one_slot_more : (allows : Rule) (count : ℕ) (before between now : Option (List DialCall)) → Fills allows count before between
+    → FillsOne allows count between now → Fills allows (count + 1) before now
+one_slot_more allows count before between now f one = record {
   looks = f.looks ++ one.look ∷ [];
   calls = called_both before between now (flat_map dials_of f.looks) one.look.dials f.calls one.calls
       ∙ ap (λ l. then_called before l) (ap (λ l. flat_map dials_of f.looks ++ l) (sym (append-nil one.look.dials)) ∙ sym (flat_map_both dials_of f.looks (one.look ∷ [])));
   all = omega (arith, length-append f.looks (one.look ∷ []), f.all);
-  each = fill_one_more settings allows 0 count f.looks one.look (omega (arith, f.all)) f.each one.fills;
+  each = fill_one_more allows 0 count f.looks one.look (omega (arith, f.all)) f.each one.fills;
 }
 
 -- ---- sessions
@@ -107,15 +90,14 @@ same_joins settings had_jobs old new run before now joins grabs reports ends =
 -- ---- lines
 
 -- the pool did not take the load
-pub tells_not_taken : (settings : Settings) (load : List Line) (line : Attempt) (before now : Option (List DialCall)) → Asks (Ok load) before now → IsNotTaken settings load line → Tells settings line before now
-tells_not_taken settings load line before now asks not_taken =
-    subst (λ (l : Attempt). Tells settings l before now) (sym not_taken.1)
-    (record { asked = asks.asked; calls = asks.calls; follows = (load, asks.answers, not_taken.2) })
+pub tells_not_taken : (load : List Line) (line : Attempt) (before now : Option (List DialCall)) → Asks (Ok load) before now → IsNotTaken line → Tells line before now
+tells_not_taken load line before now asks not_taken =
+    subst (λ (l : Attempt). Tells l before now) (sym not_taken.1) (record { asked = asks.asked; calls = asks.calls; follows = (load, asks.answers) })
 
-pub tells_if_not_taken : (settings : Settings) (load : List Line) (before now : Option (List DialCall)) (r : Result (Unit {0}) Attempt) → Asks (Ok load) before now
-    → IfErr r (IsNotTaken settings load) → IfErr r (λ line. Tells settings line before now)
-tells_if_not_taken settings load before now (Ok x) asks not_taken = tt
-tells_if_not_taken settings load before now (Err line) asks not_taken = tells_not_taken settings load line before now asks not_taken
+pub tells_if_not_taken : (load : List Line) (before now : Option (List DialCall)) (r : Result (Unit {0}) Attempt) → Asks (Ok load) before now
+    → IfErr r IsNotTaken → IfErr r (λ line. Tells line before now)
+tells_if_not_taken load before now (Ok x) asks not_taken = tt
+tells_if_not_taken load before now (Err line) asks not_taken = tells_not_taken load line before now asks not_taken
 
 -- ---- attempts
 
@@ -123,7 +105,7 @@ pub no_attempts : (settings : Settings) (allows : Rule) (had_jobs : PastSession 
 no_attempts settings allows had_jobs lines counts before = record { tries = []; lines = sym (append-nil lines); counts = sym (counted_none counts); calls = sym (called_none before); each = tt }
 
 pub one_attempt : (settings : Settings) (allows : Rule) (had_jobs : PastSession → Type 0) (lines : List Attempt) (line : Attempt) (old mid new : Counts) (before joined filled now : Option (List DialCall)) → Joins settings had_jobs old mid before joined
-    → new ≡ mid → Fills settings allows (slots settings) joined filled → Tells settings line filled now → Attempts settings allows had_jobs lines (lines ++ line ∷ []) old new before now
+    → new ≡ mid → Fills allows (slots settings) joined filled → Tells line filled now → Attempts settings allows had_jobs lines (lines ++ line ∷ []) old new before now
 one_attempt settings allows had_jobs lines line old mid new before joined filled now joins same fills tells =
     let try : Try = record { joined = joins.sessions; looks = fills.looks; asked = tells.asked; line = line } in
     let after = called_both joined filled now (flat_map dials_of fills.looks) tells.asked fills.calls tells.calls in

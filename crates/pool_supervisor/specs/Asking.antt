@@ -4,15 +4,12 @@ use Rattle.byte_io.specs.Sides.{HasText}
 use Rattle.gear_status.specs.Status.{Line}
 use Rattle.gear_status.specs.declared.error.StatusError.{StatusError}
 use Rattle.job_runner.specs.Run.{Link}
-use Rattle.pool_core.specs.Book.{Book}
-use Rattle.pool_core.specs.Calls.{Loads}
 use Rattle.pool_core.specs.declared.error.LoadError.{LoadError}
-use Rattle.pool_settings.specs.Settings.{Settings}
 use Rattle.pool_supervisor.specs.declared.attempt.Attempt.{Attempt}
 use Rattle.pool_supervisor.specs.declared.attempt.Attempt.TheVariants as attempt
 use Rattle.pool_supervisor.specs.declared.attempt.PoolRefusal.TheVariants as refusal
 use Rattle.pool_supervisor.specs.Dials.{DialCall, failed, opened, closed, then_called, IsNew}
-use Rattle.pool_supervisor.specs.Steps.{IsRefusedSo, Reads}
+use Rattle.pool_supervisor.specs.Steps.{Reads}
 
 -- The link took the request for a status, and what it gave then means this load, or is why there is none.
 abbrev pub Answers : Result (List Line) StatusError → Link → Link → Type 0
@@ -43,24 +40,19 @@ pub record Asks (answer : Result (List Line) Attempt) (before now : Option (List
   pub calls : now ≡ then_called before asked
   pub answers : AsksFor answer asked
 
--- a pool of these settings was given the load, and answered so
-abbrev pub Takes : Settings → List Line → Result (Unit {0}) LoadError → Type 0
-Takes settings load answer = (old new : Book) × (old.settings ≡ settings) × Loads load old new answer
+-- a load was asked for, and came
+abbrev pub GetsLoad : List DialCall → Type 0
+GetsLoad asked = (load : List Line) × AsksFor (Ok load) asked
 
--- a load was asked for and given to the pool, which answered so
-abbrev pub GivesLoad : Settings → Result (Unit {0}) LoadError → List DialCall → Type 0
-GivesLoad settings answer asked = (load : List Line) × AsksFor (Ok load) asked × Takes settings load answer
-
--- calls were made for a load, which the pool took
-pub record Given (settings : Settings) (before now : Option (List DialCall)) : Type 0 where
+-- calls were made for a load, which came
+pub record Given (before now : Option (List DialCall)) : Type 0 where
   pub asked : List DialCall
   pub calls : now ≡ then_called before asked
-  pub gives : GivesLoad settings (Ok tt) asked
+  pub gets : GetsLoad asked
 
 -- the line says why the pool did not take the load
-abbrev pub IsNotTaken : Settings → List Line → Attempt → Type 0
-IsNotTaken settings load line =
-    (error : LoadError) × (line ≡ attempt.Refused (refusal.Load error)) × Takes settings load (Err error)
+abbrev pub IsNotTaken : Attempt → Type 0
+IsNotTaken line = (error : LoadError) × (line ≡ attempt.Refused (refusal.Load error))
 
 -- whether it is the line of an attempt whose load was taken
 abbrev pub is_planned : Attempt → Bool
@@ -69,16 +61,14 @@ is_planned (attempt.Status error) = false
 is_planned (attempt.Refused (refusal.Load error)) = false
 is_planned other = true
 
--- The line of an attempt follows from its calls for the load: why there was none, that the pool did not take it, or what came after it. If
--- it says that the pool refused a step of the round, the pool did.
-abbrev pub Follows : Settings → List DialCall → Attempt → Type 0
-Follows settings asked attempt.NoLink = AsksFor (Err attempt.NoLink) asked
-Follows settings asked (attempt.Status error) = AsksFor (Err (attempt.Status error)) asked
-Follows settings asked (attempt.Refused (refusal.Load error)) = GivesLoad settings (Err error) asked
-Follows settings asked other = GivesLoad settings (Ok tt) asked × IsRefusedSo settings other
+-- The line of an attempt follows from its calls for the load: why there was none, or what came after it.
+abbrev pub Follows : List DialCall → Attempt → Type 0
+Follows asked attempt.NoLink = AsksFor (Err attempt.NoLink) asked
+Follows asked (attempt.Status error) = AsksFor (Err (attempt.Status error)) asked
+Follows asked other = GetsLoad asked
 
 -- such calls were made
-pub record Tells (settings : Settings) (line : Attempt) (before now : Option (List DialCall)) : Type 0 where
+pub record Tells (line : Attempt) (before now : Option (List DialCall)) : Type 0 where
   pub asked : List DialCall
   pub calls : now ≡ then_called before asked
-  pub follows : Follows settings asked line
+  pub follows : Follows asked line

@@ -1,5 +1,5 @@
 -- What the steps of an attempt look at in the pool.
-use Rattle.std.specs.Prelude.{◌≡◌, ℕ, ◌*◌, ◌<◌, Bool, List, length, Option, None, Some, Result, Err, IfSome, ⊤}
+use Rattle.std.specs.Prelude.{◌≡◌, ℕ, ◌*◌, ◌<◌, Bool, List, length, Option, None, Some, Result, IfSome}
 use Rattle.byte_io.specs.Sides.{Input, Met, Meets}
 use Rattle.gear_status.specs.Status.{Line}
 use Rattle.gear_status.specs.Stream.{AnswersStatus}
@@ -13,18 +13,14 @@ use Rattle.pool_settings.specs.Planning.{instance_of}
 use Rattle.pool_settings.specs.Settings.{Settings}
 use Rattle.pool_core.specs.Machine.{State, slot_in}
 use Rattle.pool_core.specs.Book.{Book, IsInputOf, expire_refusal, grab_refusal, ran_of}
-use Rattle.pool_core.specs.Calls.{Adopts, EndsChapter, Grabs, Views}
-use Rattle.pool_core.specs.declared.error.AdoptError.{AdoptError}
+use Rattle.pool_core.specs.Calls.{EndsChapter, Grabs}
 use Rattle.pool_core.specs.declared.error.ChapterError.{ChapterError}
 use Rattle.pool_core.specs.declared.error.GrabError.{GrabError}
 use Rattle.pool_core.specs.declared.error.GrabError.TheVariants as grab
-use Rattle.pool_core.specs.declared.error.ViewError.{ViewError}
 use Rattle.pool_core.specs.declared.event.Chapter.{Chapter}
 use Rattle.pool_supervisor.specs.Lines.{attempt_of}
 use Rattle.pool_supervisor.specs.Reached.{IsReached}
 use Rattle.pool_supervisor.specs.declared.attempt.Attempt.{Attempt}
-use Rattle.pool_supervisor.specs.declared.attempt.Attempt.TheVariants as attempt
-use Rattle.pool_supervisor.specs.declared.attempt.PoolRefusal.TheVariants as refusal
 use Rattle.pool_supervisor.specs.declared.attempts.Until.{Until}
 use Rattle.pool_supervisor.specs.declared.attempts.Until.TheVariants.{Rounds, Ended}
 
@@ -78,23 +74,6 @@ abbrev pub AnswersPool : Settings → Attempt → Type 0
 AnswersPool settings line =
     (viewed : Instance × Option (List (ℕ × Option ℕ))) × (certified : Certificate) × (state : State) × IsViewOf settings viewed
     × AnswersView viewed certified × (line ≡ attempt_of (ran_of certified.answer state))
-
--- The pool, by these settings and in a state that a history leads to, did not say what to plan for.
-abbrev pub IsNotViewed : Settings → ViewError → Type 0
-IsNotViewed settings error =
-    (book : Book) × (book.settings ≡ settings) × IsReached settings book.state × Views book (Err error)
-
--- The pool did not take an answer to what was viewed of it before.
-abbrev pub IsNotAdopted : Settings → AdoptError → Type 0
-IsNotAdopted settings error =
-    (viewed : Instance × Option (List (ℕ × Option ℕ))) × (certified : Certificate) × (old new : Book) × (old.settings ≡ settings)
-    × IsViewOf settings viewed × AnswersView viewed certified × Adopts certified old new (Err error)
-
--- If the attempt came to a refusal of a step of its round, the pool refused that step so.
-abbrev pub IsRefusedSo : Settings → Attempt → Type 0
-IsRefusedSo settings (attempt.Refused (refusal.View error)) = IsNotViewed settings error
-IsRefusedSo settings (attempt.Refused (refusal.Adopt error)) = IsNotAdopted settings error
-IsRefusedSo settings other = ⊤
 
 -- What was read of the link means this load, or is why there is none.
 abbrev pub Reads : Result (List Line) StatusError → Input → Input → Type 0

@@ -1,8 +1,6 @@
 -- The attempts of a run, by the calls of what dials.
-use Rattle.std.specs.Prelude.{◌≡◌, ◌⊎◌, ◌+◌, ℕ, List, [], ◌∷◌, ◌++◌, Bool, true, false, length, map, Option, ⊤}
+use Rattle.std.specs.Prelude.{◌≡◌, ◌⊎◌, ◌+◌, ℕ, List, [], ◌∷◌, ◌++◌, Bool, true, length, map, Option, ⊤}
 use Rattle.std.specs.List.{flat_map, AllByRecursion}
-use Rattle.worker_state.specs.Slots.{is_live}
-use Rattle.pool_core.specs.Machine.{State, slot_in}
 use Rattle.pool_supervisor.specs.declared.run_end.RunEnd.{RunEnd}
 use Rattle.pool_settings.specs.Settings.{Settings}
 use Rattle.pool_settings.specs.Slots.{slots}
@@ -10,12 +8,10 @@ use Rattle.pool_supervisor.specs.declared.attempt.Attempt.{Attempt}
 use Rattle.pool_supervisor.specs.Asking.{Follows}
 use Rattle.pool_supervisor.specs.Dials.{DialCall, failed, opened, then_called}
 use Rattle.pool_supervisor.specs.Joined.{Joins}
-use Rattle.pool_supervisor.specs.Reached.{IsReached}
 use Rattle.pool_supervisor.specs.Sessions.{Counts, PastSession, AllHad, HasEnded, AreSums, closing_of, counted, counts_of, no_counts}
 
--- a look at a slot: the pool as it stood then, and the dials that were made for the slot
+-- a look at a slot: the dials that were made for it
 pub record Look : Type 0 where
-  pub state : State
   pub dials : List DialCall
 
 abbrev pub dials_of : Look → List DialCall
@@ -29,37 +25,27 @@ Rule = ℕ → Bool → Bool
 abbrev pub IsOneDial : List DialCall → Type 0
 IsOneDial dials = (dials ≡ opened ∷ []) ⊎ (dials ≡ failed ∷ [])
 
--- No dial if a worker is live in the slot, or if it may not have one. Else one dial.
-abbrev pub DialsOnce : (Bool → Bool) → Bool → List DialCall → Type 0
-DialsOnce allows true dials = dials ≡ []
-DialsOnce allows false dials = ((allows true ≡ true) × IsOneDial dials) ⊎ ((allows false ≡ true) × (dials ≡ []))
-
--- the pool was in a state that a history leads to, and the slot was dialled for once if it was empty and might have a worker
-abbrev pub FillsSlot : Settings → Rule → ℕ → Look → Type 0
-FillsSlot settings allows slot look =
-    IsReached settings look.state × DialsOnce (allows slot) (is_live (slot_in look.state.slots slot)) look.dials
+-- No dial; or one dial, if it may be said that the slot may have a worker.
+abbrev pub DialsOnce : (Bool → Bool) → List DialCall → Type 0
+DialsOnce allows dials = (dials ≡ []) ⊎ ((allows true ≡ true) × IsOneDial dials)
 
 -- the same of slots in order, of which the first has this number
-abbrev pub FillFrom : Settings → Rule → ℕ → List Look → Type 0
-FillFrom settings allows slot [] = ⊤
-FillFrom settings allows slot (look ∷ looks) = FillsSlot settings allows slot look × FillFrom settings allows (slot + 1) looks
-
--- when the slot was looked at, a history had led to a state in which a worker was live in it, or not
-abbrev pub IsSeenAs : Settings → ℕ → Bool → Type 0
-IsSeenAs settings slot live = (state : State) × IsReached settings state × (live ≡ is_live (slot_in state.slots slot))
+abbrev pub FillFrom : Rule → ℕ → List Look → Type 0
+FillFrom allows slot [] = ⊤
+FillFrom allows slot (look ∷ looks) = DialsOnce (allows slot) look.dials × FillFrom allows (slot + 1) looks
 
 -- one slot was looked at
-pub record FillsOne (settings : Settings) (allows : Rule) (slot : ℕ) (before now : Option (List DialCall)) : Type 0 where
+pub record FillsOne (allows : Rule) (slot : ℕ) (before now : Option (List DialCall)) : Type 0 where
   pub look : Look
   pub calls : now ≡ then_called before look.dials
-  pub fills : FillsSlot settings allows slot look
+  pub fills : DialsOnce (allows slot) look.dials
 
 -- the slots up to this one were looked at, each once and in order
-pub record Fills (settings : Settings) (allows : Rule) (count : ℕ) (before now : Option (List DialCall)) : Type 0 where
+pub record Fills (allows : Rule) (count : ℕ) (before now : Option (List DialCall)) : Type 0 where
   pub looks : List Look
   pub calls : now ≡ then_called before (flat_map dials_of looks)
   pub all : length looks ≡ count
-  pub each : FillFrom settings allows 0 looks
+  pub each : FillFrom allows 0 looks
 
 -- An attempt: the sessions that it joined, its looks at the slots, its calls for the load, and its line.
 pub record Try : Type 0 where
@@ -83,8 +69,8 @@ pub record IsTry (settings : Settings) (allows : Rule) (had_jobs : PastSession �
   pub ended : AllByRecursion (HasEnded settings) try.joined
   pub jobs : AllHad had_jobs try.joined
   pub all : length try.looks ≡ slots settings
-  pub fills : FillFrom settings allows 0 try.looks
-  pub follows : Follows settings try.asked try.line
+  pub fills : FillFrom allows 0 try.looks
+  pub follows : Follows try.asked try.line
 
 -- Attempts were made one after the other: their lines were added, and what the sessions counted that they joined, and these calls were
 -- made.

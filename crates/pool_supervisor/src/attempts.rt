@@ -1,5 +1,5 @@
 //! The supervisor of a run, and the steps of an attempt, one after the other.
-ghost use Rattle.std.specs.Prelude.{◌≡◌, ◌+◌, ◌-◌, ◌<◌, ◌≤◌, ◌∷◌, [], List, not, IfOk, OnOk, vec_len, vec_capacity};
+ghost use Rattle.std.specs.Prelude.{◌≡◌, ◌+◌, ◌-◌, ◌<◌, ◌≤◌, ◌∷◌, [], List, IfOk, OnOk, vec_len, vec_capacity};
 ghost use Rattle.pool_settings.specs.Slots.{slots as slot_count};
 ghost use Rattle.job_runner.specs.Run.{seen_link};
 ghost use Rattle.order_board.specs.declared.view.Post.{Post};
@@ -8,7 +8,7 @@ ghost use Rattle.pool_supervisor.specs.Dials.{IsNew};
 ghost use Rattle.pool_supervisor.specs.Rounds.{AreNoted, Notes, PostAndStop, Posts, PostSince, StopsAll};
 ghost use Rattle.pool_supervisor.specs.Runs.{IsRun, Keeps, most_kept};
 ghost use Rattle.pool_supervisor.specs.Sessions.{Covers, HadJobs, no_counts};
-ghost use Rattle.pool_supervisor.specs.Tries.{Attempts, Fills, FillsOne, IsSeenAs};
+ghost use Rattle.pool_supervisor.specs.Tries.{Attempts, Fills, FillsOne};
 
 use crate::attempt::Attempt;
 use crate::crew::Crew;
@@ -102,7 +102,6 @@ impl<'e, N: RunId, J, C: Watch, R: Wait> Site<'e, N, J, C, R> {
     /// Whether no worker is in the slot.
     fn is_empty(&self, slot: SlotId) -> bool
         requires { slot < slot_count self.now.run.settings.now }
-        ensures { IsSeenAs N.settings slot (not result) }
     {
         let held = self.shared.hold(self.lent.rt);
         held.facts();
@@ -227,7 +226,7 @@ impl<
         ensures posts { self.new.seats.publisher ≡ self.old.seats.publisher }
         ensures rounds { self.new.rounds ≡ self.old.rounds }
         ensures counts { self.new.crew.counts ≡ self.old.crew.counts }
-        ensures fills { FillsOne N.settings N.allows slot (Y.calls self.old.dial) (Y.calls self.new.dial) }
+        ensures fills { FillsOne N.allows slot (Y.calls self.old.dial) (Y.calls self.new.dial) }
     {
         if !self.site.is_empty(slot) {
             return Ok(());
@@ -251,8 +250,7 @@ impl<
         ensures posts { self.new.seats.publisher ≡ self.old.seats.publisher }
         ensures rounds { self.new.rounds ≡ self.old.rounds }
         ensures counts { self.new.crew.counts ≡ self.old.crew.counts }
-        ensures fills { OnOk result
-            (Fills N.settings N.allows (slot_count N.settings) (Y.calls self.old.dial) (Y.calls self.new.dial)) }
+        ensures fills { OnOk result (Fills N.allows (slot_count N.settings) (Y.calls self.old.dial) (Y.calls self.new.dial)) }
     {
         for number in 0..self.site.run.settings.slots() {
             self.start_one(scope, SlotId::new(number))?;
@@ -278,7 +276,7 @@ impl<
         ensures posts { Posts N.settings result self.old.seats.publisher.posts self.new.seats.publisher.posts }
         ensures notes { Notes result self.old.rounds self.new.rounds }
         ensures crew { self.new.crew ≡ self.old.crew }
-        ensures tells { Tells N.settings result (Y.calls self.old.dial) (Y.calls self.new.dial) }
+        ensures tells { Tells result (Y.calls self.old.dial) (Y.calls self.new.dial) }
     {
         match self.take_load() {
             Ok(()) => self.plan_round(),

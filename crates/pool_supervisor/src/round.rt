@@ -1,8 +1,8 @@
 //! One round of planning: what the server says, the plan, and its orders.
-ghost use Rattle.std.specs.Prelude.{◌≡◌, Ok, true, false, IfSome, IfNone, IfOk, IfErr, OnOk};
-ghost use Rattle.pool_supervisor.specs.Asking.{Given, IsNotTaken, Takes, Tells, is_planned};
+ghost use Rattle.std.specs.Prelude.{◌≡◌, true, false, IfSome, IfNone, IfOk, IfErr, OnOk};
+ghost use Rattle.pool_supervisor.specs.Asking.{Given, IsNotTaken, Tells, is_planned};
 ghost use Rattle.pool_supervisor.specs.Rounds.{Notes, Posts, is_round};
-ghost use Rattle.pool_supervisor.specs.Steps.{AnswersPool, AnswersView, IsMadeOf, IsNotAdopted, IsNotViewed, IsRefusedSo, IsViewOf};
+ghost use Rattle.pool_supervisor.specs.Steps.{AnswersPool, AnswersView, IsMadeOf, IsViewOf};
 
 use crate::asking::ask_for_load;
 use crate::attempt::{Attempt, PoolRefusal};
@@ -29,7 +29,6 @@ fn view_pool<N: RunId, J, C, R: Wait>(
 ) -> Result<(Input, Option<Plan>), ViewError>
     ensures input { IfOk result (λ viewed. IsMadeOf N.settings viewed.0) }
     ensures view { IfOk result (IsViewOf N.settings) }
-    ensures refused { IfErr result (IsNotViewed N.settings) }
 {
     let held = site.shared.hold(site.lent.rt);
     held.facts();
@@ -52,8 +51,7 @@ fn give_load<N: RunId, J, C, R: Wait>(
     site: &Site<'_, N, J, C, R>,
     load: Load,
 ) -> Result<(), Attempt>
-    ensures ok { OnOk result (Takes N.settings load (Ok tt)) }
-    ensures err { IfErr result (IsNotTaken N.settings load) }
+    ensures err { IfErr result IsNotTaken }
 {
     let mut held = site.shared.hold(site.lent.rt);
     held.facts();
@@ -75,8 +73,8 @@ impl<
 > Supervisor<'e, N, L, Y, P, J, C, R> {
     /// Asks the server for its load, and gives it to the pool. The error is the line of an attempt that has no load to plan for.
     pub fn take_load(&mut self) -> Result<(), Attempt>
-        ensures ok { OnOk result (Given N.settings (Y.calls self.old.dial) (Y.calls self.new.dial)) }
-        ensures err { IfErr result (λ line. Tells N.settings line (Y.calls self.old.dial) (Y.calls self.new.dial)) }
+        ensures ok { OnOk result (Given (Y.calls self.old.dial) (Y.calls self.new.dial)) }
+        ensures err { IfErr result (λ line. Tells line (Y.calls self.old.dial) (Y.calls self.new.dial)) }
         ensures no_round { IfErr result (λ line. is_round line ≡ false) }
         ensures posts { self.new.seats.publisher ≡ self.old.seats.publisher }
         ensures rounds { self.new.rounds ≡ self.old.rounds }
@@ -94,8 +92,6 @@ impl<
         ensures stale { IfNone result ((self.new.seats.publisher ≡ self.old.seats.publisher) × (self.new.rounds ≡ self.old.rounds)) }
         ensures planned { IfSome result (λ line. is_planned line ≡ true) }
         ensures answers { IfSome result (λ line. is_round line ≡ true → AnswersPool N.settings line) }
-        ensures refused { IfSome result (IsRefusedSo N.settings) }
-        ensures changed { IfNone result (IsNotAdopted N.settings AdoptError.Stale) }
         ensures dial { self.new.dial ≡ self.old.dial }
         ensures crew { self.new.crew ≡ self.old.crew }
     {
@@ -132,7 +128,6 @@ impl<
         ensures notes { Notes result self.old.rounds self.new.rounds }
         ensures planned { is_planned result ≡ true }
         ensures answers { is_round result ≡ true → AnswersPool N.settings result }
-        ensures refused { IsRefusedSo N.settings result }
         ensures dial { self.new.dial ≡ self.old.dial }
         ensures crew { self.new.crew ≡ self.old.crew }
     {

@@ -115,11 +115,7 @@ impl Handles {
 
 /// Prints that memory, or a thread, was refused.
 fn end_lacking(rt: &HostRuntime) -> ExitCode {
-    complain(
-        rt.alloc(),
-        &Fault::Memory,
-        &mut OutputSink::new(rt.stderr()),
-    );
+    complain(&Fault::Memory, &mut OutputSink::new(rt.stderr()));
     ExitCode::from(Fault::Memory.status())
 }
 

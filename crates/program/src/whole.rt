@@ -49,7 +49,7 @@ pub fn program<F: Folder, H: FarmHost, R: Source, W: Sink, E: Sink>(
 {
     match words {
         Ok(words) => obey(lent, &words, input, output, errors),
-        Err(error) => no_words(lent.alloc, error.kind(), errors),
+        Err(error) => no_words(error.kind(), errors),
     }
 }
 
@@ -75,7 +75,7 @@ fn obey<F: Folder, H: FarmHost, R: Source, W: Sink, E: Sink>(
             end_command(lent, &command, exit, errors)
         }
         Err(CommandError::Usage(error)) => advise(lent.alloc, &error, errors),
-        Err(CommandError::Memory) => end_lacking(lent.alloc, errors),
+        Err(CommandError::Memory) => end_lacking(errors),
     }
 }
 
@@ -100,17 +100,17 @@ fn advise<E: Sink>(alloc: Global, error: &Error, errors: &mut E) -> u8
             say(errors, usage_text(text.as_str()));
             USAGE
         }
-        Err(_) => end_lacking(alloc, errors),
+        Err(_) => end_lacking(errors),
     }
 }
 
 /// Prints why the system gives no words. Words that are no UTF-8 are no command's.
-fn no_words<E: Sink>(alloc: Global, kind: ErrorKind, errors: &mut E) -> u8
+fn no_words<E: Sink>(kind: ErrorKind, errors: &mut E) -> u8
     requires { (E.output errors.old).failures < 2 ^ 64 - 1 }
     ensures { spec.HasNoWords kind (E.output errors.old) (E.output errors.new) result }
 {
     match kind {
-        ErrorKind::OutOfMemory => end_lacking(alloc, errors),
+        ErrorKind::OutOfMemory => end_lacking(errors),
         _ => {
             say(errors, b"poolman: the command line is not UTF-8\n");
             USAGE
@@ -195,10 +195,10 @@ fn end_command<F, H, E: Sink>(
 }
 
 /// Prints that there is no memory, and gives the status.
-fn end_lacking<E: Sink>(alloc: Global, errors: &mut E) -> u8
+fn end_lacking<E: Sink>(errors: &mut E) -> u8
     requires { (E.output errors.old).failures < 2 ^ 64 - 1 }
     ensures { spec.Lacks (E.output errors.old) (E.output errors.new) result }
 {
-    complain(alloc, &Fault::Memory, errors);
+    complain(&Fault::Memory, errors);
     Fault::Memory.status()
 }

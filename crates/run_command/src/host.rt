@@ -17,19 +17,13 @@ use std::thread::Threads;
 /// What a run is lent by the machine that it is on: threads, links to a job server, a clock, and somebody who is told what
 /// happens.
 pub trait Host: Threads + Wait + Watch + Progress + Sync {
-    ghost use Rattle.std.specs.Prelude.{ℕ, List, ⊤};
-
     /// A link to a job server.
     type Link: Source + Sink + Send + Drop;
-
-    /// Which links it may give to a server of this name, with a timeout of so many milliseconds. Of the system's network nothing is known.
-    ghost reaches: { Self → List ℕ → ℕ → Self.Link → Type 0 } = { λ _ _ _ _. ⊤ };
 
     /// A new link to the server, which is named as `host:port`, or none if it cannot be reached. A read of the link that gets nothing
     /// for so many milliseconds is a timeout. The link has given and taken nothing, and has counted no failure.
     fn reach(&self, server: &str, lull_ms: u32) -> Option<Self::Link>
-        ensures fresh { IfSome result (λ link. IsNew (seen_link Self.Link.input Self.Link.output link)) }
-        ensures reached { IfSome result (reaches self.now server.now lull_ms) };
+        ensures fresh { IfSome result (λ link. IsNew (seen_link Self.Link.input Self.Link.output link)) };
 
     /// The server took the last link, and gave no status. It may be elsewhere by now, so its name is looked up for the next link.
     fn doubt(&self) {}
@@ -110,7 +104,6 @@ impl<'e, H: Host> Dial<TextLink<'e, H::Link, H>> for Route<'e, H> {
     fn dial(&mut self) -> Option<TextLink<'e, H::Link, H>>
         ensures fresh { IfSome result (λ link. IsNew (seen_link ⟦<TextLink<'e, H::Link, H> as Device>⟧.input
             ⟦<TextLink<'e, H::Link, H> as Device>⟧.output link)) }
-        ensures reached { IfSome result (λ link. (host : H) × H.reaches host self.old.server self.old.lull_ms link.link) }
         ensures limit { IfSome result (λ link. link.limit_ms ≡ self.old.text_ms) }
         ensures unlimited { IfSome result (λ link. link.read_until ≡ None) }
         ensures same { self.new ≡ self.old }
@@ -123,7 +116,6 @@ impl<'e, H: Host> Dial<TextLink<'e, H::Link, H>> for Route<'e, H> {
     fn dial_for_status(&mut self) -> Option<TextLink<'e, H::Link, H>>
         ensures fresh { IfSome result (λ link. IsNew (seen_link ⟦<TextLink<'e, H::Link, H> as Device>⟧.input
             ⟦<TextLink<'e, H::Link, H> as Device>⟧.output link)) }
-        ensures reached { IfSome result (λ link. (host : H) × H.reaches host self.old.server self.old.lull_ms link.link) }
         ensures limit { IfSome result (λ link. link.limit_ms ≡ self.old.text_ms) }
         ensures same { self.new ≡ self.old }
     {

@@ -15,6 +15,7 @@ use Rattle.serve_command.specs.Farm.{Farm, IsOf, IsRefused}
 use Rattle.serve_command.specs.declared.reporting.Outlook.{Outlook}
 use Rattle.serve_command.specs.declared.reporting.Outlook.TheVariants as outlook
 use Rattle.serve_command.specs.ServiceJobs.{HadServiceJobs}
+use Rattle.service_settings.specs.Keys.{connect_ms_of}
 use Rattle.service_settings.specs.Services.{Services}
 
 -- A run of this farm came to this: its totals are of one history of the farm's settings, which keeps to the promise, and are the sums of
@@ -29,7 +30,7 @@ IsFarmRun farm ended =
 -- there is the time of an answer and three writes.
 abbrev pub end_ms : Farm → ℕ
 end_ms farm =
-    min (farm.services.connect_ms + farm.settings.job_timeout_ms + text_ms farm.settings + 3 * write_ms farm.settings) (2 ^ 32 - 1)
+    min (connect_ms_of farm.services + farm.settings.job_timeout_ms + text_ms farm.settings + 3 * write_ms farm.settings) (2 ^ 32 - 1)
 
 -- The texts mean a farm, and a run of it came to this.
 abbrev pub IsFarmRunBy : List ℕ → List ℕ → RunEnd → Type 0
@@ -68,9 +69,14 @@ status_of outlook.Nothing = 5
 status_of outlook.NoPlan = 5
 status_of outlook.SlotUsed = 6
 
--- The texts mean a farm, a run of it ended, and the exit has the status of some outlook. Or the exit refuses, for the first mistake of the
--- texts or for memory.
+-- the texts mean a farm
+abbrev pub MeanAFarm : List ℕ → List ℕ → Type 0
+MeanAFarm settings_text services_text =
+    (settings : Settings) × (services : Services) × IsOf settings_text services_text settings services
+
+-- The texts mean a farm, and the exit has the status of some outlook. Or the exit refuses, for the first mistake of the texts or for
+-- memory.
 abbrev pub Serves : List ℕ → List ℕ → Exit → Type 0
 Serves settings_text services_text exit =
-    ((ended : RunEnd) × (seen : Outlook) × IsFarmRunBy settings_text services_text ended × (exit ≡ answered (status_of seen)))
+    (MeanAFarm settings_text services_text × (seen : Outlook) × (exit ≡ answered (status_of seen)))
     ⊎ ((f : Fault) × IsRefused settings_text services_text f × (exit ≡ refused f))

@@ -3,6 +3,7 @@
 ghost use Rattle.std.specs.Prelude.{◌≡◌, ◌<◌, IfErr, IfOk, IfSome, IsSome, Some, slice_get, string_bytes};
 ghost use Rattle.pool_settings.specs.Slots.{machine_of, slots};
 ghost use Rattle.serve_command.specs.Farm as spec;
+ghost use Rattle.service_settings.specs.Keys.{connect_ms_of};
 
 use http_jobs::{CallTimes, Service};
 use plan_commands::{Fault, read_services, read_settings};
@@ -106,7 +107,7 @@ impl Farm {
 
     /// How long calls of a connection to a service may take.
     pub fn call_times(&self) -> CallTimes
-        ensures connect { result.connect_ms ≡ self.now.services.connect_ms }
+        ensures connect { result.connect_ms ≡ connect_ms_of self.now.services }
         ensures read { result.read_ms ≡ 100 }
     {
         CallTimes {

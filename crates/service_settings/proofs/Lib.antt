@@ -1,4 +1,3 @@
-pub mod Addresses
 pub mod Sendable
 pub mod Machines
 pub mod Blank

@@ -8,7 +8,8 @@ use Rattle.std.proofs.lemmas.Bool.{and_from, and_parts, false≢true, leb-true}
 use Rattle.std.proofs.lemmas.List.Folds.{list_all-append}
 use Rattle.std.proofs.lemmas.Str.{IsUtf8-from_ascii}
 use Rattle.service_settings.specs.Services.{IsSendable}
-use Rattle.service_settings.specs.Url.{is_authority, is_host, is_host_with_port, is_path, is_visible, with_port}
+use Rattle.file_keys.specs.Hosts.{is_host}
+use Rattle.service_settings.specs.Url.{is_authority, is_host_with_port, is_path, is_visible, with_port}
 
 ascii_byte : (b : ℕ) → is_ascii_graphic b ≡ true → b < 128
 ascii_byte b h = let below : b ≤ 126 = leb-true b 126 (and_parts (nat_le 33 b) (nat_le b 126) h).1 in omega arith

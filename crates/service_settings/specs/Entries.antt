@@ -3,7 +3,7 @@ use Rattle.std.specs.Prelude.{◌≡◌, ℕ, List, Option, option_map}
 use Rattle.std.specs.Borrow.{Bor}
 use Rattle.toml.specs.View.{view}
 use Rattle.toml.specs.declared.value.Value.{Value}
-use Rattle.pool_settings.specs.Tree.{Entry}
+use Rattle.file_keys.specs.Tree.{Entry}
 use Rattle.service_settings.specs.Place.{place_view}
 use Rattle.service_settings.specs.declared.place.ServicesPlace.{ServicesPlace}
 

@@ -1,6 +1,7 @@
 pub mod Services
 pub mod Url
 pub mod Place
+pub mod Keys
 pub mod Reading
 pub mod Entries
 pub mod Fault

@@ -1,20 +1,22 @@
 -- Services, version 1: the checks, each over the whole file before the next, and the services that a file which passes them means.
-use Rattle.std.specs.Prelude.{ℕ, List, [], ◌∷◌, Bool, true, false, not, ◌&&◌, ◌||◌, is_some, map, min, Option, Some, None, unwrap_or}
-use Rattle.std.specs.Prelude.{option_and_then, option_map, if◌then◌else◌, codes, Result, Ok, Err}
-use Rattle.std.specs.List.{filter_map, find, list_all}
+use Rattle.std.specs.Prelude.{ℕ, List, [], ◌∷◌, Bool, true, false, not, is_some, map, min, Option, Some}
+use Rattle.std.specs.Prelude.{option_and_then, option_map, codes, Result, Ok, Err}
+use Rattle.std.specs.List.{filter_map, find}
 use Rattle.std.specs.Option.{option_map_or, option_or}
-use Rattle.std.specs.Str.{bytes_eq}
-use Rattle.toml.specs.Data.{Data, Members, as_str, as_table, as_array, get_member}
+use Rattle.toml.specs.Data.{Members, as_str, as_table, get_member}
+use Rattle.file_keys.specs.Keys.{Key, as_address, first_bad, first_missing, is_bad, is_known, name_of, number_of, numbers_in}
+use Rattle.file_keys.specs.Tree.{Entry, entries_at, entries_in, entries_of, has_key, values_in}
 use Rattle.pool_settings.specs.Names.{place_of}
 use Rattle.pool_settings.specs.Place.{first_in, first_of, unless}
-use Rattle.pool_settings.specs.Reading.{functions_key, has_key, machines_key, number_or, tree_of, version_key}
+use Rattle.pool_settings.specs.Reading.{tree_of}
 use Rattle.pool_settings.specs.Settings.{Settings}
-use Rattle.pool_settings.specs.Tree.{Entry, entries_at, entries_in, entries_of, number_between, values_in}
 use Rattle.pool_settings.specs.declared.place.Place.TheVariants as at
 use Rattle.pool_settings.specs.declared.place.Section.{Section}
 use Rattle.pool_settings.specs.declared.place.Section.TheVariants as section
+use Rattle.service_settings.specs.Keys.{function_keys, functions_row, hosts_row, listen_row, machine_keys, machines_row, page_keys}
+use Rattle.service_settings.specs.Keys.{page_row, timeout_ms_row, top_keys, url_row, version_row}
 use Rattle.service_settings.specs.Services.{Page, Services, Url}
-use Rattle.service_settings.specs.Url.{has_port, is_host, is_https, is_socket, url_of}
+use Rattle.service_settings.specs.Url.{is_https, url_of}
 use Rattle.service_settings.specs.declared.error.ServicesError.{ServicesError}
 use Rattle.service_settings.specs.declared.error.ServicesError.TheVariants as fault
 use Rattle.service_settings.specs.declared.place.ServicesPlace.{ServicesPlace}
@@ -25,32 +27,26 @@ use Rattle.service_settings.specs.declared.urls.UrlRule.TheVariants as rule
 -- ---- keys
 
 abbrev pub url_key : List ℕ
-url_key = codes "url"
-
-abbrev pub connect_key : List ℕ
-connect_key = codes "connect_ms"
+url_key = name_of url_row
 
 abbrev pub timeout_key : List ℕ
-timeout_key = codes "timeout_ms"
+timeout_key = name_of timeout_ms_row
 
 abbrev pub page_key : List ℕ
-page_key = codes "page"
-
-abbrev pub listen_key : List ℕ
-listen_key = codes "listen"
+page_key = name_of page_row
 
 abbrev pub hosts_key : List ℕ
-hosts_key = codes "hosts"
+hosts_key = name_of hosts_row
 
 -- the key of a section in the top table
 abbrev pub section_key : Section → List ℕ
-section_key section.Functions = functions_key
-section_key section.Machines = machines_key
+section_key section.Functions = name_of functions_row
+section_key section.Machines = name_of machines_row
 
--- the one key of a function, and of a machine
-abbrev pub entry_key : Section → List ℕ
-entry_key section.Functions = timeout_key
-entry_key section.Machines = url_key
+-- the keys of a function, and of a machine
+abbrev pub entry_keys : Section → List Key
+entry_keys section.Functions = function_keys
+entry_keys section.Machines = machine_keys
 
 -- ---- what a table has at a key
 
@@ -70,7 +66,7 @@ function_has_key name key tree = option_map_or (has_key key) (entry_table sectio
 
 -- the address of a page, if it is one
 abbrev pub listen_in : Members → Option (List ℕ)
-listen_in page = option_and_then (λ text. if is_socket text && has_port text then Some text else None) (text_at listen_key page)
+listen_in page = option_and_then as_address (get_member (name_of listen_row) page)
 
 -- ---- where a fault is, with its key or its name
 
@@ -88,35 +84,24 @@ at_entry_key section name key = place.At (at.EntryKey section name key)
 
 -- ---- 2 Version: the version is there, and is the number 1
 
-abbrev pub has_version : Members → Bool
-has_version tree = is_some (option_and_then (number_between 1 1) (get_member version_key tree))
-
 abbrev pub bad_version : Members → Option Where
-bad_version tree = unless (has_version tree) (at_key version_key)
+bad_version tree = unless (not (is_bad tree version_row)) (at_key (name_of version_row))
 
 -- ---- 3 UnknownKey: each key is one of its table
 
-abbrev pub is_top_key : List ℕ → Bool
-is_top_key key =
-    bytes_eq key version_key || (bytes_eq key url_key || (bytes_eq key connect_key || (bytes_eq key functions_key
-    || (bytes_eq key machines_key || bytes_eq key page_key))))
-
-abbrev pub is_page_key : List ℕ → Bool
-is_page_key key = bytes_eq key listen_key || bytes_eq key hosts_key
-
 abbrev pub unknown_top_key : Members → Option Where
-unknown_top_key tree = first_in (λ e. unless (is_top_key e.0) (at_key e.0)) (entries_of tree)
+unknown_top_key tree = first_in (λ e. unless (is_known top_keys e.0) (at_key e.0)) (entries_of tree)
 
 -- the first unknown key of the table of a function or a machine
 abbrev pub unknown_key_of : Section → Entry → Option Where
 unknown_key_of section entry =
-    first_in (λ e. unless (bytes_eq e.0 (entry_key section)) (at_entry_key section entry.0 e.0)) (entries_in entry.1)
+    first_in (λ e. unless (is_known (entry_keys section) e.0) (at_entry_key section entry.0 e.0)) (entries_in entry.1)
 
 abbrev pub unknown_key_in : Section → Members → Option Where
 unknown_key_in section tree = first_in (unknown_key_of section) (entries_at (section_key section) tree)
 
 abbrev pub unknown_page_key : Members → Option Where
-unknown_page_key tree = first_in (λ e. unless (is_page_key e.0) (place.PageKey e.0)) (entries_at page_key tree)
+unknown_page_key tree = first_in (λ e. unless (is_known page_keys e.0) (place.PageKey e.0)) (entries_at page_key tree)
 
 abbrev pub unknown_key : Members → Option Where
 unknown_key tree = first_of (
@@ -128,36 +113,17 @@ unknown_key tree = first_of (
 -- ---- 4 MissingKey: a page has an address
 
 abbrev pub missing_key : Members → Option Where
-missing_key tree = option_and_then (λ page. unless (has_key listen_key page) (place.PageKey listen_key)) (table_at page_key tree)
+missing_key tree = option_map place.PageKey (option_and_then (first_missing page_keys) (table_at page_key tree))
 
 -- ---- 5 BadValue: each value has its type and is in its range
 
--- what is at the key is a text, if it is there
-abbrev pub has_good_text : List ℕ → Members → Bool
-has_good_text key table = option_map_or (λ d. is_some (as_str d)) (get_member key table) true
-
-abbrev pub timeout : Data → Option ℕ
-timeout = number_between 1 4294967295
-
-abbrev pub has_good_timeout : Members → Bool
-has_good_timeout table = option_map_or (λ d. is_some (timeout d)) (get_member timeout_key table) true
-
-abbrev pub connect_in : Members → Option ℕ
-connect_in = number_or connect_key 1 60000 1000
-
 abbrev pub bad_top_value : Members → Option Where
-bad_top_value tree = first_of (
-    unless (has_good_text url_key tree) (at_key url_key)
-    ∷ unless (is_some (connect_in tree)) (at_key connect_key) ∷ [])
+bad_top_value tree = option_map at_key (first_bad top_keys tree)
 
-abbrev pub is_good_entry : Section → Members → Bool
-is_good_entry section.Functions table = has_good_timeout table
-is_good_entry section.Machines table = has_good_text url_key table
-
--- the table of a function or a machine is one, and its value is good
+-- the table of a function or a machine is one, and its values are good
 abbrev pub bad_entry : Section → Entry → Option Where
 bad_entry section entry = option_map_or
-    (λ table. unless (is_good_entry section table) (at_entry_key section entry.0 (entry_key section)))
+    (λ table. option_map (at_entry_key section entry.0) (first_bad (entry_keys section) table))
     (as_table entry.1) (Some (at_entry section entry.0))
 
 -- a section that is there is a table of good ones
@@ -167,19 +133,8 @@ bad_section section tree = option_and_then
     (Some (at_key (section_key section))))
     (get_member (section_key section) tree)
 
-abbrev pub is_host_text : Data → Bool
-is_host_text value = option_map_or is_host (as_str value) false
-
-abbrev pub is_list_of_hosts : Data → Bool
-is_list_of_hosts value = is_some (as_array value) && list_all is_host_text (values_in value)
-
-abbrev pub has_good_hosts : Members → Bool
-has_good_hosts page = option_map_or is_list_of_hosts (get_member hosts_key page) true
-
 abbrev pub bad_page_value : Members → Option Where
-bad_page_value page = first_of (
-    unless (is_some (listen_in page)) (place.PageKey listen_key)
-    ∷ unless (has_good_hosts page) (place.PageKey hosts_key) ∷ [])
+bad_page_value page = option_map place.PageKey (first_bad page_keys page)
 
 abbrev pub bad_page : Members → Option Where
 bad_page tree = option_and_then
@@ -219,7 +174,7 @@ wrong_url_of r entry =
 abbrev pub wrong_url : UrlRule → Members → Option Where
 wrong_url r tree = first_of (
     unless (keeps r tree) (at_key url_key)
-    ∷ first_in (wrong_url_of r) (entries_at machines_key tree) ∷ [])
+    ∷ first_in (wrong_url_of r) (entries_at (name_of machines_row) tree) ∷ [])
 
 -- ---- 10 DotFunction: the settings have no function named `.` or `..`
 
@@ -250,8 +205,7 @@ no_url settings tree = option_map (at_entry section.Machines) (find (has_no_url 
 -- ---- the services that the tree means
 
 abbrev pub own_timeout : Members → List ℕ → Option ℕ
-own_timeout tree name =
-    option_and_then timeout (option_and_then (get_member timeout_key) (entry_table section.Functions tree name))
+own_timeout tree name = option_and_then (number_of timeout_ms_row) (entry_table section.Functions tree name)
 
 -- how long a job of a function may take: no longer than the settings let a worker take for it
 abbrev pub timeout_for : Settings → Members → List ℕ → ℕ
@@ -269,7 +223,7 @@ page_in tree = option_and_then page_of (table_at page_key tree)
 
 abbrev pub services_of : Settings → Members → Services
 services_of settings tree = record {
-  connect_ms = unwrap_or (connect_in tree) 1000;
+  numbers = numbers_in top_keys tree;
   urls = filter_map (url_for tree) settings.machines;
   timeouts = map (timeout_for settings tree) settings.functions;
   page = page_in tree;

@@ -25,8 +25,8 @@ pub record Page : Type 0 where
 
 -- Machines and functions are numbered as in the settings.
 pub record Services : Type 0 where
-  -- how long a connection may take
-  pub connect_ms : ℕ
+  -- for each key of the top table its number, and 0 where it has none
+  pub numbers : List ℕ
   -- for each machine where its jobs go
   pub urls : List Url
   -- for each function how long a job may take

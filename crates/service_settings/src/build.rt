@@ -5,10 +5,11 @@ ghost use Rattle.std.specs.List.{filter_map};
 ghost use Rattle.toml.specs.View.{table_view};
 ghost use Rattle.service_settings.specs.Reading as spec;
 
+use crate::keys::TIMEOUT_MS;
 use crate::service_url::ServiceUrl;
-use crate::tree::{entry_table, value_at};
+use crate::tree::entry_table;
 use crate::urls::url_text;
-use crate::values::timeout;
+use file_keys::number_of;
 use plan_model::{FuncId, MachineId};
 use pool_settings::{Section, Settings};
 use std::alloc::{AllocError, Global};
@@ -46,7 +47,7 @@ fn own_timeout(tree: &Table, name: &str) -> Option<u32>
     ensures { result ≡ spec.own_timeout (table_view tree.now) name.now }
 {
     let function = entry_table(Section::Functions, tree, name)?;
-    timeout(value_at(function, "timeout_ms")?)
+    number_of(&TIMEOUT_MS, function)
 }
 
 /// How long a job of a function may take: no longer than the settings let a worker take for it.

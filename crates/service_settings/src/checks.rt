@@ -4,13 +4,15 @@ ghost use Rattle.std.specs.Prelude.{◌≡◌, Option};
 ghost use Rattle.toml.specs.View.{table_view, view};
 ghost use Rattle.pool_settings.specs.Entries.{entries_if};
 ghost use Rattle.pool_settings.specs.Place as places;
-ghost use Rattle.pool_settings.specs.Tree.{Entry};
+ghost use Rattle.file_keys.specs.Tree.{Entry};
 ghost use Rattle.service_settings.specs.Entries.{AnswersAs, shown};
 ghost use Rattle.service_settings.specs.Place.{place_view};
 ghost use Rattle.service_settings.specs.Reading as spec;
 
+use crate::keys::{PAGE, PAGE_KEYS, TOP_KEYS, VERSION};
 use crate::place::ServicesPlace;
-use crate::tree::{entry_key, number_between, section_key, table_at, value_at};
+use crate::tree::{entry_keys, section_key, table_at};
+use file_keys::{first_missing, is_bad, is_known};
 use pool_settings::{Place, Section, Settings};
 use toml::{Table, Value};
 
@@ -38,45 +40,22 @@ where
     None
 }
 
-fn has_version(tree: &Table) -> bool
-    ensures { result ≡ spec.has_version (table_view tree.now) }
-{
-    match value_at(tree, "version") {
-        Some(value) => number_between(1, 1, value).is_some(),
-        None => false,
-    }
-}
-
 pub fn bad_version(tree: &Table) -> Option<ServicesPlace<&str>>
     ensures { shown result ≡ spec.bad_version (table_view tree.now) }
 {
-    unless(has_version(tree), ServicesPlace::At(Place::Key("version")))
+    unless(
+        !is_bad(&VERSION, tree),
+        ServicesPlace::At(Place::Key(VERSION.name)),
+    )
 }
 
 // ---- known keys
-
-fn is_top_key(key: &str) -> bool
-    ensures { result ≡ spec.is_top_key key.now }
-{
-    key == "version"
-        || key == "url"
-        || key == "connect_ms"
-        || key == "functions"
-        || key == "machines"
-        || key == "page"
-}
-
-fn is_page_key(key: &str) -> bool
-    ensures { result ≡ spec.is_page_key key.now }
-{
-    key == "listen" || key == "hosts"
-}
 
 fn unknown_top_key(tree: &Table) -> Option<ServicesPlace<&str>>
     ensures { shown result ≡ spec.unknown_top_key (table_view tree.now) }
 {
     first_in(Some(tree), |key, _value| {
-        unless(is_top_key(key), ServicesPlace::At(Place::Key(key)))
+        unless(is_known(&TOP_KEYS, key), ServicesPlace::At(Place::Key(key)))
     })
 }
 
@@ -90,7 +69,7 @@ fn unknown_key_of<'t>(
 {
     first_in(value.as_table(), |key, _value| {
         unless(
-            key == entry_key(section),
+            is_known(entry_keys(section), key),
             ServicesPlace::At(Place::EntryKey(section, name, key)),
         )
     })
@@ -107,8 +86,8 @@ fn unknown_key_in(section: Section, tree: &Table) -> Option<ServicesPlace<&str>>
 fn unknown_page_key(tree: &Table) -> Option<ServicesPlace<&str>>
     ensures { shown result ≡ spec.unknown_page_key (table_view tree.now) }
 {
-    first_in(table_at(tree, "page"), |key, _value| {
-        unless(is_page_key(key), ServicesPlace::PageKey(key))
+    first_in(table_at(tree, PAGE.name), |key, _value| {
+        unless(is_known(&PAGE_KEYS, key), ServicesPlace::PageKey(key))
     })
 }
 
@@ -125,11 +104,9 @@ pub fn unknown_key(tree: &Table) -> Option<ServicesPlace<&str>>
 pub fn missing_key(tree: &Table) -> Option<ServicesPlace<&str>>
     ensures { shown result ≡ spec.missing_key (table_view tree.now) }
 {
-    let page = table_at(tree, "page")?;
-    unless(
-        value_at(page, "listen").is_some(),
-        ServicesPlace::PageKey("listen"),
-    )
+    let page = table_at(tree, PAGE.name)?;
+    let key = first_missing(&PAGE_KEYS, page)?;
+    Some(ServicesPlace::PageKey(key))
 }
 
 // ---- names

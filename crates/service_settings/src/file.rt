@@ -2,17 +2,21 @@
 
 ghost use Rattle.std.specs.Prelude.{◌≡◌, IfErr, IfOk, Ok, Some, length};
 ghost use Rattle.toml.specs.View.{table_view};
-ghost use Rattle.pool_settings.specs.Reading.{has_key, tree_of};
+ghost use Rattle.file_keys.specs.Keys.{key_view, number_of};
+ghost use Rattle.file_keys.specs.Tree.{has_key};
+ghost use Rattle.pool_settings.specs.Reading.{tree_of};
 ghost use Rattle.service_settings.specs.Fault.{RefusesPage, RefusesText, RefusesTree};
 ghost use Rattle.service_settings.specs.Reading as spec;
 
 use crate::ServicesError;
 use crate::checked::{checked, checked_alone};
 use crate::fault::ServicesFault;
+use crate::keys::PAGE;
 use crate::page::Page;
 use crate::place::ServicesPlace;
 use crate::services::{Services, services_of};
-use crate::tree::{entry_table, value_at};
+use crate::tree::entry_table;
+use file_keys::{Key, number_of, value_at};
 use pool_settings::{Place, Section, Settings, SettingsFault, SettingsFile};
 use std::alloc::Global;
 use toml::Table;
@@ -70,9 +74,16 @@ impl ServicesFile {
             Some(page) => Ok(page),
             None => Err(ServicesFault::At(
                 ServicesError::MissingKey,
-                ServicesPlace::At(Place::Key("page")),
+                ServicesPlace::At(Place::Key(PAGE.name)),
             )),
         }
+    }
+
+    /// The number at a key of the top table, or its default.
+    pub fn number(&self, key: &Key) -> Option<u32>
+        ensures { result ≡ number_of (key_view key.now) (table_view self.now.tree) }
+    {
+        number_of(key, &self.tree)
     }
 
     /// Whether the top table has a key.

@@ -5,12 +5,13 @@ ghost use Rattle.std.specs.List.{filter_map};
 ghost use Rattle.std.specs.Option.{option_map_or};
 ghost use Rattle.toml.specs.Data.{as_str, get_member};
 ghost use Rattle.toml.specs.View.{array_view, items_view, table_view};
-ghost use Rattle.pool_settings.specs.Tree.{values_in, values_of};
+ghost use Rattle.file_keys.specs.Hosts.{is_socket};
+ghost use Rattle.file_keys.specs.Tree.{values_in, values_of};
 ghost use Rattle.service_settings.specs.Reading as spec;
-ghost use Rattle.service_settings.specs.Url.{is_socket};
 
-use crate::tree::{table_at, text_at, value_at};
-use crate::url_parts::{has_port, is_socket};
+use crate::keys::{HOSTS, LISTEN, PAGE};
+use crate::tree::table_at;
+use file_keys::{as_address, value_at};
 use std::alloc::{AllocError, Global};
 use std::marker::Model;
 use toml::{Table, Value};
@@ -24,8 +25,8 @@ pub struct Page {
 
 impl Model for Page {
     ghost use Rattle.std.specs.Prelude.{◌≡◌, map, string_bytes, true};
+    ghost use Rattle.file_keys.specs.Hosts.{is_socket};
     ghost use Rattle.service_settings.specs.Services as meant;
-    ghost use Rattle.service_settings.specs.Url.{is_socket};
 
     ghost Value = { meant.Page };
 
@@ -39,7 +40,7 @@ impl Page {
     pub(crate) fn read(alloc: Global, tree: &Table) -> Result<Option<Page>, AllocError>
         ensures { IfOk result (λ page. page ≡ spec.page_in (table_view tree.now)) }
     {
-        let Some(table) = table_at(tree, "page") else {
+        let Some(table) = table_at(tree, PAGE.name) else {
             return Ok(None);
         };
         let Some(address) = listen_in(table) else {
@@ -71,12 +72,7 @@ pub fn listen_in(page: &Table) -> Option<&str>
     ensures value { option_map (λ t. t.now) result ≡ spec.listen_in (table_view page.now) }
     ensures socket { IfSome result (λ t. is_socket t.now ≡ true) }
 {
-    let address = text_at(page, "listen")?;
-    if is_socket(address.as_bytes()) && has_port(address.as_bytes()) {
-        Some(address)
-    } else {
-        None
-    }
+    as_address(value_at(page, LISTEN.name)?)
 }
 
 /// The values that a page lists as its names.
@@ -84,7 +80,7 @@ fn listed_in(page: &Table) -> Option<&Vec<Value>>
     ensures { option_map_or (λ v. values_of (array_view v.now)) result []
         ≡ option_map_or values_in (get_member spec.hosts_key (table_view page.now)) [] }
 {
-    match value_at(page, "hosts") {
+    match value_at(page, HOSTS.name) {
         Some(listed) => listed.as_array(),
         None => None,
     }

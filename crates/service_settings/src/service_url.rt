@@ -3,7 +3,8 @@
 ghost use Rattle.std.specs.Prelude.{◌≡◌, ◌≤◌, IfOk, length, string_bytes, true};
 ghost use Rattle.service_settings.specs.Url as spec;
 
-use crate::url_parts::{is_host, parts_of};
+use crate::url_parts::parts_of;
+use file_keys::is_host;
 use std::alloc::{AllocError, Global};
 use std::marker::Model;
 

@@ -4,13 +4,15 @@ ghost use Rattle.std.specs.Prelude.{◌≡◌, ◌≢◌, ◌<◌, ◌≤◌, Er
 ghost use Rattle.std.specs.Option.{option_copied};
 ghost use Rattle.toml.specs.Errors.{IsBlank};
 ghost use Rattle.toml.specs.View.{table_view};
+ghost use Rattle.service_settings.specs.Keys.{connect_ms_of};
 ghost use Rattle.service_settings.specs.Reading as spec;
 
 use crate::build::{timeouts_of, urls_of};
+use crate::keys::{CONNECT_PLACE, TOP, TOP_KEYS};
 use crate::page::Page;
 use crate::service_url::ServiceUrl;
-use crate::values::connect_in;
 use crate::{ServicesError, ServicesFile};
+use file_keys::numbers_in;
 use plan_model::{FuncId, MachineId};
 use pool_settings::Settings;
 use std::alloc::{AllocError, Global};
@@ -21,7 +23,7 @@ use toml::Table;
 /// numbers of the settings that the file was read with.
 #[derive(Drop)]
 pub struct Services {
-    connect_ms: u32,
+    numbers: [u32; TOP],
     urls: Vec<ServiceUrl>,
     timeouts: Vec<u32>,
     page: Option<Page>,
@@ -29,6 +31,7 @@ pub struct Services {
 
 impl Model for Services {
     ghost use Rattle.std.specs.Prelude.{◌≤◌};
+    ghost use Rattle.service_settings.specs.Keys.{AllInRange};
     ghost use Rattle.service_settings.specs.Services as meant;
 
     ghost Value = { meant.Services };
@@ -37,7 +40,7 @@ impl Model for Services {
 
     ghost view = { services_view };
 
-    ghost invariant = { λ s. (1 ≤ s.connect_ms) × (s.connect_ms ≤ 60000) };
+    ghost invariant = { λ s. AllInRange s.numbers };
 }
 
 /// The services of a tree, less the machines that have no URL.
@@ -48,7 +51,7 @@ pub fn services_of(alloc: Global, settings: &Settings, tree: &Table) -> Result<S
     let timeouts = timeouts_of(alloc, settings, tree)?;
     let page = Page::read(alloc, tree)?;
     Ok(Services {
-        connect_ms: connect_in(tree).unwrap_or(1_000),
+        numbers: numbers_in(&TOP_KEYS, tree),
         urls,
         timeouts,
         page,
@@ -56,20 +59,7 @@ pub fn services_of(alloc: Global, settings: &Settings, tree: &Table) -> Result<S
 }
 
 impl Services {
-    /// Reads a services file beside the settings: TOML, with the keys of this table and no others.
-    ///
-    /// | key | place | value | default |
-    /// |---|---|---|---|
-    /// | `version` | top | 1 | required |
-    /// | `url` | top | a URL: for each machine that has none of its own | none |
-    /// | `connect_ms` | top | 1 to 60,000 milliseconds: how long opening a connection may take | 1,000 |
-    /// | `machines` | top | a table of one table for some machines of the settings | empty |
-    /// | `url` | a machine | a URL | that of the top |
-    /// | `functions` | top | a table of one table for some functions of the settings | empty |
-    /// | `timeout_ms` | a function | 1 to 4,294,967,295 milliseconds: how long a job may take | `job_timeout_ms` of the settings |
-    /// | `page` | top | a table | no page |
-    /// | `listen` | the page | an IPv4 address or an IPv6 address in brackets, a colon and a PORT | required |
-    /// | `hosts` | the page | a list of names or addresses, as in a URL: under these too the page is asked for | none |
+    /// Reads a services file beside the settings: TOML, with the keys that [`crate::keys_text`] lists and no others.
     ///
     /// A URL is `http://HOST[:PORT][/PATH]`. HOST is a name of letters, digits, `-`, `.` and `_`, an IPv4 address or an IPv6 address
     /// in brackets. PORT is 1 to 65,535 without zeros before it, and 80 if it is left out. PATH has visible characters of ASCII, but no `?`
@@ -99,11 +89,11 @@ impl Services {
 
     /// How long opening a connection may take, in milliseconds: from 1 to 60,000.
     pub fn connect_ms(&self) -> u32
-        ensures all { result ≡ self.now.connect_ms }
+        ensures all { result ≡ connect_ms_of self.now }
         ensures some { 1 ≤ result }
         ensures few { result ≤ 60000 }
     {
-        self.connect_ms
+        self.numbers[CONNECT_PLACE]
     }
 
     /// Where the jobs of a machine go.

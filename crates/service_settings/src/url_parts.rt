@@ -2,10 +2,11 @@
 
 ghost use Rattle.std.specs.Prelude.{◌≡◌, ◌≤◌, IfSome, List, ℕ, length, option_map, true};
 ghost use Rattle.std.specs.List.{list_all, prefix_len};
+ghost use Rattle.file_keys.specs.Hosts as hosts;
 ghost use Rattle.service_settings.specs.Url as spec;
 
-use std::net::{Ipv6Addr, SocketAddr};
-use text_pieces::{cut_last, plain_number_u32};
+use file_keys::{is_host, is_port};
+use text_pieces::cut_last;
 
 /// The parts of a URL.
 #[derive(Clone, Copy)]
@@ -18,14 +19,14 @@ pub struct UrlParts<'t> {
 
 /// What comes after these bytes at the start of a text.
 fn after<'t>(prefix: &[u8], text: &'t [u8]) -> Option<&'t [u8]>
-    ensures { option_map (λ t. t.now) result ≡ spec.after prefix.now text.now }
+    ensures { option_map (λ t. t.now) result ≡ hosts.after prefix.now text.now }
 {
     text.strip_prefix(prefix)
 }
 
 /// What comes before these bytes at the end of a text.
 fn before<'t>(end: &[u8], text: &'t [u8]) -> Option<&'t [u8]>
-    ensures { option_map (λ t. t.now) result ≡ spec.before end.now text.now }
+    ensures { option_map (λ t. t.now) result ≡ hosts.before end.now text.now }
 {
     text.strip_suffix(end)
 }
@@ -34,77 +35,6 @@ fn is_visible(text: &[u8]) -> bool
     ensures { result ≡ spec.is_visible text.now }
 {
     text.iter().all(|byte| byte.is_ascii_graphic())
-}
-
-// ---- hosts
-
-fn is_name_byte(byte: u8) -> bool
-    ensures { result ≡ spec.is_name_byte byte }
-{
-    byte.is_ascii_alphanumeric() || byte == b'-' || byte == b'.' || byte == b'_'
-}
-
-fn are_name_bytes(host: &[u8]) -> bool
-    ensures { result ≡ list_all spec.is_name_byte host.now }
-{
-    host.iter().all(|byte| is_name_byte(*byte))
-}
-
-fn is_name(host: &[u8]) -> bool
-    ensures { result ≡ spec.is_name host.now }
-{
-    host.len() >= 1 && are_name_bytes(host)
-}
-
-fn is_ipv6(text: &[u8]) -> bool
-    ensures { result ≡ spec.is_ipv6 text.now }
-{
-    Ipv6Addr::parse_ascii(text).is_ok()
-}
-
-/// Whether a text is an IPv4 address or an IPv6 address in brackets, and a port.
-pub fn is_socket(text: &[u8]) -> bool
-    ensures { result ≡ spec.is_socket text.now }
-{
-    SocketAddr::parse_ascii(text).is_ok()
-}
-
-fn is_bracketed(host: &[u8]) -> bool
-    ensures { result ≡ spec.is_bracketed host.now }
-{
-    match after(b"[", host) {
-        Some(rest) => match before(b"]", rest) {
-            Some(address) => is_ipv6(address),
-            None => false,
-        },
-        None => false,
-    }
-}
-
-/// Whether a text is a name, an IPv4 address or an IPv6 address in brackets.
-pub fn is_host(host: &[u8]) -> bool
-    ensures { result ≡ spec.is_host host.now }
-{
-    is_name(host) || is_bracketed(host)
-}
-
-fn is_port(digits: &[u8]) -> bool
-    ensures { result ≡ spec.is_port digits.now }
-{
-    match plain_number_u32(digits) {
-        Some(port) => port >= 1 && port <= 65_535,
-        None => false,
-    }
-}
-
-/// Whether a text has a port after its last colon: a number from 1 to 65,535, without zeros before it.
-pub fn has_port(text: &[u8]) -> bool
-    ensures { result ≡ spec.has_port text.now }
-{
-    match cut_last(b':', text) {
-        Some((_, port)) => is_port(port),
-        None => false,
-    }
 }
 
 fn is_host_with_port(authority: &[u8]) -> bool

@@ -4,11 +4,12 @@ ghost use Rattle.std.specs.Prelude.{◌≡◌, option_map};
 ghost use Rattle.toml.specs.View.{table_view, view};
 ghost use Rattle.pool_settings.specs.Place as places;
 ghost use Rattle.pool_settings.specs.Reading.{machines_key};
-ghost use Rattle.pool_settings.specs.Tree.{entries_at};
+ghost use Rattle.file_keys.specs.Tree.{entries_at};
 ghost use Rattle.service_settings.specs.Entries.{shown};
 ghost use Rattle.service_settings.specs.Reading as spec;
 
 use crate::checks::{first_in, unless};
+use crate::keys::{MACHINES, URL};
 use crate::place::ServicesPlace;
 use crate::tree::{entry_table, table_at, text_at};
 use crate::url_parts::{is_https, parts_of};
@@ -38,7 +39,7 @@ fn is_kept(rule: UrlRule, url: &str) -> bool
 fn keeps(rule: UrlRule, table: &Table) -> bool
     ensures { result ≡ spec.keeps rule (table_view table.now) }
 {
-    match text_at(table, "url") {
+    match text_at(table, URL.name) {
         Some(url) => is_kept(rule, url),
         None => true,
     }
@@ -54,7 +55,7 @@ fn wrong_url_of<'t>(
     let machine = value.as_table()?;
     unless(
         keeps(rule, machine),
-        ServicesPlace::At(Place::EntryKey(Section::Machines, name, "url")),
+        ServicesPlace::At(Place::EntryKey(Section::Machines, name, URL.name)),
     )
 }
 
@@ -62,7 +63,7 @@ fn wrong_url_of<'t>(
 fn wrong_own_url(rule: UrlRule, tree: &Table) -> Option<ServicesPlace<&str>>
     ensures { shown result ≡ places.first_in (spec.wrong_url_of rule) (entries_at machines_key (table_view tree.now)) }
 {
-    first_in(table_at(tree, "machines"), |name, value| {
+    first_in(table_at(tree, MACHINES.name), |name, value| {
         wrong_url_of(rule, name, value)
     })
 }
@@ -71,7 +72,7 @@ fn wrong_own_url(rule: UrlRule, tree: &Table) -> Option<ServicesPlace<&str>>
 pub fn wrong_url(rule: UrlRule, tree: &Table) -> Option<ServicesPlace<&str>>
     ensures { shown result ≡ spec.wrong_url rule (table_view tree.now) }
 {
-    unless(keeps(rule, tree), ServicesPlace::At(Place::Key("url"))).or_else(|| wrong_own_url(
+    unless(keeps(rule, tree), ServicesPlace::At(Place::Key(URL.name))).or_else(|| wrong_own_url(
         rule, tree,
     ))
 }
@@ -80,14 +81,14 @@ fn own_url<'t>(tree: &'t Table, name: &str) -> Option<&'t str>
     ensures { option_map (λ t. t.now) result ≡ spec.own_url (table_view tree.now) name.now }
 {
     let machine = entry_table(Section::Machines, tree, name)?;
-    text_at(machine, "url")
+    text_at(machine, URL.name)
 }
 
 /// The URL of a machine: its own, or that at the top.
 pub fn url_text<'t>(tree: &'t Table, name: &str) -> Option<&'t str>
     ensures { option_map (λ t. t.now) result ≡ spec.url_text (table_view tree.now) name.now }
 {
-    own_url(tree, name).or_else(|| text_at(tree, "url"))
+    own_url(tree, name).or_else(|| text_at(tree, URL.name))
 }
 
 fn has_no_url(tree: &Table, name: &str) -> bool

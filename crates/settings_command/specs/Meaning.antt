@@ -1,12 +1,14 @@
 -- What settings mean, as lines of one fact each.
-use Rattle.std.specs.Prelude.{ℕ, List, [], ◌++◌, codes, ◌==◌, length, slice_index, slice_index_or, unwrap_or, Bool, if◌then◌else◌}
+use Rattle.std.specs.Prelude.{ℕ, List, [], ◌++◌, codes, ◌==◌, length, slice_index, slice_index_or, Bool, if◌then◌else◌}
 use Rattle.std.specs.List.{flat_map, list_any, range_with_len}
+use Rattle.std.specs.Option.{option_map_or}
 use Rattle.std.specs.Fmt.{decimal}
 use Rattle.toml.specs.Data.{Members}
+use Rattle.file_keys.specs.Keys.{Key, name_of, number_of, text_of}
+use Rattle.file_keys.specs.Tree.{has_key}
 use Rattle.pool_settings.specs.Names.{name_at}
+use Rattle.pool_settings.specs.Reading.{function_has_key, least_key, most_key, top_keys}
 use Rattle.pool_settings.specs.Settings.{Settings}
-use Rattle.pool_settings.specs.Reading.{function_has_key, has_key, history_key, job_timeout_key, least_key, lull_key, max_runs_key}
-use Rattle.pool_settings.specs.Reading.{most_key, round_key, server_key, version_in, version_key}
 use Rattle.pool_settings.specs.Rows.{may_do}
 use Rattle.settings_command.specs.Place.{printable}
 use Rattle.text_pieces.specs.Lines.{ended}
@@ -18,30 +20,27 @@ mark is_given = if is_given then [] else codes " (default)"
 abbrev pub number_line : List ℕ → ℕ → List ℕ
 number_line key number = ended (key ++ codes " " ++ decimal number)
 
-abbrev pub server_line : Bool → List ℕ → List ℕ
-server_line is_given server = ended (codes "server " ++ printable server ++ mark is_given)
+-- a number of the top table, and what marks a default
+abbrev pub single_line : List ℕ → ℕ → List ℕ → List ℕ
+single_line name number marked = ended (name ++ codes " " ++ decimal number ++ marked)
 
-abbrev pub key_line : Members → List ℕ → ℕ → List ℕ
-key_line tree key number = ended (key ++ codes " " ++ decimal number ++ mark (has_key key tree))
+-- a text of the top table
+abbrev pub text_line : List ℕ → List ℕ → List ℕ → List ℕ
+text_line name text marked = ended (name ++ codes " " ++ printable text ++ marked)
+
+-- the lines of a key: one if its value is a number, or a text of bounded length
+abbrev pub number_lines : Members → Key → List ℕ
+number_lines tree key = option_map_or (λ n. single_line (name_of key) n (mark (has_key (name_of key) tree))) (number_of key tree) []
+
+abbrev pub text_lines : Members → Key → List ℕ
+text_lines tree key = option_map_or (λ t. text_line (name_of key) t (mark (has_key (name_of key) tree))) (text_of key tree) []
+
+abbrev pub key_lines : Members → Key → List ℕ
+key_lines tree key = number_lines tree key ++ text_lines tree key
 
 abbrev pub bound_line : Members → List ℕ → List ℕ → ℕ → List ℕ
 bound_line tree function key number =
     ended (codes "function " ++ function ++ codes " " ++ key ++ codes " " ++ decimal number ++ mark (function_has_key function key tree))
-
--- the version of the file, which is 1 or 2 where its settings are taken
-abbrev pub version_line : Members → List ℕ
-version_line tree = number_line version_key (unwrap_or (version_in tree) 0)
-
--- the job server, and what a worker may take and do
-abbrev pub server_lines : Members → Settings → List ℕ
-server_lines tree settings =
-    server_line (has_key server_key tree) settings.server ++ key_line tree job_timeout_key settings.job_timeout_ms
-    ++ key_line tree max_runs_key settings.max_runs
-
--- the times of a round, and how much is kept
-abbrev pub round_lines : Members → Settings → List ℕ
-round_lines tree settings =
-    key_line tree round_key settings.round_ms ++ key_line tree lull_key settings.lull_ms ++ key_line tree history_key settings.history
 
 abbrev pub functions : Settings → List ℕ
 functions settings = range_with_len 0 (length settings.functions)
@@ -91,6 +90,6 @@ remarks settings = flat_map (unlisted_remark settings) (functions settings) ++ f
 -- what settings mean, of which the file gives the keys of this tree
 abbrev pub meaning : Members → Settings → List ℕ
 meaning tree settings =
-    version_line tree ++ server_lines tree settings ++ round_lines tree settings
+    flat_map (key_lines tree) top_keys
     ++ flat_map (function_lines tree settings) (functions settings)
     ++ flat_map (machine_lines settings) (machines settings) ++ remarks settings

@@ -6,7 +6,7 @@ use Rattle.std.specs.List.{flat_map}
 use Rattle.pool_settings.specs.Names.{name_at}
 use Rattle.pool_settings.specs.Settings.{Settings}
 use Rattle.pool_settings.specs.Slots.{slots}
-use Rattle.service_settings.specs.Url.{has_port}
+use Rattle.file_keys.specs.Hosts.{has_port}
 use Rattle.settings_command.specs.Farm.{IsShown, hands}
 use Rattle.settings_command.specs.Meaning.{functions, machines}
 use Rattle.settings_command.specs.Place.{printable}

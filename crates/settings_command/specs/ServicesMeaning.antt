@@ -5,20 +5,22 @@ use Rattle.std.specs.Option.{option_map_or}
 use Rattle.std.specs.Fmt.{decimal}
 use Rattle.toml.specs.Data.{Members}
 use Rattle.pool_settings.specs.Names.{name_at}
-use Rattle.pool_settings.specs.Reading.{has_key}
+use Rattle.file_keys.specs.Keys.{Key, name_of, number_of}
+use Rattle.file_keys.specs.Tree.{has_key}
 use Rattle.pool_settings.specs.Settings.{Settings}
-use Rattle.service_settings.specs.Reading.{connect_key, function_has_key, timeout_key}
+use Rattle.service_settings.specs.Keys.{top_keys}
+use Rattle.service_settings.specs.Reading.{function_has_key, timeout_key}
 use Rattle.service_settings.specs.Services.{Page, Services}
 use Rattle.settings_command.specs.Meaning.{functions, machines, mark}
 use Rattle.text_pieces.specs.Lines.{ended}
 
--- the only version that there is
-abbrev pub version_line : List ℕ
-version_line = ended (codes "services version 1")
+-- a number of the top table, and what marks a default
+abbrev pub number_line : List ℕ → ℕ → List ℕ → List ℕ
+number_line name number marked = ended (codes "services " ++ name ++ codes " " ++ decimal number ++ marked)
 
--- how long opening a connection may take, and what marks a default
-abbrev pub connect_line : ℕ → List ℕ → List ℕ
-connect_line connect_ms marked = ended (codes "services connect_ms " ++ decimal connect_ms ++ marked)
+-- the line of a key; one whose value is no number has none
+abbrev pub key_line : Members → Key → List ℕ
+key_line tree key = option_map_or (λ n. number_line (name_of key) n (mark (has_key (name_of key) tree))) (number_of key tree) []
 
 -- where the jobs of a machine go: as in the file, with the port in any case, and without a slash at the end
 abbrev pub url_line : List ℕ → List ℕ → List ℕ → List ℕ
@@ -50,7 +52,7 @@ page_lines page = listen_line page.listen ++ flat_map host_line page.hosts
 -- what services mean, of which the file gives the keys of this tree
 abbrev pub services_meaning : Members → Settings → Services → List ℕ
 services_meaning tree settings services =
-    version_line ++ connect_line services.connect_ms (mark (has_key connect_key tree))
+    flat_map (key_line tree) top_keys
     ++ flat_map (machine_line settings services) (machines settings)
     ++ flat_map (function_line tree settings services) (functions settings)
     ++ option_map_or page_lines services.page []

@@ -3,12 +3,14 @@
 ghost use Rattle.std.specs.Prelude.{◌≡◌, ◌++◌, ◌<◌, IfOk, OnOk, length, string_bytes};
 ghost use Rattle.std.specs.List.{flat_map};
 ghost use Rattle.toml.specs.View.{table_view};
+ghost use Rattle.file_keys.specs.Keys.{key_view, keys_view};
 ghost use Rattle.settings_command.specs.Meaning as spec;
 
 use crate::place::push_printable;
 use crate::remarks::push_remarks;
+use file_keys::Key;
 use plan_model::{FuncId, MachineId};
-use pool_settings::{Settings, SettingsFile};
+use pool_settings::{Settings, SettingsFile, TOP_KEYS};
 use std::alloc::{AllocError, Global};
 use std::fmt::Write;
 
@@ -19,26 +21,52 @@ pub(crate) fn mark(is_given: bool) -> &'static str
     if is_given { "" } else { " (default)" }
 }
 
-/// The line of a key and its number.
-fn push_number(
-    out: &mut String,
-    key: &str,
-    number: u32,
-    file: &SettingsFile,
-) -> Result<(), AllocError>
-    ensures { OnOk result (string_bytes out.new ≡ string_bytes out.old ++ spec.key_line (table_view file.now.tree) key.now number) }
+fn push_single_line(out: &mut String, name: &str, number: u32, mark: &str) -> Result<(), AllocError>
+    ensures { OnOk result (string_bytes out.new ≡ string_bytes out.old ++ spec.single_line name.now number mark.now) }
 {
-    let mark = mark(file.has_key(key));
-    write!(out, "{key} {number}{mark}\n")
+    write!(out, "{name} {number}{mark}\n")
 }
 
-fn push_server_line(out: &mut String, server: &str, is_given: bool) -> Result<(), AllocError>
-    ensures { OnOk result (string_bytes out.new ≡ string_bytes out.old ++ spec.server_line is_given server.now) }
+fn push_text_line(out: &mut String, name: &str, text: &str, mark: &str) -> Result<(), AllocError>
+    ensures { OnOk result (string_bytes out.new ≡ string_bytes out.old ++ spec.text_line name.now text.now mark.now) }
 {
-    out.push_str("server ")?;
-    push_printable(out, server)?;
-    out.push_str(mark(is_given))?;
-    out.push_str("\n")
+    write!(out, "{name} ")?;
+    push_printable(out, text)?;
+    write!(out, "{mark}\n")
+}
+
+/// The number at a key of the top table, if it has one.
+fn push_number(out: &mut String, file: &SettingsFile, key: &Key) -> Result<(), AllocError>
+    ensures { OnOk result (string_bytes out.new ≡ string_bytes out.old ++ spec.number_lines (table_view file.now.tree) (key_view key.now)) }
+{
+    let Some(number) = file.number(key) else {
+        return Ok(());
+    };
+    let mark = mark(file.has_key(key.name));
+    push_single_line(out, key.name, number, mark)
+}
+
+/// The text at a key of the top table, if it has one.
+fn push_text(out: &mut String, file: &SettingsFile, key: &Key) -> Result<(), AllocError>
+    ensures { OnOk result (string_bytes out.new ≡ string_bytes out.old ++ spec.text_lines (table_view file.now.tree) (key_view key.now)) }
+{
+    let Some(text) = file.text(key) else {
+        return Ok(());
+    };
+    let mark = mark(file.has_key(key.name));
+    push_text_line(out, key.name, text, mark)
+}
+
+/// The single keys of the top table.
+fn push_keys(out: &mut String, file: &SettingsFile, keys: &[Key]) -> Result<(), AllocError>
+    ensures { OnOk result (string_bytes out.new
+        ≡ string_bytes out.old ++ flat_map (spec.key_lines (table_view file.now.tree)) (keys_view keys.now)) }
+{
+    for key in keys {
+        push_number(out, file, key)?;
+        push_text(out, file, key)?;
+    }
+    Ok(())
 }
 
 /// A bound of a function.
@@ -54,32 +82,6 @@ fn push_bound(
 {
     let mark = mark(file.function_has_key(function, key));
     write!(out, "function {function} {key} {number}{mark}\n")
-}
-
-/// The version of the file.
-fn push_version(out: &mut String, file: &SettingsFile) -> Result<(), AllocError>
-    ensures { OnOk result (string_bytes out.new ≡ string_bytes out.old ++ spec.version_line (table_view file.now.tree)) }
-{
-    let version = file.version().unwrap_or(0);
-    write!(out, "version {version}\n")
-}
-
-/// The job server, and what a worker may take and do.
-fn push_server(out: &mut String, settings: &Settings, file: &SettingsFile) -> Result<(), AllocError>
-    ensures { OnOk result (string_bytes out.new ≡ string_bytes out.old ++ spec.server_lines (table_view file.now.tree) settings.now) }
-{
-    push_server_line(out, settings.server(), file.has_key("server"))?;
-    push_number(out, "job_timeout_ms", settings.job_timeout_ms(), file)?;
-    push_number(out, "max_runs", settings.max_runs(), file)
-}
-
-/// The times of a round, and how much is kept.
-fn push_rounds(out: &mut String, settings: &Settings, file: &SettingsFile) -> Result<(), AllocError>
-    ensures { OnOk result (string_bytes out.new ≡ string_bytes out.old ++ spec.round_lines (table_view file.now.tree) settings.now) }
-{
-    push_number(out, "round_ms", settings.round_ms(), file)?;
-    push_number(out, "lull_ms", settings.lull_ms(), file)?;
-    push_number(out, "history", settings.history(), file)
 }
 
 /// A function, with its least and its greatest number.
@@ -147,7 +149,7 @@ fn push_machines(out: &mut String, settings: &Settings) -> Result<(), AllocError
     Ok(())
 }
 
-/// What settings mean: a line for the version and each single key, two for each function, one for each machine and after it one for
+/// What settings mean: a line for each single key, the version first, two for each function, one for each machine and after it one for
 /// each function that its workers may do, all in the order of [`Settings`]; and then the remarks, one for each function that no machine
 /// lists and one for each machine that lists none. A value that the file does not give is marked `(default)`. The only error is out of
 /// memory.
@@ -159,9 +161,7 @@ pub fn meaning_text(
     ensures { IfOk result (λ text. string_bytes text ≡ spec.meaning (table_view file.now.tree) settings.now) }
 {
     let mut out = String::new(alloc);
-    push_version(&mut out, file)?;
-    push_server(&mut out, settings, file)?;
-    push_rounds(&mut out, settings, file)?;
+    push_keys(&mut out, file, &TOP_KEYS)?;
     push_functions(&mut out, settings, file)?;
     push_machines(&mut out, settings)?;
     push_remarks(&mut out, settings)?;

@@ -4,8 +4,8 @@ ghost use Rattle.std.specs.Prelude.{◌≡◌, ◌++◌, OnOk, string_bytes};
 ghost use Rattle.settings_command.specs.Remarks as spec;
 
 use crate::place::push_printable;
+use file_keys::has_port;
 use pool_settings::Settings;
-use service_settings::has_port;
 use std::alloc::AllocError;
 use std::fmt::Write;
 

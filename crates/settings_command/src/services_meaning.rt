@@ -4,36 +4,44 @@ ghost use Rattle.std.specs.Prelude.{◌≡◌, ◌++◌, ◌<◌, [], OnOk, leng
 ghost use Rattle.std.specs.List.{flat_map};
 ghost use Rattle.std.specs.Option.{option_map_or};
 ghost use Rattle.toml.specs.View.{table_view};
-ghost use Rattle.pool_settings.specs.Reading.{has_key};
-ghost use Rattle.service_settings.specs.Reading.{connect_key};
+ghost use Rattle.file_keys.specs.Keys.{key_view, keys_view};
 ghost use Rattle.settings_command.specs.Meaning.{functions, machines};
-ghost use Rattle.settings_command.specs.Meaning as meaning;
 ghost use Rattle.settings_command.specs.ServicesMeaning as spec;
 
 use crate::meaning::mark;
+use file_keys::Key;
 use plan_model::{FuncId, MachineId};
 use pool_settings::Settings;
-use service_settings::{Page, Services, ServicesFile};
+use service_settings::{Page, Services, ServicesFile, TOP_KEYS};
 use std::alloc::AllocError;
 use std::fmt::Write;
 
-fn push_connect_line(out: &mut String, connect_ms: u32, mark: &str) -> Result<(), AllocError>
-    ensures { OnOk result (string_bytes out.new ≡ string_bytes out.old ++ spec.connect_line connect_ms mark.now) }
+fn push_number_line(out: &mut String, name: &str, number: u32, mark: &str) -> Result<(), AllocError>
+    ensures { OnOk result (string_bytes out.new ≡ string_bytes out.old ++ spec.number_line name.now number mark.now) }
 {
-    write!(out, "services connect_ms {connect_ms}{mark}\n")
+    write!(out, "services {name} {number}{mark}\n")
 }
 
-/// How long opening a connection may take.
-fn push_connect(
-    out: &mut String,
-    services: &Services,
-    file: &ServicesFile,
-) -> Result<(), AllocError>
-    ensures { OnOk result (string_bytes out.new ≡ string_bytes out.old
-        ++ spec.connect_line services.now.connect_ms (meaning.mark (has_key connect_key (table_view file.now.tree)))) }
+/// The number at a key of the top table, if it has one.
+fn push_number(out: &mut String, file: &ServicesFile, key: &Key) -> Result<(), AllocError>
+    ensures { OnOk result (string_bytes out.new ≡ string_bytes out.old ++ spec.key_line (table_view file.now.tree) (key_view key.now)) }
 {
-    let mark = mark(file.has_key("connect_ms"));
-    push_connect_line(out, services.connect_ms(), mark)
+    let Some(number) = file.number(key) else {
+        return Ok(());
+    };
+    let mark = mark(file.has_key(key.name));
+    push_number_line(out, key.name, number, mark)
+}
+
+/// The numbers of the top table.
+fn push_numbers(out: &mut String, file: &ServicesFile, keys: &[Key]) -> Result<(), AllocError>
+    ensures { OnOk result (string_bytes out.new
+        ≡ string_bytes out.old ++ flat_map (spec.key_line (table_view file.now.tree)) (keys_view keys.now)) }
+{
+    for key in keys {
+        push_number(out, file, key)?;
+    }
+    Ok(())
 }
 
 fn push_url_line(out: &mut String, machine: &str, host: &str, path: &str) -> Result<(), AllocError>
@@ -152,9 +160,9 @@ fn push_if_page(out: &mut String, services: &Services) -> Result<(), AllocError>
     }
 }
 
-/// What services mean: a line for the version and one for `connect_ms`, one for each machine with its URL, one for each function with its
-/// time, and the lines of the page, if there is one, all in the order of the settings. A value that the file does not give is marked
-/// `(default)`; the URL at its top is given. The only error is out of memory.
+/// What services mean: a line for each number of the top table, the version first, one for each machine with its URL, one for each
+/// function with its time, and the lines of the page, if there is one, all in the order of the settings. A value that the file does not
+/// give is marked `(default)`; the URL at its top is given. The only error is out of memory.
 pub fn push_services(
     out: &mut String,
     settings: &Settings,
@@ -166,8 +174,7 @@ pub fn push_services(
     ensures { OnOk result (string_bytes out.new ≡ string_bytes out.old
         ++ spec.services_meaning (table_view file.now.tree) settings.now services.now) }
 {
-    out.push_str("services version 1\n")?;
-    push_connect(out, services, file)?;
+    push_numbers(out, file, &TOP_KEYS)?;
     push_urls(out, settings, services)?;
     push_timeouts(out, settings, services, file)?;
     push_if_page(out, services)

@@ -13,6 +13,8 @@ pub enum TestJob {
     Reverse,
     /// The same, after a half of progress, a piece `p` and a warning `w`.
     Talk,
+    /// Tells a half of progress, a piece `a`, and the result `b`.
+    Notes,
     /// Fails.
     Fail,
     /// Finds no memory.
@@ -41,6 +43,16 @@ fn talk(alloc: Global) -> Result<Vec<Note>, AllocError>
     Ok(notes)
 }
 
+/// What a job says before its result `b`.
+fn notes(alloc: Global) -> Result<Vec<Note>, AllocError>
+    ensures { IfOk result (λ notes. map remark_of notes.items ≡ progress 1 2 ∷ piece (97 ∷ []) ∷ []) }
+{
+    let mut notes = Vec::new(alloc);
+    notes.push(Note::Progress(1, 2))?;
+    notes.push(Note::Piece(vec![in alloc; 97]?))?;
+    Ok(notes)
+}
+
 impl Job for TestJob {
     ghost use Rattle.tests_job_runner.specs.Jobs.{told_by_test};
 
@@ -55,6 +67,10 @@ impl Job for TestJob {
             TestJob::Talk => Ok(Outcome {
                 notes: talk(alloc)?,
                 end: End::Complete(reversed(alloc, input)?),
+            }),
+            TestJob::Notes => Ok(Outcome {
+                notes: notes(alloc)?,
+                end: End::Complete(vec![in alloc; 98]?),
             }),
             TestJob::Fail => Ok(Outcome {
                 notes: Vec::new(alloc),

@@ -15,8 +15,8 @@ use plan_model::{FuncId, SlotId};
 use pool_core::{Event, JoinError, Pass, Pool};
 use pool_settings::Settings;
 use pool_supervisor::{
-    Enrolled, Grabs, JobSource, Lent, Papers, Place, Reports, RunBoard, RunId, Shared, Site, Until,
-    Watch, run_worker,
+    Enrolled, Grabs, JobCounts, JobSource, Lent, Papers, Place, Reports, RunBoard, RunId, Shared,
+    Site, Until, Watch, run_worker,
 };
 use std::alloc::{AllocError, Global};
 use std::marker::{Brand, PhantomData};
@@ -27,7 +27,7 @@ use std::test::Fail;
 use worker_state::{Cause, EndKind, Order, What, WorkerName};
 
 /// Machine a with one worker for `reverse`.
-const ONE: &str =
+pub const ONE: &str =
     "version = 1\n[functions.reverse]\n[machines.a]\nworkers = 1\nfunctions = [\"reverse\"]\n";
 
 /// How many parts each ledger of a run has.
@@ -77,16 +77,18 @@ fn join<N: RunId, J, C, R: Wait>(site: &Site<'_, N, J, C, R>) -> Result<Pass, Jo
     held.join(SlotId::new(0))
 }
 
-/// A session of the worker over a link that gives one job of `reverse`, and then ends.
+/// A session of the worker: how it ended, and what became of its jobs.
 fn session<N: RunId, J: JobSource, C: Watch, R: Wait>(
     site: &Site<'_, N, J, C, R>,
     papers: Papers<N>,
-) -> Result<SessionEnd, AllocError>
-    requires { papers.worker.pass.slot < slots site.now.run.settings.now }
+    link: &mut Script,
+) -> (SessionEnd, JobCounts)
+    requires slot { papers.worker.pass.slot < slots site.now.run.settings.now }
+    requires input { link.old.take_failures ≡ 0 }
+    requires output { link.old.give_failures ≡ 0 }
 {
-    let mut link = Script::new(site.lent.alloc);
-    link.piece(ASSIGN)?;
-    Ok(run_worker(site, &mut link, papers).end)
+    let returned = run_worker(site, link, papers);
+    (returned.end, returned.jobs)
 }
 
 /// A session of the first slot's worker, who joins the pool.
@@ -96,11 +98,14 @@ fn serve_over<'e, N: RunId, J: JobSource, C: Watch, R: Wait>(
     run: RunBoard<'e, N>,
     place: Place<N>,
     shares: (Share<Grabs<N>>, Share<Reports<N>>),
-) -> Result<SessionEnd, Fail>
+    link: &mut Script,
+) -> Result<(SessionEnd, JobCounts), Fail>
     requires slot { 0 < slots run.settings.now }
     requires place { place.seat.slot ≡ 0 }
     requires grabbed { (shares.0.parts ≡ 1) × (shares.0.amount ≡ 0) }
     requires reported { (shares.1.parts ≡ 1) × (shares.1.amount ≡ 0) }
+    requires input { link.old.take_failures ≡ 0 }
+    requires output { link.old.give_failures ≡ 0 }
 {
     let site = Site { lent, shared, run };
     let (grabbed, reported) = shares;
@@ -112,22 +117,35 @@ fn serve_over<'e, N: RunId, J: JobSource, C: Watch, R: Wait>(
         grabbed,
         reported,
     };
-    Ok(session(&site, papers)?)
+    Ok(session(&site, papers, link))
 }
 
-/// The session of a run's worker, which is ordered to do `reverse`: how it ended, and the pool then.
+/// What a session came to.
+#[derive(Drop)]
+pub struct Done {
+    /// How it ended.
+    pub end: SessionEnd,
+    /// What became of its jobs.
+    pub jobs: JobCounts,
+    /// The pool then.
+    pub pool: Pool,
+}
+
+/// The session of a run's worker, which is ordered to do `reverse`.
 fn serve<'e, N: RunId, J: JobSource, C: Watch, R: Wait>(
     lent: Lent<'e, J, C, R>,
     settings: &'e Settings,
     made: Made,
-    grabbed: Blank,
-    reported: Blank,
-) -> Result<(SessionEnd, Pool), Fail>
+    books: (Blank, Blank),
+    link: &mut Script,
+) -> Result<Done, Fail>
     requires board { made.board.id ≡ N.board }
     requires settings { (settings.now ≡ N.settings) × (made.pool.settings ≡ N.settings) }
-    requires grabbed { (grabbed.name ≡ N.grabs) × (grabbed.parts ≡ 2 ^ 40) }
-    requires reported { (reported.name ≡ N.reports) × (reported.parts ≡ 2 ^ 40) }
+    requires grabbed { (books.0.name ≡ N.grabs) × (books.0.parts ≡ 2 ^ 40) }
+    requires reported { (books.1.name ≡ N.reports) × (books.1.parts ≡ 2 ^ 40) }
     requires rounds { made.rounds ≡ N.rounds }
+    requires input { link.old.take_failures ≡ 0 }
+    requires output { link.old.give_failures ≡ 0 }
 {
     let Made {
         pool,
@@ -139,6 +157,7 @@ fn serve<'e, N: RunId, J: JobSource, C: Watch, R: Wait>(
     if settings.slots() == 0 {
         return Err(Fail::from("there is no slot"));
     }
+    let (grabbed, reported) = books;
     let (shared, (mut grabs, mut reports), _told) = Shared::<Grabs<N>, Reports<N>>::new(
         pool, grabbed, reported, rounds,
     );
@@ -160,8 +179,9 @@ fn serve<'e, N: RunId, J: JobSource, C: Watch, R: Wait>(
         of: PhantomData,
     };
     let shares = (grabs.split_off(1, 0), reports.split_off(1, 0));
-    let end = serve_over(lent, &shared, run, place, shares)?;
-    Ok((end, shared.into_pool()))
+    let (end, jobs) = serve_over(lent, &shared, run, place, shares, link)?;
+    let pool = shared.into_pool();
+    Ok(Done { end, jobs, pool })
 }
 
 /// Whether it is the first worker of the slot.
@@ -216,14 +236,19 @@ fn are_booked(events: &[Event], kind: EndKind) -> bool {
         && is_loss(&events[4])
 }
 
-/// The session of a run with these jobs: how it ended, and the pool then.
-fn book<J: NamedJobs + Sync, C: Watch, R: Wait>(
+/// The session of a run with these jobs, whose worker is of the first slot of the settings and does their first function.
+pub fn book<J: NamedJobs + Sync, C: Watch, R: Wait>(
     rt: &R,
     alloc: Global,
     watch: &C,
     jobs: &J,
-) -> Result<(SessionEnd, Pool), Fail> {
-    let settings = Settings::read(alloc, ONE.as_bytes())?;
+    settings: &str,
+    link: &mut Script,
+) -> Result<Done, Fail>
+    requires input { link.old.take_failures ≡ 0 }
+    requires output { link.old.give_failures ≡ 0 }
+{
+    let settings = Settings::read(alloc, settings.as_bytes())?;
     let made = make(alloc, &settings)?;
     let lent = Lent {
         rt,
@@ -232,10 +257,10 @@ fn book<J: NamedJobs + Sync, C: Watch, R: Wait>(
         jobs: &jobs,
     };
     let (grabbed, reported) = (Blank::new(PARTS), Blank::new(PARTS));
-    serve::<Brand, &J, C, R>(lent, &settings, made, grabbed, reported)
+    serve::<Brand, &J, C, R>(lent, &settings, made, (grabbed, reported), link)
 }
 
-/// The pool has the job as the server gave it, and its end as the session wrote it with these jobs.
+/// The link gives one job of `reverse`, and then ends: the pool has the job as the server gave it, and its end as the session wrote it.
 fn expect_booked<J: NamedJobs + Sync, C: Watch, R: Wait + Abort>(
     rt: &R,
     alloc: Global,
@@ -243,7 +268,9 @@ fn expect_booked<J: NamedJobs + Sync, C: Watch, R: Wait + Abort>(
     jobs: &J,
     kind: EndKind,
 ) -> Result<(), Fail> {
-    let (end, pool) = book(rt, alloc, watch, jobs)?;
+    let mut link = Script::new(alloc);
+    link.piece(ASSIGN)?;
+    let Done { end, jobs: _, pool } = book(rt, alloc, watch, jobs, ONE, &mut link)?;
     assert_eq!(rt; (end.grabbed, end.answered, end.reported), (1, 1, 1));
     assert!(rt; are_booked(pool.history(), kind));
     Ok(())

@@ -13,3 +13,6 @@ mod scenario;
 mod server;
 #[cfg(test)]
 mod tally;
+mod unreached;
+#[cfg(test)]
+mod unreached_runs;

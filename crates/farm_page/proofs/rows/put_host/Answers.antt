@@ -1,11 +1,11 @@
 use Rattle.std.proofs.Common.{List, ℕ, ◌++◌, ◌∙◌, ap, string_bytes}
 use Rattle.std.specs.Prelude.{codes}
 use Rattle.std.proofs.lemmas.Result.{on_ok_weaker}
-use Rattle.farm_page.specs.Metric.{host_value}
+use Rattle.farm_page.specs.Measured.{host_value}
 use Rattle.farm_page.specs.Rows.{bar_if, cell, cell_if, reached_cell, row_name}
 use Rattle.farm_page.specs.declared.cells.Gap.TheVariants.{Unknown}
 use Rattle.farm_page.specs.declared.cells.Mark.TheVariants.{Plain}
-use Rattle.farm_page.specs.declared.metric.Metric.TheVariants.{HostAlive}
+use Rattle.farm_page.specs.declared.measured.HostNumber.TheVariants.{Alive}
 use Rattle.farm_page.proofs.Walks.{after}
 use Rattle.farm_page.proofs.rows.put_host.Goals as goal
 
@@ -13,7 +13,7 @@ pub returns : goal.returns
 returns c =
     let old = c.args.out.now in
     let t0 : List ℕ = row_name (string_bytes c.args.host.now.name) in
-    let t1 : List ℕ = cell_if (host_value c.args.host.now HostAlive) Unknown in
+    let t1 : List ℕ = cell_if (host_value c.args.host.now Alive) Unknown in
     let t2 : List ℕ = cell Plain c.args.host.now.all in
     let t3 : List ℕ = bar_if c.args.host.now.alive c.args.host.now.all c.args.host.now.all in
     let t4 : List ℕ = reached_cell c.args.host.now in

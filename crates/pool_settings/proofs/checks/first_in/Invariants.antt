@@ -2,7 +2,7 @@ use Rattle.std.proofs.Common.{◌≡◌, Option}
 use Rattle.pool_settings.specs.Entries.{AnswersAs, entries_if, entries_view}
 use Rattle.pool_settings.specs.Place.{first_in}
 use Rattle.pool_settings.specs.Reading.{Where}
-use Rattle.pool_settings.specs.Tree.{Entry}
+use Rattle.file_keys.specs.Tree.{Entry}
 use Rattle.pool_settings.proofs.checks.first_in.Given as goal
 
 -- what is left decides

@@ -3,7 +3,7 @@ use Rattle.std.specs.List.{filter_map, find}
 use Rattle.toml.specs.Data.{as_str}
 use Rattle.toml.specs.View.{items_view, table_view}
 use Rattle.pool_settings.specs.Reading.{is_function_of}
-use Rattle.pool_settings.specs.Tree.{values_of}
+use Rattle.file_keys.specs.Tree.{values_of}
 use Rattle.pool_settings.proofs.limits.no_function.Given as goal
 
 -- what is left decides

@@ -1,12 +1,13 @@
 use Rattle.std.proofs.Common.{rules, ◌≡◌, ◌≤◌, ℕ, List, length, subst, sym, ap, ◌∙◌, arith}
-use Rattle.std.specs.Prelude.{map, string_bytes, sum}
+use Rattle.std.specs.Prelude.{map, slice_index, string_bytes, sum}
 use Rattle.std.proofs.lemmas.List.{length-map}
 use Rattle.toml.specs.View.{table_view}
+use Rattle.pool_settings.specs.declared.keys.TheConstants.{HISTORY_PLACE, JOB_TIMEOUT_PLACE, LULL_PLACE, MAX_RUNS_PLACE, ROUND_PLACE}
 use Rattle.pool_settings.specs.Entries.{table_entries}
 use Rattle.pool_settings.specs.Names.{IsInByteOrder}
 use Rattle.pool_settings.specs.Settings.{Settings}
 use Rattle.pool_settings.specs.Reading as spec
-use Rattle.pool_settings.specs.Tree.{Entry, entries_at}
+use Rattle.file_keys.specs.Tree.{Entry, entries_at}
 use Rattle.pool_settings.proofs.Passing.{AreSettings-settings_of, keeps, passes, room_of}
 use Rattle.pool_settings.proofs.settings.settings_of.Goals as goal
 
@@ -35,12 +36,12 @@ new-requires-clause-machines c =
     omega (arith, many, room.machines)
 
 -- a function that has none may have all workers
-abbrev MostRead : goal.After-unwrap_or-6 → Type 0
+abbrev MostRead : goal.After-numbers_in → Type 0
 MostRead c =
     let tree = table_view c.args.tree.now in
     c.in_ok-most.most.items ≡ spec.column_of spec.most_key (sum (spec.workers_in tree)) (entries_at spec.functions_key tree)
 
-most_read : (c : goal.After-unwrap_or-6) → MostRead c
+most_read : (c : goal.After-numbers_in) → MostRead c
 most_read c =
     let tree = table_view c.args.tree.now in
     let workers : c.in_ok-workers.workers.items ≡ spec.workers_in tree = c.in_ok-workers.ensures ∙ ap (spec.column_of spec.workers_key 0) c.requires.tables.1 in
@@ -49,14 +50,14 @@ most_read c =
     ∙ ap (spec.column_of spec.most_key (sum (spec.workers_in tree))) c.requires.tables.0
 
 -- what is made
-abbrev made : goal.After-unwrap_or-6 → Settings
+abbrev made : goal.After-numbers_in → Settings
 made c = record {
   server = string_bytes c.in_ok-server.server;
-  job_timeout_ms = c.unwrap_or-2.result;
-  max_runs = c.unwrap_or-3.result;
-  round_ms = c.unwrap_or-4.result;
-  lull_ms = c.unwrap_or-5.result;
-  history = c.unwrap_or-6.result;
+  job_timeout_ms = slice_index c.numbers_in.result JOB_TIMEOUT_PLACE;
+  max_runs = slice_index c.numbers_in.result MAX_RUNS_PLACE;
+  round_ms = slice_index c.numbers_in.result ROUND_PLACE;
+  lull_ms = slice_index c.numbers_in.result LULL_PLACE;
+  history = slice_index c.numbers_in.result HISTORY_PLACE;
   functions = c.in_ok-functions.functions;
   least = c.in_ok-least.least.items;
   most = c.in_ok-most.most.items;
@@ -65,7 +66,7 @@ made c = record {
   may = map (λ row. row.items) c.in_ok-may.may.items;
 }
 
-is_meant : (c : goal.After-unwrap_or-6) → made c ≡ spec.settings_of (table_view c.args.tree.now)
+is_meant : (c : goal.After-numbers_in) → made c ≡ spec.settings_of (table_view c.args.tree.now)
 is_meant c = search (rules, most_read c)
 
 pub invariant_of-result : goal.invariant_of-result

@@ -1,7 +1,7 @@
 use Rattle.std.proofs.Common.{◌≡◌, Option}
 use Rattle.pool_settings.specs.Entries.{entries_if, entries_view}
 use Rattle.pool_settings.specs.Place.{first_in}
-use Rattle.pool_settings.specs.Tree.{Entry}
+use Rattle.file_keys.specs.Tree.{Entry}
 use Rattle.service_settings.specs.Entries.{AnswersAs}
 use Rattle.service_settings.specs.Reading.{Where}
 use Rattle.service_settings.proofs.checks.first_in.Given as goal

@@ -2,7 +2,7 @@ use Rattle.std.proofs.Common.{◌≡◌, ◌++◌, drop, map, string_bytes}
 use Rattle.std.specs.List.{filter_map}
 use Rattle.toml.specs.Data.{as_str}
 use Rattle.toml.specs.View.{items_view}
-use Rattle.pool_settings.specs.Tree.{values_of}
+use Rattle.file_keys.specs.Tree.{values_of}
 use Rattle.service_settings.proofs.page.texts_of.Given as goal
 
 -- what is done, and what is left

@@ -1,9 +1,7 @@
-use Rattle.std.specs.Prelude.{◌≡◌, ◌⊎◌}
-use Rattle.pool_core.specs.declared.error.AdoptError.TheVariants as adopt
-use Rattle.pool_supervisor.specs.Steps.{IsNotAdopted}
+use Rattle.std.specs.Prelude.{◌≡◌}
 use Rattle.pool_supervisor.proofs.attempts.Supervisor.plan_round.Given as goal
 
 abbrev pub invariant-loop-turn : goal.invariant-loop-turn
 invariant-loop-turn g l =
     (l.self.seats.publisher ≡ l.initial.self.seats.publisher) × (l.self.rounds ≡ l.initial.self.rounds) × (l.self.dial ≡ l.initial.self.dial)
-    × (l.self.crew ≡ l.initial.self.crew) × ((l._turn ≡ 0) ⊎ IsNotAdopted g.N.RunId.settings adopt.Stale)
+    × (l.self.crew ≡ l.initial.self.crew)

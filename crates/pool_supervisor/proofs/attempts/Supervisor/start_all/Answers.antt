@@ -4,7 +4,7 @@ use Rattle.pool_supervisor.proofs.Tries.{no_slots, one_slot_more}
 use Rattle.pool_supervisor.proofs.attempts.Supervisor.start_all.Goals as goal
 
 pub loop-number-init : goal.loop-number-init
-loop-number-init g c = (refl, refl, refl, no_slots g.N.RunId.settings g.N.RunId.allows (g.Y.Dial.calls c.args.self.now.dial))
+loop-number-init g c = (refl, refl, refl, no_slots g.N.RunId.allows (g.Y.Dial.calls c.args.self.now.dial))
 
 pub loop-number-preserved : goal.loop-number-preserved
 loop-number-preserved g c =
@@ -14,6 +14,6 @@ loop-number-preserved g c =
       c.start_one.ensures.posts ∙ c.loop-number.invariant.0,
       c.start_one.ensures.rounds ∙ c.loop-number.invariant.1,
       c.start_one.ensures.counts ∙ c.loop-number.invariant.2,
-      one_slot_more g.N.RunId.settings g.N.RunId.allows c.loop-number.number before between now c.loop-number.invariant.3
-          (subst (λ (k : ℕ). FillsOne g.N.RunId.settings g.N.RunId.allows k between now) c.new.ensures c.start_one.ensures.fills),
+      one_slot_more g.N.RunId.allows c.loop-number.number before between now c.loop-number.invariant.3
+          (subst (λ (k : ℕ). FillsOne g.N.RunId.allows k between now) c.new.ensures c.start_one.ensures.fills),
     )

@@ -5,4 +5,4 @@ use Rattle.pool_supervisor.proofs.attempts.Supervisor.start_all.Given as goal
 abbrev pub invariant-loop-number : goal.invariant-loop-number
 invariant-loop-number g l =
     (l.self.seats.publisher ≡ l.initial.self.seats.publisher) × (l.self.rounds ≡ l.initial.self.rounds) × (l.self.crew.counts ≡ l.initial.self.crew.counts)
-    × Fills g.N.RunId.settings g.N.RunId.allows l.number (g.Y.Dial.calls l.initial.self.dial) (g.Y.Dial.calls l.self.dial)
+    × Fills g.N.RunId.allows l.number (g.Y.Dial.calls l.initial.self.dial) (g.Y.Dial.calls l.self.dial)

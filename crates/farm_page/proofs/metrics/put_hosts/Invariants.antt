@@ -1,9 +1,0 @@
-use Rattle.std.proofs.Common.{◌≡◌, ◌++◌, drop}
-use Rattle.std.specs.List.{flat_map}
-use Rattle.farm_page.specs.Metrics.{host_family}
-use Rattle.farm_page.proofs.metrics.put_hosts.Given as goal
-
--- what is written, and what is left to write
-abbrev pub invariant-loop-metric : goal.invariant-loop-metric
-invariant-loop-metric l =
-    l.out.items ++ flat_map (host_family l.hosts) (drop l.metric-index l.metrics) ≡ l.fn.out.items ++ flat_map (host_family l.hosts) l.metrics

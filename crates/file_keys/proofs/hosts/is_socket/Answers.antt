@@ -1,0 +1,6 @@
+use Rattle.std.proofs.Common.{◌∙◌}
+use Rattle.file_keys.proofs.Addresses.{socket_parsed}
+use Rattle.file_keys.proofs.hosts.is_socket.Goals as goal
+
+pub returns : goal.returns
+returns c = c.is_ok.ensures.value ∙ socket_parsed c.args.text.now c.parse_ascii.result c.parse_ascii.ensures

@@ -1,0 +1,11 @@
+use Rattle.std.proofs.Common.{◌≡◌, drop}
+use Rattle.std.specs.List.{list_all}
+use Rattle.toml.specs.View.{items_view}
+use Rattle.file_keys.specs.Tree.{values_of}
+use Rattle.file_keys.specs.Keys.{is_host_text}
+use Rattle.file_keys.proofs.values.are_hosts.Given as goal
+
+-- what is left decides
+abbrev pub invariant-loop-value : goal.invariant-loop-value
+invariant-loop-value l =
+    list_all is_host_text (values_of (items_view (drop l.value-index l.values.items))) ≡ list_all is_host_text (values_of (items_view l.values.items))

@@ -1,6 +1,0 @@
-use Rattle.std.proofs.Common.{◌∙◌}
-use Rattle.service_settings.proofs.Addresses.{socket_parsed}
-use Rattle.service_settings.proofs.url_parts.is_socket.Goals as goal
-
-pub returns : goal.returns
-returns c = c.is_ok.ensures.value ∙ socket_parsed c.args.text.now c.parse_ascii.result c.parse_ascii.ensures

@@ -1,0 +1,3 @@
+//! Worked sessions, byte for byte.
+
+mod rows;
