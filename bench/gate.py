@@ -1,12 +1,15 @@
 #!/usr/bin/env python3
 """Processor minutes of the gate by crate: bench/gate.py [COMMAND ..]
 
-Runs the command, `bash .ci/run` where none is given, and looks twice a second at the processes that it started. Prints, for
-each crate that the kit worked on, the processor minutes of its proof, of its tests and of its must-fail edits. What a process
-used in its last half second is not seen, so the figures are a little low. Exits as the command did.
+Runs the command, `bash .ci/run` if none is given, and looks twice a second at the processes that it started. Prints, for
+each crate that the kit worked on, the processor minutes of its proof, of its tests and of its must-fail edits; then the longest
+chain of crates, each of which stands on the one before it, by the minutes of their proofs; and the minutes by the clock, with the
+processors and the most memory that was in use beyond what was before. What a process used in its last half second is not seen, so
+the figures are a little low. Exits as the command did.
 """
 import collections
 import os
+import pathlib
 import re
 import subprocess
 import sys
@@ -56,13 +59,20 @@ def work_of(number):
     return (crate, "tests" if "--test" in words else "proof")
 
 
+def memory_in_use():
+    """The bytes of memory that are not free for a new process."""
+    with open("/proc/meminfo") as lines:
+        found = {line.split(":")[0]: int(line.split()[1]) * 1024 for line in lines}
+    return found["MemTotal"] - found["MemAvailable"]
+
+
 def measure(command):
-    """The exit status of the command, its seconds by the clock, and processor seconds by process and its work."""
+    """The exit status of the command, its seconds by the clock, the most memory, and processor seconds by process and its work."""
     used, works = {}, {}
-    start = time.monotonic()
+    start, before, most = time.monotonic(), memory_in_use(), 0
     running = subprocess.Popen(command, stdin=subprocess.DEVNULL)
     while running.poll() is None:
-        found = processes()
+        found, most = processes(), max(most, memory_in_use() - before)
         for number in descendants(found, running.pid):
             if number not in found:
                 continue
@@ -71,11 +81,28 @@ def measure(command):
                 works[key] = work_of(number)
             used[key] = found[number][2]
         time.sleep(0.5)
-    return running.returncode, time.monotonic() - start, [(works[key] or ("", "other"), used[key]) for key in used]
+    seconds = [(works[key] or ("", "other"), used[key]) for key in used]
+    return running.returncode, time.monotonic() - start, most, seconds
+
+
+def longest_chain(minutes):
+    """The crates of the longest chain, lowest first, by these minutes of each crate, and their sum."""
+    top = pathlib.Path(__file__).resolve().parent.parent
+    rows = [line.partition("#")[0].partition(":") for line in (top / "crates.txt").read_text().splitlines()]
+    below = {head.split()[0]: libraries.split() for head, _, libraries in rows if head.strip()}
+    chains = {}
+
+    def chain(crate):
+        if crate not in chains:
+            under = max((chain(it) for it in below[crate] if it in below), key=lambda it: it[1], default=((), 0.0))
+            chains[crate] = ((*under[0], crate), under[1] + minutes.get(crate, 0.0))
+        return chains[crate]
+
+    return max((chain(crate) for crate in below), key=lambda it: it[1])
 
 
 def main():
-    status, clock, measured = measure(sys.argv[1:] or ["bash", ".ci/run"])
+    status, clock, most, measured = measure(sys.argv[1:] or ["bash", ".ci/run"])
     table = collections.defaultdict(lambda: collections.Counter())
     for (crate, kind), seconds in measured:
         table[crate or "the rest"][kind] += seconds / 60
@@ -84,8 +111,11 @@ def main():
     for crate, minutes in sorted(table.items(), key=lambda row: -sum(row[1].values())):
         cells = [minutes[kind] for kind in ("proof", "tests", "edits", "other")]
         print(f"| `{crate}` | " + " | ".join(f"{cell:.1f}" for cell in cells + [sum(cells)]) + " |")
+    crates, sum_of_chain = longest_chain({crate: minutes["proof"] for crate, minutes in table.items()})
+    print(f"the longest chain of proofs, {sum_of_chain:.0f} minutes: " + ", ".join(f"{it} {table[it]['proof']:.1f}" for it in crates))
     total = sum(sum(minutes.values()) for minutes in table.values())
-    print(f"{total:.0f} processor minutes in {clock / 60:.0f} minutes by the clock, exit status {status}")
+    print(f"{total:.0f} processor minutes in {clock / 60:.0f} minutes by the clock, on {len(os.sched_getaffinity(0))} processors,"
+          f" with {most / 1e9:.1f} GB at the most, exit status {status}")
     sys.exit(status)
 
 

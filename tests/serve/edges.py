@@ -23,10 +23,11 @@ import time
 
 sys.dont_write_bytecode = True
 TOP = os.path.join(os.path.dirname(os.path.abspath(__file__)), "../..")
-sys.path.insert(0, f"{TOP}/tests/gearmand")
+sys.path[:0] = [f"{TOP}/tests/gearmand", f"{TOP}/tests/together"]
 
 from farm import HOST, SUBMIT_JOB, TOTALS, Client, at_once, held, request, wait_until
 
+import suite
 from asking import ask_rightly
 from page import PLACES, Page
 from service import POISON
@@ -365,10 +366,8 @@ def while_the_resolver_is_gone(program, processes):
 
 
 def workers_go_on_without_a_resolver(program, processes):
-    """Nobody finds the names of the hosts any more, and all are well: no worker ends for that. It is left out if this system does not let a
-    test have a network of its own."""
-    if can_be_alone():
-        alone(while_the_resolver_is_gone, program, processes)
+    """Nobody finds the names of the hosts any more, and all are well: no worker ends for that."""
+    alone(while_the_resolver_is_gone, program, processes)
 
 
 def raise_loopback():
@@ -386,10 +385,8 @@ def name_loopback(address):
 
 
 def peers_from_elsewhere(program, processes):
-    """A peer whose address is not the one that it calls ends no farm, and takes no place from a peer of this machine. It is left out if this
-    system does not let a test have a network of its own."""
-    if can_be_alone():
-        alone(beside_peers_from_elsewhere, program, processes)
+    """A peer whose address is not the one that it calls ends no farm, and takes no place from a peer of this machine."""
+    alone(beside_peers_from_elsewhere, program, processes)
 
 
 def beside_peers_from_elsewhere(program, processes):
@@ -582,13 +579,32 @@ PARTS = (
 )
 
 
+# These want a network of their own, which not each system lets a test have.
+WANT_A_NETWORK = (workers_go_on_without_a_resolver, peers_from_elsewhere)
+
+
+def try_part(part, program, folder):
+    os.mkdir(f"{folder}/{part.__name__}")
+    with Processes(f"{folder}/{part.__name__}") as processes:
+        part(program, processes)
+
+
 def main(program, folder, *names):
     """The parts of these names, or all."""
-    for part in [globals()[name] for name in names] or PARTS:
-        os.mkdir(f"{folder}/{part.__name__}")
-        with Processes(f"{folder}/{part.__name__}") as processes:
-            part(program, processes)
+    for name in names:
+        try_part(globals()[name], program, folder)
+    if not names:
+        left_out = () if can_be_alone() else WANT_A_NETWORK
+        parts = [part for part in PARTS if part not in left_out]
+        for part in parts:
+            try_part(part, program, folder)
+        for part in left_out:
+            suite.skipped("serve", 1, f"{part.__name__}, a network of its own", "not allowed here")
+        suite.passed("serve", len(parts))
 
 
 if __name__ == "__main__":
-    main(*sys.argv[1:])
+    if sys.argv[1:] == ["count"]:
+        print(len(PARTS))
+    else:
+        main(*sys.argv[1:])

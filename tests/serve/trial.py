@@ -27,11 +27,12 @@ from concurrent.futures import ThreadPoolExecutor
 
 sys.dont_write_bytecode = True
 TOP = os.path.join(os.path.dirname(os.path.abspath(__file__)), "../..")
-sys.path.insert(0, f"{TOP}/tests/gearmand")
+sys.path[:0] = [f"{TOP}/tests/gearmand", f"{TOP}/tests/together"]
 
 from farm import FAILED, HOST, SUBMIT_JOB, TOTALS, Client, at_once, held, request, wait_until
 
 import hosts
+import suite
 from asking import ask_rightly, mixed_jobs, wanted
 from page import Page
 from starting import PATIENCE, Processes, drain, ports, untimed
@@ -424,8 +425,11 @@ def keep_no_freed_memory():
     os.environ.setdefault("GLIBC_TUNABLES", ":".join(f"glibc.malloc.{it}" for it in KEEPS_NOTHING))
 
 
+PARTS = (a_refused_file, a_service_by_signal, a_service_by_drain, a_service_that_is_stopped_twice, a_farm)
+
+
 def main(program, folder, *words):
-    parts = (a_refused_file, a_service_by_signal, a_service_by_drain, a_service_that_is_stopped_twice, a_farm)
+    parts = PARTS
     if words == ("long",):
         keep_no_freed_memory()
         parts = (a_large_farm,)
@@ -433,7 +437,11 @@ def main(program, folder, *words):
         os.mkdir(f"{folder}/{part.__name__}")
         with Processes(f"{folder}/{part.__name__}") as processes:
             part(program, processes)
+    suite.passed("serve", len(parts))
 
 
 if __name__ == "__main__":
-    main(*sys.argv[1:])
+    if sys.argv[1:] == ["count"]:
+        print(len(PARTS))
+    else:
+        main(*sys.argv[1:])
