@@ -32,13 +32,13 @@ def table(kind, name, keys):
 
 class Stage:
     """A farm with these functions (by name their keys) and machines (by name their workers and what these may do), in a folder of its own.
-    `places` has the port of each machine's service. Whatever still runs at the end is killed."""
+    `places` has the port of each machine's service, and `options` are the job server's. Whatever still runs at the end is killed."""
 
-    def __init__(self, program, functions, machines, listen=HOST, **keys):
+    def __init__(self, program, functions, machines, listen=HOST, options=(), **keys):
         self.program, self.functions, self.machines, self.keys = program, functions, machines, keys
         self.folder = tempfile.mkdtemp(prefix="page-")
         self.processes = Processes(self.folder)
-        self.server = Gearmand()
+        self.server = Gearmand(*options)
         page, *places = ports(1 + len(machines))
         self.listen, self.page = f"{listen}:{page}", Page(page, PATIENCE)
         self.places = dict(zip(machines, places))
