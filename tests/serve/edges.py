@@ -14,6 +14,7 @@ import itertools
 import os
 import re
 import resource
+import select
 import socket
 import struct
 import subprocess
@@ -299,8 +300,13 @@ def silent_resolver(processes):
         with open(f"{processes.folder}/resolv.conf", "w") as it:
             it.write(f"nameserver {HOST}\noptions timeout:{LOOKUP_S} attempts:1\n")
         subprocess.run(["mount", "--bind", it.name, "/etc/resolv.conf"], check=True)
-        yield
+        yield resolver
         held(resolver.recv(512), "no name was looked up")
+
+
+def was_asked(resolver):
+    """Whether a name was looked up that nobody has answered."""
+    return bool(select.select([resolver], [], [], 0)[0])
 
 
 def with_a_silent_resolver(program, processes):
@@ -343,14 +349,15 @@ def while_the_resolver_is_gone(program, processes):
         return it.name
 
     subprocess.run(["mount", "--bind", name(["localhost", server, *named.values()]), "/etc/hosts"], check=True)
-    with silent_resolver(processes):
+    with silent_resolver(processes) as resolver:
         edge = Edge(program, processes, named=named)
         edge.write("settings", settings(edge.server, (), host=server))
         edge.start()
         wait_until(edge.has_all_workers, PATIENCE, "all workers are there")
         name(["localhost"])
-        # Each host is looked at several times, and each look takes as long as a look-up.
+        # Each host is looked at several times, where it was reached last.
         edge.keeps_pace_while(lambda: time.sleep(3 * LOOKUP_S))
+        held(not was_asked(resolver), "a look asks for the name of a host that is there")
         edge.holds_no_good_host_unreached()
         held(not edge.causes(), f"workers of hosts that are well ended so: {edge.causes()}")
         held(edge.is_well(), "the job server is not reached any more")

@@ -1,6 +1,6 @@
 -- When a host is left alone.
 use Rattle.std.specs.Prelude.{ℕ, ◌+◌, ◌-◌, ◌^◌, min, Bool, true, false, ◌||◌, ◌&&◌, ◌==◌, if◌then◌else◌, List, [], ◌∷◌, length}
-use Rattle.std.specs.Prelude.{nat_eq, nat_le, nat_lt}
+use Rattle.std.specs.Prelude.{◌≡◌, ◌≤◌, ◌*◌, ◌/◌, ⊤, IfSome, max, nat_eq, nat_le, nat_lt}
 use Rattle.std.specs.Prelude.{Option, Some, None, Result, Ok, Err}
 use Rattle.std.specs.Cmp.Lexicographic.{pointwise}
 use Rattle.std.specs.List.{list_any}
@@ -17,6 +17,7 @@ use Rattle.farm_hosts.specs.declared.host_sign.HostSign.TheVariants as sign
 use Rattle.farm_hosts.specs.declared.host_state.BeforeJob.{BeforeJob}
 use Rattle.farm_hosts.specs.declared.host_state.BeforeJob.TheVariants.{Ask, Dial, Look, End}
 use Rattle.farm_hosts.specs.declared.host_entry.HostEntry.{HostEntry}
+use Rattle.farm_hosts.specs.declared.host_state.Absence.{Absence}
 use Rattle.farm_hosts.specs.declared.host_state.HostState.{HostState}
 use Rattle.farm_hosts.specs.declared.host_state.HostState.TheVariants as state
 use Rattle.farm_hosts.specs.declared.left_jobs.LeftJobs.{LeftJobs}
@@ -69,6 +70,59 @@ before_job (Some Unreachable) is_trier has_to_look = Dial
 before_job (Some Unserved) is_trier has_to_look = if is_trier then asking has_to_look else End
 before_job None is_trier has_to_look = asking has_to_look
 
+-- how many of its workers may start in an attempt, if it is not left alone
+abbrev pub starts_of : HostState → Option ℕ
+starts_of (state.Present presence) = Some presence.starts
+starts_of (state.Away absence) = None
+
+-- How many attempts pass at most before a host that takes no connection is dialled again, if so many milliseconds pass between two: those
+-- of 10 seconds, 64 at most, and 1 at least.
+abbrev pub longest_unreached : ℕ → ℕ
+longest_unreached round_ms = min (max (10000 / max round_ms 1) 1) 64
+
+-- How many attempts pass at most between two tries, by why the host is left alone, if one that takes no connection may wait for so many.
+abbrev pub longest_wait : Reason → ℕ → ℕ
+longest_wait Unreachable longest = longest
+longest_wait Unserved longest = 8
+
+-- how many attempts pass before it is tried, once it is left alone, or before the try after the next
+abbrev pub wait_of : HostState → ℕ
+wait_of (state.Present presence) = presence.wait
+wait_of (state.Away absence) = absence.wait
+
+-- this is so of it, if it is left alone
+abbrev pub IfAway : HostState → (Absence → Type 0) → Type 0
+IfAway (state.Present presence) Holds = ⊤
+IfAway (state.Away absence) Holds = Holds absence
+
+-- If a worker that joins in this attempt comes to try it, the next try comes after a wait that is twice as long, up to the longest one.
+abbrev pub IsTriedIn : ℕ → ℕ → Absence → Absence → Type 0
+IsTriedIn attempt longest before after = before.due ≤ attempt
+    → (after.wait ≡ min (before.wait * 2) (longest_wait before.why longest)) × (after.due ≡ min (attempt + after.wait) (2 ^ 64 - 1))
+
+-- the attempt from which on it is tried, whoever tries it now, if it is left alone
+abbrev pub due_of : HostState → Option ℕ
+due_of (state.Present presence) = None
+due_of (state.Away absence) = Some absence.due
+
+-- so many attempts more pass before another worker may come, by the one that tries it
+abbrev pub wait_beside : Option WorkerName → ℕ
+wait_beside (Some worker) = 64
+wait_beside None = 0
+
+-- from which attempt on one worker may start to try it
+abbrev pub next_try : Absence → ℕ
+next_try absence = min (absence.due + wait_beside absence.trier) (2 ^ 64 - 1)
+
+-- the same, if it is left alone
+abbrev pub try_of : HostState → Option ℕ
+try_of (state.Present presence) = None
+try_of (state.Away absence) = Some (next_try absence)
+
+-- if it is left alone, one worker may try it in this attempt, or could before
+abbrev pub MayBeTriedFrom : ℕ → HostState → Type 0
+MayBeTriedFrom attempt host = IfSome (try_of host) (λ due. due ≤ attempt)
+
 -- it is left alone, and from this attempt on one worker may try it
 abbrev pub is_due : HostState → ℕ → Bool
 is_due (state.Present presence) attempt = false
@@ -94,8 +148,21 @@ abbrev pub after_opening : Option Reason → Option Reason
 after_opening (Some Unreachable) = None
 after_opening before = before
 
--- The same after a dial, by what it was before. A dial that failed marks the host, if it did not fail for what was lacked here. One that
--- succeeded frees a host that was left alone since it was not reached, and no other.
+-- How many of its workers may start in an attempt once a connection was opened, by why it was left alone before and how many could start.
+-- One that is back may have been started just now, so 2 do at first.
+abbrev pub starts_after_opening : Option Reason → Option ℕ → Option ℕ
+starts_after_opening (Some Unreachable) starts = Some 2
+starts_after_opening (Some Unserved) starts = None
+starts_after_opening None starts = starts
+
+-- The same after it served a job.
+abbrev pub starts_after_served : Option Reason → Option ℕ → Option ℕ
+starts_after_served (Some Unreachable) starts = None
+starts_after_served (Some Unserved) starts = Some 2
+starts_after_served None starts = starts
+
+-- Why it is left alone after a dial, by what it was before. A dial that failed marks the host, if it did not fail for what was lacked here.
+-- One that succeeded frees a host that was left alone since it was not reached, and no other.
 abbrev pub after_dial : Option Reason → Result (Unit {0}) DialError → Option Reason
 after_dial before (Err why) = if is_local why then before else Some Unreachable
 after_dial before (Ok _) = after_opening before

@@ -1,6 +1,8 @@
 //! A host of a farm: how it is, and what is new of it.
 
-ghost use Rattle.std.specs.Prelude.{◌≡◌, ◌↔◌, Bool, None, Some, true};
+ghost use Rattle.std.specs.Prelude.{◌≡◌, ◌↔◌, ◌+◌, ◌-◌, ◌*◌, ◌^◌, ◌<◌, Bool, IfErr, IfOk, IfSome, None, Some, false, max, min};
+ghost use Rattle.std.specs.Prelude.{nat_lt, true};
+ghost use Rattle.std.specs.Option.{option_map};
 ghost use Rattle.farm_hosts.specs.Hosts as spec;
 
 use crate::host_state::{BeforeJob, HostState, Presence, Reason};
@@ -57,36 +59,90 @@ pub struct HostEntry {
     pub busy: u32,
     /// How many workers came to try it.
     pub tries: u64,
+    /// How many of its workers joined in this attempt.
+    pub joined: u32,
+    /// How many of its workers are alive.
+    pub alive: u32,
+    /// How many attempts pass at most before it is dialled again if it takes no connection.
+    pub longest_unreached: u64,
 }
 
 impl HostEntry {
-    /// One of which nothing is known.
-    pub fn new() -> HostEntry {
+    /// One of which nothing is known, and which is dialled again after so many attempts at most if it takes no connection.
+    pub fn new(longest_unreached: u64) -> HostEntry
+        ensures state { spec.starts_of result.state ≡ Some 4096 }
+        ensures longest { result.longest_unreached ≡ longest_unreached }
+    {
         HostEntry {
             state: HostState::Present(Presence::new()),
             left: LeftJobs::Nothing,
             heard: 1,
             busy: 0,
             tries: 0,
+            joined: 0,
+            alive: 0,
+            longest_unreached,
         }
     }
 
-    /// Whether a worker of this slot may start in this attempt. Tries go round the slots, since each can have only so many workers. If the
-    /// slot whose turn it is has a worker, any may have the try an attempt later.
-    pub fn may_start(&self, slot: MachineSlot, attempt: u64) -> bool {
-        let Some(due) = self.state.next_try() else {
-            return true;
-        };
-        let turn = self.tries.checked_rem(slot.of as u64);
-        due < attempt || (due == attempt && turn == Some(slot.number as u64))
+    /// Whether a worker of this slot may start in this attempt. If the host is left alone, tries go round the slots, since each can have
+    /// only so many workers. If the slot whose turn it is has a worker, any may have the try an attempt later. Else as many may start as
+    /// its state says, or as were alive before this attempt: what a host lost that was gone for a moment comes back at once.
+    pub fn may_start(&self, slot: MachineSlot, attempt: u64) -> bool
+        ensures present { IfSome (spec.starts_of self.now.state)
+            (λ starts. result ≡ nat_lt self.now.joined (max starts (self.now.alive - self.now.joined))) }
+        ensures alone { IfSome (spec.try_of self.now.state) (λ due. attempt < due → result ≡ false) }
+        ensures tried { IfSome (spec.try_of self.now.state) (λ due. due < attempt → result ≡ true) }
+    {
+        match self.state {
+            HostState::Present(presence) => {
+                let before = self.alive.saturating_sub(self.joined);
+                self.joined < presence.starts.max(before)
+            }
+            HostState::Away(absence) => {
+                let due = absence.next_try();
+                let turn = self.tries.checked_rem(slot.of as u64);
+                let is_turn = turn == Some(slot.number as u64);
+                due < attempt || (due == attempt && is_turn)
+            }
+        }
+    }
+
+    /// The next attempt begins.
+    pub fn begin_attempt(&mut self)
+        ensures joined { self.new.joined ≡ 0 }
+        ensures reason { spec.reason_of self.new.state ≡ spec.reason_of self.old.state }
+        ensures tries { spec.try_of self.new.state ≡ spec.try_of self.old.state }
+        ensures starts { spec.starts_of self.new.state ≡ option_map (λ starts. min (starts * 2) 4096) (spec.starts_of self.old.state) }
+    {
+        self.joined = 0;
+        self.state = self.state.after_attempt();
     }
 
     /// After a worker joined in this attempt.
-    pub fn note_join(&mut self, attempt: u64) {
+    pub fn note_join(&mut self, attempt: u64)
+        ensures joined { self.new.joined ≡ min (self.old.joined + 1) (2 ^ 32 - 1) }
+        ensures alive { self.new.alive ≡ min (self.old.alive + 1) (2 ^ 32 - 1) }
+        ensures reason { spec.reason_of self.new.state ≡ spec.reason_of self.old.state }
+        ensures tries { spec.IfAway self.old.state (λ before.
+            spec.IfAway self.new.state (spec.IsTriedIn attempt self.old.longest_unreached before)) }
+    {
         if self.state.is_tried_in(attempt) {
             self.tries = self.tries.saturating_add(1);
         }
-        self.state = self.state.after_join(attempt);
+        self.joined = self.joined.saturating_add(1);
+        self.alive = self.alive.saturating_add(1);
+        self.state = self.state.after_join(attempt, self.longest_unreached);
+    }
+
+    /// After a worker ended.
+    pub fn note_end(&mut self, worker: WorkerName)
+        ensures alive { self.new.alive ≡ self.old.alive - 1 }
+        ensures reason { spec.reason_of self.new.state ≡ spec.reason_of self.old.state }
+        ensures goes { spec.trier_of self.old.state ≡ Some worker → spec.trier_of self.new.state ≡ None }
+    {
+        self.alive = self.alive.saturating_sub(1);
+        self.state = self.state.after_end(worker);
     }
 
     /// Whether it has no job to do and takes no look, and for four attempts was not heard of. A host that has a job to do is not silent: a
@@ -134,10 +190,16 @@ impl HostEntry {
 
     /// After a connection was opened, or could not be. What is new of it.
     pub fn note_dial(&mut self, dialled: Result<(), DialError>, attempt: u64) -> Option<HostNews>
-        ensures { spec.reason_of self.new.state ≡ spec.after_dial (spec.reason_of self.old.state) dialled }
+        ensures marks { spec.reason_of self.new.state ≡ spec.after_dial (spec.reason_of self.old.state) dialled }
+        ensures starts { IfOk dialled (λ _. spec.starts_of self.new.state
+            ≡ spec.starts_after_opening (spec.reason_of self.old.state) (spec.starts_of self.old.state)) }
+        ensures soon { IfErr dialled (λ why. spec.is_local why ≡ false
+            → spec.MayBeTriedFrom (attempt + self.old.longest_unreached) self.new.state) }
     {
         let before = self.state.reason();
-        self.state = self.state.after_dial(dialled, attempt);
+        self.state = self
+            .state
+            .after_dial(dialled, attempt, self.longest_unreached);
         if dialled.is_ok() {
             self.heard = attempt;
         }
@@ -146,7 +208,9 @@ impl HostEntry {
 
     /// After it served a job. What is new of it.
     pub fn note_served(&mut self, attempt: u64) -> Option<HostNews>
-        ensures { spec.reason_of self.new.state ≡ spec.after_served (spec.reason_of self.old.state) }
+        ensures reason { spec.reason_of self.new.state ≡ spec.after_served (spec.reason_of self.old.state) }
+        ensures starts { spec.starts_of self.new.state
+            ≡ spec.starts_after_served (spec.reason_of self.old.state) (spec.starts_of self.old.state) }
     {
         let before = self.state.reason();
         self.state = self.state.after_served();
@@ -157,7 +221,8 @@ impl HostEntry {
 
     /// After a round without a plan. What is new of it.
     pub fn note_no_plan(&mut self) -> Option<HostNews>
-        ensures { spec.reason_of self.new.state ≡ spec.after_no_plan (spec.reason_of self.old.state) (spec.trier_of self.old.state) }
+        ensures reason { spec.reason_of self.new.state ≡ spec.after_no_plan (spec.reason_of self.old.state) (spec.trier_of self.old.state) }
+        ensures starts { IfSome (spec.starts_of self.new.state) (λ starts. starts ≡ 4096) }
     {
         let before = self.state.reason();
         self.state = self.state.after_no_plan();
@@ -174,7 +239,11 @@ impl HostEntry {
         }
         match mem::replace(&mut self.left, LeftJobs::Nothing).with(job) {
             Some(left) => self.left = left,
-            None => self.state = self.state.away(Reason::Unserved, attempt),
+            None => {
+                self.state = self
+                    .state
+                    .away(Reason::Unserved, attempt, self.longest_unreached);
+            }
         }
         self.news_since(before)
     }

@@ -1,10 +1,15 @@
 //! How a host is, and what a dial makes of it.
 
-ghost use Rattle.std.specs.Prelude.{◌≡◌, ◌↔◌, ◌≤◌, ◌<◌, ◌*◌, ◌^◌, ◌-◌, ◌+◌, IfErr, Some, min, true};
+ghost use Rattle.std.specs.Prelude.{◌≡◌, ◌↔◌, ◌≤◌, ◌<◌, ◌*◌, ◌^◌, ◌-◌, ◌+◌, IfErr, IfOk, IfSome, None, Some};
+ghost use Rattle.std.specs.Prelude.{false, min, true};
+ghost use Rattle.std.specs.Option.{option_map};
 ghost use Rattle.farm_hosts.specs.Hosts as spec;
-ghost use Rattle.farm_hosts.specs.declared.host_state.Reason.TheVariants.{Unserved};
+ghost use Rattle.farm_hosts.specs.declared.host_state.Reason.TheVariants.{Unreachable, Unserved};
 
-use crate::waits::{FIRST_WAIT, LONGEST_WAIT, longer_wait};
+use crate::waits::{
+    ALL_STARTS, FIRST_STARTS, FIRST_WAIT, LONGEST_UNSERVED, LONGEST_WAIT, due_after, longer_wait,
+    more_starts,
+};
 use devices::DialError;
 use worker_state::WorkerName;
 
@@ -23,6 +28,17 @@ impl Reason {
         match self {
             Reason::Unreachable => "Unreachable",
             Reason::Unserved => "Unserved",
+        }
+    }
+
+    /// How many attempts pass at most between two tries of a host that is left alone for this. One that takes no connection may wait for as
+    /// many as `longest_unreached`.
+    fn longest_wait(self, longest_unreached: u64) -> u64
+        ensures { result ≡ spec.longest_wait self longest_unreached }
+    {
+        match self {
+            Reason::Unreachable => longest_unreached,
+            Reason::Unserved => LONGEST_UNSERVED,
         }
     }
 }
@@ -55,34 +71,64 @@ pub struct Absence {
 }
 
 impl Absence {
-    /// After a worker joined in this attempt. If it came to try the host, the next wait is longer: 1, 2, 4 .. attempts, and 64 at most.
-    pub fn after_join(self, attempt: u64) -> Absence
+    /// From which attempt on one worker may start to try the host, and from the next one on any of its workers. The one that tries it may
+    /// have no job, and so learn nothing: after the longest wait another may start beside it.
+    pub fn next_try(self) -> u64
+        ensures { result ≡ spec.next_try self }
+    {
+        let wait = match self.trier {
+            Some(_) => LONGEST_WAIT,
+            None => 0,
+        };
+        due_after(self.due, wait)
+    }
+
+    /// After a worker joined in this attempt. If it came to try the host, the next wait is twice as long, up to the longest one.
+    pub fn after_join(self, attempt: u64, longest_unreached: u64) -> Absence
         ensures why { result.why ≡ self.why }
-        ensures tries { self.due ≤ attempt
-            → (result.wait ≡ min (self.wait * 2) 64) × (result.due ≡ min (attempt + result.wait) (2 ^ 64 - 1)) }
+        ensures tries { spec.IsTriedIn attempt longest_unreached self result }
         ensures waits { attempt < self.due → result ≡ self }
     {
         let mut after = self;
         if self.due <= attempt {
-            let wait = longer_wait(self.wait);
+            let wait = longer_wait(self.wait, self.why.longest_wait(longest_unreached));
             after.wait = wait;
-            after.due = attempt.saturating_add(wait);
+            after.due = due_after(attempt, wait);
         }
         after
     }
 }
 
-/// A host that is not left alone: all its workers may start.
+/// A host that is not left alone.
 #[derive(Clone, Copy, Debug, PartialEq, Eq)]
 pub struct Presence {
     /// How many attempts pass before it is tried, once it is left alone. Only a job that is served makes them fewer.
     pub wait: u64,
+    /// How many of its workers may start in an attempt.
+    pub starts: u32,
 }
 
 impl Presence {
-    /// That of a host that served its last job.
-    pub fn new() -> Presence {
-        Presence { wait: FIRST_WAIT }
+    /// That of a host of which nothing is known: all its workers may start.
+    pub fn new() -> Presence
+        ensures wait { result.wait ≡ 1 }
+        ensures starts { result.starts ≡ 4096 }
+    {
+        Presence {
+            wait: FIRST_WAIT,
+            starts: ALL_STARTS,
+        }
+    }
+
+    /// That of a host that is back, and next waits for so long. It may have been started just now, so its workers come by and by.
+    fn back(wait: u64) -> Presence
+        ensures wait { result.wait ≡ wait }
+        ensures starts { result.starts ≡ 2 }
+    {
+        Presence {
+            wait,
+            starts: FIRST_STARTS,
+        }
     }
 }
 
@@ -137,41 +183,58 @@ pub fn lets_go_on(said: Option<Result<(), DialError>>) -> bool
 }
 
 impl HostState {
-    /// Left alone from this attempt on, if it is not already.
-    pub fn away(self, why: Reason, attempt: u64) -> HostState
-        ensures { spec.reason_of result ≡ Some why }
+    /// Left alone from this attempt on, if it is not already. It may be tried after at most as many attempts as its longest wait.
+    pub fn away(self, why: Reason, attempt: u64, longest_unreached: u64) -> HostState
+        ensures why { spec.reason_of result ≡ Some why }
+        ensures wait { spec.wait_of result ≡ min (spec.wait_of self) (spec.longest_wait why longest_unreached) }
+        ensures first { spec.reason_of self ≡ None → spec.try_of result ≡ Some (min (attempt + spec.wait_of result) (2 ^ 64 - 1)) }
+        ensures soon { spec.MayBeTriedFrom (attempt + spec.longest_wait why longest_unreached) result }
     {
-        let absence = match self {
-            HostState::Present(presence) => Absence {
+        let longest = why.longest_wait(longest_unreached);
+        match self {
+            HostState::Present(presence) => {
+                let wait = presence.wait.min(longest);
+                HostState::Away(Absence {
+                    why,
+                    wait,
+                    due: due_after(attempt, wait),
+                    trier: None,
+                })
+            }
+            HostState::Away(absence) => HostState::Away(Absence {
                 why,
-                wait: presence.wait,
-                due: attempt.saturating_add(presence.wait),
+                wait: absence.wait.min(longest),
+                due: absence.due.min(due_after(attempt, longest)),
                 trier: None,
-            },
-            HostState::Away(absence) => Absence {
-                why,
-                trier: None,
-                ..absence
-            },
-        };
-        HostState::Away(absence)
+            }),
+        }
     }
 
     /// After a connection was opened, or could not be. If files, ports or memory were lacking here, the host is as before.
-    pub fn after_dial(self, dialled: Result<(), DialError>, attempt: u64) -> HostState
+    pub fn after_dial(
+        self,
+        dialled: Result<(), DialError>,
+        attempt: u64,
+        longest_unreached: u64,
+    ) -> HostState
         ensures marks { spec.reason_of result ≡ spec.after_dial (spec.reason_of self) dialled }
+        ensures starts { IfOk dialled (λ _. spec.starts_of result ≡ spec.starts_after_opening (spec.reason_of self) (spec.starts_of self)) }
+        ensures soon { IfErr dialled (λ why. spec.is_local why ≡ false → spec.MayBeTriedFrom (attempt + longest_unreached) result) }
         ensures stays { IfErr dialled (λ why. spec.is_local why ≡ true → result ≡ self) }
     {
         match dialled {
             Ok(()) => self.after_opening(),
             Err(why) if is_local(why) => self,
-            Err(_) => self.away(Reason::Unreachable, attempt),
+            Err(_) => self.away(Reason::Unreachable, attempt, longest_unreached),
         }
     }
 
     /// After a connection was opened.
     pub fn after_opening(self) -> HostState
-        ensures { spec.reason_of result ≡ spec.after_opening (spec.reason_of self) }
+        ensures reason { spec.reason_of result ≡ spec.after_opening (spec.reason_of self) }
+        ensures wait { spec.wait_of result ≡ spec.wait_of self }
+        ensures tries { spec.reason_of self ≡ Some Unserved → result ≡ self }
+        ensures starts { spec.starts_of result ≡ spec.starts_after_opening (spec.reason_of self) (spec.starts_of self) }
     {
         match self {
             HostState::Away(
@@ -180,7 +243,7 @@ impl HostState {
                     wait,
                     ..
                 },
-            ) => HostState::Present(Presence { wait }),
+            ) => HostState::Present(Presence::back(wait)),
             state => state,
         }
     }
@@ -188,28 +251,34 @@ impl HostState {
     /// After it served a job. One that is not reached stays so: the job was sent over a connection that was open before, and a service that
     /// stops may do the jobs that it has and take no other connection. The worker's next dial shows it.
     pub fn after_served(self) -> HostState
-        ensures { spec.reason_of result ≡ spec.after_served (spec.reason_of self) }
+        ensures reason { spec.reason_of result ≡ spec.after_served (spec.reason_of self) }
+        ensures tries { spec.reason_of self ≡ Some Unreachable → result ≡ self }
+        ensures starts { spec.starts_of result ≡ spec.starts_after_served (spec.reason_of self) (spec.starts_of self) }
     {
         match self {
             HostState::Away(absence) if absence.why == Reason::Unreachable => {
                 HostState::Away(absence)
             }
-            _ => HostState::Present(Presence::new()),
+            HostState::Away(_) => HostState::Present(Presence::back(FIRST_WAIT)),
+            HostState::Present(presence) => HostState::Present(Presence {
+                wait: FIRST_WAIT,
+                ..presence
+            }),
         }
     }
 
-    /// From which attempt on one worker may start to try it. None if all may start. One that tries it may have no job and so learn nothing:
-    /// after the longest wait another may start beside it.
-    pub fn next_try(self) -> Option<u64> {
+    /// Once the next attempt begins: if it is back, twice as many of its workers may start in that.
+    pub fn after_attempt(self) -> HostState
+        ensures reason { spec.reason_of result ≡ spec.reason_of self }
+        ensures tries { spec.try_of result ≡ spec.try_of self }
+        ensures starts { spec.starts_of result ≡ option_map (λ starts. min (starts * 2) 4096) (spec.starts_of self) }
+    {
         match self {
-            HostState::Present(_) => None,
-            HostState::Away(absence) => {
-                let wait = match absence.trier {
-                    Some(_) => LONGEST_WAIT,
-                    None => 0,
-                };
-                Some(absence.due.saturating_add(wait))
-            }
+            HostState::Present(presence) => HostState::Present(Presence {
+                starts: more_starts(presence.starts),
+                ..presence
+            }),
+            HostState::Away(absence) => HostState::Away(absence),
         }
     }
 
@@ -224,18 +293,23 @@ impl HostState {
     }
 
     /// After a worker joined, which came to try it if it is left alone.
-    pub fn after_join(self, attempt: u64) -> HostState
-        ensures { spec.reason_of result ≡ spec.reason_of self }
+    pub fn after_join(self, attempt: u64, longest_unreached: u64) -> HostState
+        ensures reason { spec.reason_of result ≡ spec.reason_of self }
+        ensures starts { spec.starts_of result ≡ spec.starts_of self }
+        ensures tries { spec.IfAway self (λ before. spec.IfAway result (spec.IsTriedIn attempt longest_unreached before)) }
     {
         match self {
             HostState::Present(presence) => HostState::Present(presence),
-            HostState::Away(absence) => HostState::Away(absence.after_join(attempt)),
+            HostState::Away(absence) => {
+                HostState::Away(absence.after_join(attempt, longest_unreached))
+            }
         }
     }
 
     /// After a worker opened a connection for its jobs. If jobs were not served, it is the one that tries the host from now on.
     pub fn after_start(self, worker: WorkerName) -> HostState
         ensures reason { spec.reason_of result ≡ spec.reason_of self }
+        ensures due { spec.due_of result ≡ spec.due_of self }
         ensures tries { spec.reason_of self ≡ Some Unserved → spec.trier_of result ≡ Some worker }
     {
         match self {
@@ -251,7 +325,9 @@ impl HostState {
 
     /// After a worker ended.
     pub fn after_end(self, worker: WorkerName) -> HostState
-        ensures { spec.reason_of result ≡ spec.reason_of self }
+        ensures reason { spec.reason_of result ≡ spec.reason_of self }
+        ensures due { spec.due_of result ≡ spec.due_of self }
+        ensures goes { spec.trier_of self ≡ Some worker → spec.trier_of result ≡ None }
     {
         match self {
             HostState::Away(absence) if absence.trier == Some(worker) => HostState::Away(Absence {
@@ -264,11 +340,18 @@ impl HostState {
 
     /// After a round without a plan, in which no worker was given a function: so the one that tries the host has no job, and the host's
     /// other workers may be what a plan lacks. If jobs were not served, all may start again. If they are not served now either, the next
-    /// wait is the longer one.
+    /// wait is the longer one. The workers of a host that is back come by and by no more: all may start at once.
     pub fn after_no_plan(self) -> HostState
-        ensures { spec.reason_of result ≡ spec.after_no_plan (spec.reason_of self) (spec.trier_of self) }
+        ensures reason { spec.reason_of result ≡ spec.after_no_plan (spec.reason_of self) (spec.trier_of self) }
+        ensures wait { spec.wait_of result ≡ spec.wait_of self }
+        ensures tries { IfSome (spec.reason_of result) (λ _. result ≡ self) }
+        ensures starts { IfSome (spec.starts_of result) (λ starts. starts ≡ 4096) }
     {
         match self {
+            HostState::Present(presence) => HostState::Present(Presence {
+                starts: ALL_STARTS,
+                ..presence
+            }),
             HostState::Away(
                 Absence {
                     why: Reason::Unserved,
@@ -276,7 +359,10 @@ impl HostState {
                     trier: Some(_),
                     ..
                 },
-            ) => HostState::Present(Presence { wait }),
+            ) => HostState::Present(Presence {
+                wait,
+                starts: ALL_STARTS,
+            }),
             state => state,
         }
     }

@@ -2,6 +2,7 @@
 
 use crate::host_entry::{HostEntry, HostNews, MachineSlot};
 use crate::host_state::{BeforeJob, Reason};
+use crate::waits::longest_unreached;
 use devices::DialError;
 use gear_packets::Handle;
 use job_runner::Readiness;
@@ -29,11 +30,13 @@ pub struct Hosts {
 }
 
 impl Hosts {
-    /// The hosts of so many machines, of which nothing is known. The only error is out of memory.
-    pub fn new(alloc: Global, machines: u32) -> Result<Hosts, AllocError> {
+    /// The hosts of so many machines, of which nothing is known, in a farm that pauses for `round_ms` milliseconds between two attempts.
+    /// The only error is out of memory.
+    pub fn new(alloc: Global, machines: u32, round_ms: u32) -> Result<Hosts, AllocError> {
+        let longest = longest_unreached(round_ms);
         let mut hosts = Vec::new(alloc);
         for _machine in 0..machines {
-            hosts.push(HostEntry::new())?;
+            hosts.push(HostEntry::new(longest))?;
         }
         Ok(Hosts {
             table: Mutex::new(Table { attempt: 1, hosts }),
@@ -65,10 +68,14 @@ impl Hosts {
     pub fn begin_attempt<R: Wait>(&self, rt: &R) {
         let mut held = self.table.lock(rt);
         held.attempt = held.attempt.saturating_add(1);
+        for host in &mut held.hosts {
+            host.begin_attempt();
+        }
     }
 
     /// Whether a worker of this slot may start now: if its machine's host is not left alone, or is to be tried again and it is the slot's
-    /// turn.
+    /// turn. Of a host that is back at most 2 workers may start in that attempt, 4 in the next, and so on, or as many as were alive
+    /// before the attempt.
     pub fn may_start<R: Wait>(&self, rt: &R, slot: MachineSlot) -> bool {
         let held = self.table.lock(rt);
         match held.hosts.get(slot.machine.number() as usize) {
@@ -133,7 +140,7 @@ impl Hosts {
     pub fn note_end<R: Wait>(&self, rt: &R, machine: MachineId, worker: WorkerName) {
         let mut held = self.table.lock(rt);
         if let Some(host) = held.hosts.get_mut(machine.number() as usize) {
-            host.state = host.state.after_end(worker);
+            host.note_end(worker);
         }
     }
 

@@ -106,6 +106,17 @@ impl<R: Net<Stream = TcpStream> + time::Clock> TcpDial<R> {
         }
     }
 
+    /// The same for a look whether the host is still there: the address that took the last connection of another is dialled before the name
+    /// is looked up, since a resolver that does not answer may take many seconds.
+    pub fn from_last(self) -> TcpDial<R>
+        ensures host { ⟦<TcpDial<R> as Dial<TcpLink>>⟧.host result ≡ ⟦<TcpDial<R> as Dial<TcpLink>>⟧.host self }
+    {
+        TcpDial {
+            known: self.known.or(self.other),
+            ..self
+        }
+    }
+
     /// The address that took the last connection of another, as far as it is known.
     fn other_address(&self) -> Option<SocketAddr> {
         let shared = self.shared.as_ref()?;

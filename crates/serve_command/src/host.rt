@@ -30,6 +30,14 @@ pub trait FarmHost: Host {
         ensures host { IfSome (Self.Dials.host result) (λ named. named ≡ string_bytes host) }
         ensures unused { IsNothing (Self.Dials.calls result) };
 
+    /// The same for a look whether this host is still there, which should not wait for a name if the host may be reached without.
+    fn looks(&self, host: String, times: CallTimes) -> Self::Dials
+        ensures host { IfSome (Self.Dials.host result) (λ named. named ≡ string_bytes host) }
+        ensures unused { IsNothing (Self.Dials.calls result) }
+    {
+        self.dials(host, times)
+    }
+
     /// A clock.
     fn times(&self) -> Self::Times;
 

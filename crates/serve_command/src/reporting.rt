@@ -205,7 +205,11 @@ impl<'e, H: FarmHost> Watch for Reporting<'e, H> {
         }
         let said = match self.books.farm.host_of(self.alloc, slot) {
             Some(name) => {
-                let mut dials = self.host.dials(name, self.books.farm.call_times());
+                let times = self.books.farm.call_times();
+                let mut dials = match does {
+                    BeforeJob::Look => self.host.looks(name, times),
+                    _ => self.host.dials(name, times),
+                };
                 said_of_host(does, try_dial(&mut dials))
             }
             // There is no memory for its name.

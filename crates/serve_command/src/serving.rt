@@ -66,7 +66,7 @@ fn run_until_end<'x, H: FarmHost>(
     let settings = farm.settings.copy(alloc)?;
     let route = Route::new(host, alloc, &settings)?;
     let planner = ArenaPlanner::new(alloc);
-    let hosts = Hosts::new(alloc, settings.machines())?;
+    let hosts = Hosts::new(alloc, settings.machines(), settings.round_ms())?;
     let tally = Tally::new(alloc, settings.functions())?;
     let last_jobs = LastJobs::new(alloc, settings.slots())?;
     let peers = farm.services.page().map_or(0, |_| MOST_PEERS);

@@ -201,6 +201,10 @@ impl<
         }
     }
 
+    fn looks(&self, host: String, times: CallTimes) -> TcpDial<R> {
+        self.dials(host, times).from_last()
+    }
+
     fn times(&self) -> SystemClock<R> {
         SystemClock::new(self.rt)
     }
