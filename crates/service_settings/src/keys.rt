@@ -23,7 +23,7 @@ pub const CONNECT_MS: Key = Row {
         least: 1,
         most: 60_000,
     },
-    absent: Absent::Number(1_000),
+    absent: Absent::Number(3_500),
     help: "how many milliseconds opening a connection may take",
 };
 
