@@ -150,14 +150,15 @@ pub fn number_of(key: &Key, table: &Table) -> Option<u32>
     }
 }
 
-/// The number at a key of a table whose values are good, and 0 if its value is no number.
+/// The number at a key of a table whose values are good. Without the key it is the default, and if that is no number, the least allowed.
 fn number_in(key: &Key, table: &Table) -> u32
     ensures { result ≡ spec.number_in (table_view table.now) (spec.key_view key.now) }
 {
     number_of(key, table).unwrap_or(default_of(key).unwrap_or(least_of(key)))
 }
 
-/// For each key the number at it in a table whose values are good, and 0 if its value is no number.
+/// For each key the number at it in a table whose values are good. Without the key it is the default, and if that is no number, the least
+/// allowed.
 pub fn numbers_in<const N: usize>(keys: &[Key], table: &Table) -> [u32; N]
     requires { length keys.now ≡ N }
     ensures { result ≡ spec.numbers_in (spec.keys_view keys.now) (table_view table.now) }

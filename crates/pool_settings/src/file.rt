@@ -45,8 +45,8 @@ impl SettingsFile {
     }
 
     /// What the file means, or its first fault. The place is the first in the order of `SettingsError`: the top table before `functions`,
-    /// and that before `machines`. Names and unknown keys come in byte order, other keys as docs/OPERATING.md lists them. `Memory` comes
-    /// only if the file has no fault.
+    /// and that before `machines`. Names and unknown keys come in byte order, other keys in the order of the rows of
+    /// `keys.rt`. `Memory` comes only if the file has no fault.
     pub fn settings(&self, alloc: Global) -> Result<Settings, SettingsFault<'_>>
         ensures ok { IfOk result (λ settings. spec.read_tree (table_view self.now.tree) ≡ Ok settings) }
         ensures refused { IfErr result (RefusesTree (table_view self.now.tree)) }

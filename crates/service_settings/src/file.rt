@@ -46,8 +46,8 @@ impl ServicesFile {
     }
 
     /// What the file means beside the settings, or its first fault. The place is the first in the order of `ServicesError`: the top table
-    /// before `functions`, that before `machines`, and that before `page`. Names and unknown keys come in byte order, other keys as
-    /// docs/YOUR_OWN_JOBS.md lists them. `Memory` comes only if there is no fault.
+    /// before `functions`, that before `machines`, and that before `page`. Names and unknown keys come in byte order, other keys in
+    /// the order of the rows of `keys.rt`. `Memory` comes only if there is no fault.
     pub fn services<'f>(
         &'f self,
         alloc: Global,
