@@ -17,6 +17,7 @@ import contextlib
 import dataclasses
 import os
 import re
+import shutil
 import socket
 import statistics
 import subprocess
@@ -123,7 +124,8 @@ class Farm:
     def start_as_service(self, services):
         """The script that systemd starts, with poolman on its path."""
         folder = self.processes.folder
-        os.symlink(os.path.abspath(self.program), f"{folder}/poolman")
+        # No link: what a failed part leaves stays in the repository, where `rt ci` refuses one.
+        shutil.copy2(self.program, f"{folder}/poolman")
         more = {"PATH": f"{folder}:{os.environ['PATH']}", "RUNTIME_DIRECTORY": folder}
         script = f"{TOP}/examples/systemd/poolman-serve"
         return self.processes.start("poolman", script, *self.write_files(services), env={**os.environ, **more})
@@ -359,7 +361,8 @@ def a_refused_file(program, processes):
         listener.setblocking(False)
         status = farm.start_poolman("version = 1\n").wait(PATIENCE)
         said = (status, processes.text("poolman.out"), processes.text("poolman.err"))
-        held(said == (3, "", "poolman: services 11 NoUrl\n"), f"machines without a URL: {said}")
+        people = f"poolman: {farm.processes.folder}/services.toml: a machine has no URL at machines.drips\n"
+        held(said == (3, "", f"poolman: services 11 NoUrl\n{people}"), f"machines without a URL: {said}")
         with contextlib.suppress(BlockingIOError):
             listener.accept()
             held(False, "the job server was dialled before the files were read")
@@ -375,7 +378,8 @@ def ends_as_service(program, processes, stop):
     status = script.wait(PATIENCE)
     held(status == 5 and TOTALS.fullmatch(farm.lines()[-1]), f"the script ended with status {status}, and {farm.lines()[-1]}")
     said = drain(program, processes.folder)
-    held(said == (4, "", "poolman: page 1 Unreached\n"), f"a drain of a farm that has ended: {said}")
+    people = "poolman: the page: nobody answers at its address\n"
+    held(said == (4, "", f"poolman: page 1 Unreached\n{people}"), f"a drain of a farm that has ended: {said}")
 
 
 def a_service_by_signal(program, processes):

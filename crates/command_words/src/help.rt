@@ -15,49 +15,49 @@ pub const PLAN: Help = Help {
 };
 
 pub const CHECK: Help = Help {
-    about: "Reads a report and checks its evidence by the settings and the status text alone",
+    about: "Verifies a report by the settings and the status text alone",
     usage: "poolman check SETTINGS STATUS [LOST]... < REPORT",
     example: "Example: poolman check settings.toml status.txt b/0 < report.txt",
 };
 
 pub const SIZE: Help = Help {
-    about: "Reads a status text and prints how many workers are missing, and where, with evidence that fewer will not do",
+    about: "Reads a status text and prints how many workers are missing, and where, with evidence that fewer are not enough",
     usage: "poolman size SETTINGS BACKLOG [LOST]... < STATUS",
     example: "Example: poolman size settings.toml 4 < status.txt",
 };
 
 pub const CHECK_SIZE: Help = Help {
-    about: "Reads a size and checks its evidence by the settings and the status text alone",
+    about: "Verifies what size printed, by the settings and the status text alone",
     usage: "poolman check-size SETTINGS STATUS BACKLOG [LOST]... < SIZE",
     example: "Example: poolman check-size settings.toml status.txt 4 < size.txt",
 };
 
 pub const REPLAY: Help = Help {
-    about: "Reads command lines and prints what each answers, on a pool in which nothing has happened yet",
+    about: "Runs command lines on a new pool, without a server, and prints what each answers",
     usage: "poolman replay SETTINGS < COMMANDS",
     example: "Example: printf 'join a/0\\nload x 6 0\\nround\\norder a/0\\n' | poolman replay settings.toml",
 };
 
 pub const SETTINGS: Help = Help {
-    about: "Reads a settings file and prints what it means, or where its first fault is; with a services file, what both mean",
+    about: "Prints what a settings file means, or where its first mistake is; with a services file, what both mean",
     usage: "poolman settings SETTINGS [SERVICES]",
     example: "Example: poolman settings settings.toml services.toml",
 };
 
 pub const RUN: Help = Help {
-    about: "Keeps workers at a job server for ROUNDS attempts to plan, and accounts for each job",
+    about: "Runs workers with three sample jobs for ROUNDS attempts to plan, and accounts for each job",
     usage: "poolman run SETTINGS ROUNDS",
     example: "Example: poolman run settings.toml 3600",
 };
 
 pub const SERVE: Help = Help {
-    about: "Keeps workers at a job server, whose jobs your services do over HTTP, until it is told to stop",
+    about: "Runs workers whose jobs your HTTP services do, until it is told to stop",
     usage: "poolman serve SETTINGS SERVICES [--until-input]",
     example: "Example: poolman serve settings.toml services.toml",
 };
 
 pub const DRAIN: Help = Help {
-    about: "Ends a running farm by its page, waits until it has ended, and prints its totals",
+    about: "Ends a running farm by its page once its jobs are finished, and prints its totals",
     usage: "poolman drain SERVICES",
     example: "Example: poolman drain services.toml",
 };

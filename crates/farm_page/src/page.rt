@@ -120,8 +120,8 @@ fn state(alloc: Global, view: &FarmView, refresh: Refresh) -> Result<Markup, All
     put_shortage(alloc, &mut out, view)?;
     put_attempt(&mut out, view)?;
     match refresh {
-        Refresh::Soon => out.put_tags("<a href=\"/?still\">hold still</a></p></header>\n<main>\n")?,
-        Refresh::Never => out.put_tags("<a href=\"/\">go on</a></p></header>\n<main>\n")?,
+        Refresh::Soon => out.put_tags("<a href=\"/?still\">pause</a></p></header>\n<main>\n")?,
+        Refresh::Never => out.put_tags("<a href=\"/\">resume</a></p></header>\n<main>\n")?,
     }
     Ok(out)
 }

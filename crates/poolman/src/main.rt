@@ -31,10 +31,30 @@ fn words(rt: &HostRuntime) -> io::Result<Vec<String>> {
     Ok(words)
 }
 
-/// Who reads standard error: a person if it is a terminal, which the system's table of open files shows by its name.
-fn reader_of(rt: &HostRuntime) -> Reader {
+/// What the words ask for, if they are the words of a command.
+fn asked(alloc: Global, words: &io::Result<Vec<String>>) -> Option<Command<'_>> {
+    command_of(alloc, words.as_ref().ok()?).ok()
+}
+
+/// Who reads standard error: people, if it is a terminal, which the system's table of open files shows by its name, or if the errors of the
+/// command are for people wherever they go, as into a journal.
+fn reader_of(rt: &HostRuntime, command: &Option<Command<'_>>) -> Reader {
     match fs::read_link(rt, "/proc/self/fd/2") {
         Ok(path) if is_terminal(path.as_str()) => Reader::Person,
+        _ => reader_anywhere(command),
+    }
+}
+
+/// Who reads the errors of a command that do not go to a terminal. Scripts read those of `plan`, `check`, `replay` and `run`, line by line.
+fn reader_anywhere(command: &Option<Command<'_>>) -> Reader {
+    match command {
+        Some(
+            Command::Serve { .. }
+            | Command::Drain { .. }
+            | Command::Settings { .. }
+            | Command::Size { .. }
+            | Command::CheckSize { .. },
+        ) => Reader::Person,
         _ => Reader::Program,
     }
 }
@@ -77,14 +97,11 @@ enum EdgeThreads {
     LinesAndInput,
 }
 
-/// The threads that the words ask for.
-fn edge_threads(alloc: Global, words: &io::Result<Vec<String>>) -> EdgeThreads {
-    let Ok(words) = words else {
-        return EdgeThreads::None;
-    };
-    match command_of(alloc, words) {
-        Ok(Command::Serve { until_input, .. }) if until_input => EdgeThreads::LinesAndInput,
-        Ok(Command::Serve { .. }) => EdgeThreads::Lines,
+/// The threads that a command asks for.
+fn edge_threads(command: &Option<Command<'_>>) -> EdgeThreads {
+    match command {
+        Some(Command::Serve { until_input, .. }) if *until_input => EdgeThreads::LinesAndInput,
+        Some(Command::Serve { .. }) => EdgeThreads::Lines,
         _ => EdgeThreads::None,
     }
 }
@@ -158,7 +175,10 @@ fn main(rt: HostRuntime) -> ExitCode {
     let _streams = hold_streams(&rt);
     let alloc = rt.alloc();
     let words = words(&rt);
-    let threads = edge_threads(alloc, &words);
+    let command = asked(alloc, &words);
+    let threads = edge_threads(&command);
+    let reader = reader_of(&rt, &command);
+    drop(command);
     let Ok(handles) = Handles::new(alloc) else {
         return end_lacking(&rt);
     };
@@ -169,7 +189,7 @@ fn main(rt: HostRuntime) -> ExitCode {
         files: &rt,
         host: &FarmSystem::new(&rt, &edges),
         alloc,
-        reader: reader_of(&rt),
+        reader,
     };
     let status = program(
         lent,
