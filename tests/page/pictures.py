@@ -1,5 +1,5 @@
-"""Pictures of the page in a browser: of a farm that is well, one with a host that is down, and one without a plan; by day and by night, wide
-and narrow. They are to be looked at."""
+"""Pictures of the page in a browser: of a farm that is well, one with a host that is down, one without a plan, and one that had none for a
+while, which has a red ground; by day and by night, wide and narrow. They are to be looked at."""
 
 import contextlib
 import math
@@ -17,6 +17,7 @@ from slow import TIMES
 from stage import PATIENCE, TOP, Stage
 
 HOSTS = ("attic", "north", "south")
+SERVICE = f"{TOP}/tests/page/slow.py"
 WORKERS = 8
 
 # The ground of the page, as its style has it.
@@ -108,7 +109,7 @@ def farm(program, transcoders):
 def begin(stage):
     """Starts a farm, whose services are all there."""
     for name in HOSTS:
-        stage.start_service(name, f"{TOP}/tests/page/slow.py")
+        stage.start_service(name, SERVICE)
     stage.start()
     stage.page.wait_until_well()
     return Waves(stage.server.port)
@@ -118,8 +119,29 @@ def says(stage, words):
     return lambda: f"</span>{words}" in stage.page.text("/")
 
 
+def has_red_ground(stage):
+    """Whether a drawing has an attempt without a value."""
+    return '<rect class="gap"' in stage.page.text("/?still")
+
+
+def take_red_ground(program, folder):
+    """The pictures of a farm that had no plan while the only host of a function was down, and is well again."""
+    with farm(program, ("attic",)) as stage:
+        waves = begin(stage)
+        time.sleep(DRAWN_SECONDS / 2)
+        stage.kill_service("attic")
+        wait_until(says(stage, "No plan: "), PATIENCE, "the page says that there is no plan")
+        time.sleep(DRAWN_SECONDS / 8)
+        stage.start_service("attic", SERVICE)
+        wait_until(says(stage, "Well: "), PATIENCE, "the page says that the farm is well again")
+        time.sleep(DRAWN_SECONDS / 8)
+        take_all(stage, folder, "red_ground")
+        held(has_red_ground(stage), "the attempts without a plan are not drawn any more")
+        waves.stop()
+
+
 def pictures(program):
-    """The pictures of three farms, each in four forms, in a folder that stays."""
+    """The pictures of four farms, each in four forms, in a folder that stays."""
     folder = tempfile.mkdtemp(prefix="pictures-")
     with farm(program, HOSTS) as stage:
         waves = begin(stage)
@@ -139,4 +161,5 @@ def pictures(program):
         time.sleep(DRAWN_SECONDS / 8)
         take_all(stage, folder, "no_plan")
         waves.stop()
-    return f"12 pictures in {folder}"
+    take_red_ground(program, folder)
+    return f"16 pictures in {folder}"

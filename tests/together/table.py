@@ -98,12 +98,13 @@ PARTS = (
     Part("http", 2.0, 2.0),
     Part("serve", 1.0, 1.0, words=("edges",), wants_program=True),
     Part("serve", 1.0, 0.5, words=("trial",), wants_program=True),
-    Part("pages", 0.5, 0.7, wants_program=True),
+    Part("pages", 0.5, 0.9, wants_program=True),
     Part("limits", 0.5, 0.3, wants_program=True),
     Part("package", 0.5, 0.3, wants_program=True),
     Part("watched", 0.2, 0.1, wants_program=True),
     Part("shape", 0.2, 0.1),
     Part("tables", 0.2, 0.1),
+    Part("links", 0.2, 0.1),
 )
 
 
