@@ -406,7 +406,7 @@ def beside_peers_from_elsewhere(program, processes):
     near.connect()
     far = [socket.create_connection((HOST, edge.page.port), PATIENCE, (FAR, 0)) for _ in range(PLACES)]
     held(far[-1].recv(1) == b"", "a peer from elsewhere is let in that finds no place")
-    near.request("GET", "/health")
+    near.request("GET", "/metrics")
     held(near.getresponse().status == 200, "a peer of this machine is turned away")
     near.close()
     for peer in far:
