@@ -178,11 +178,13 @@ impl Scale {
     /// Adds what stands above the drawing: its name, the number of now, and the greatest, which its upper axis marks.
     fn put_caption(&self, out: &mut Markup) -> Result<(), AllocError> {
         match self.quantity {
-            Quantity::Backlog => out.put_tags("<figcaption><span><b>Backlog</b> now ")?,
-            Quantity::Waiting => out.put_tags("<figcaption><span><b>Waiting jobs</b> now ")?,
+            Quantity::Backlog => out.put_tags(
+                "<figcaption><span><b>Backlog</b>, jobs per worker: now ",
+            )?,
+            Quantity::Waiting => out.put_tags("<figcaption><span><b>Waiting jobs</b>: now ")?,
         }
         self.put_now(out)?;
-        out.put_tags("</span><span>at most ")?;
+        out.put_tags("</span><span>highest ")?;
         out.put_number(self.greatest)?;
         out.put_tags("</span></figcaption>")
     }
@@ -197,7 +199,7 @@ impl Scale {
             Quantity::Waiting => out.put_tags("Waiting jobs of the last 600 attempts, now ")?,
         }
         self.put_now(out)?;
-        out.put_tags(", at most ")?;
+        out.put_tags(", highest ")?;
         out.put_number(self.greatest)?;
         out.put_tags(
             "\"><path class=\"axis\" vector-effect=\"non-scaling-stroke\" d=\"M0,40H600M0,1000H600\"/>",

@@ -87,13 +87,13 @@ pub static METRICS: [Metric; 20] = [
         name: "poolman_backlog_jobs",
         kind: MetricKind::Gauge,
         value: Value::Farm(FarmNumber::Backlog),
-        help: "Jobs that wait for each worker of a function, at most.",
+        help: "Waiting jobs per worker, of the function for which that is greatest.",
     },
     Row {
         name: "poolman_unserved_jobs",
         kind: MetricKind::Gauge,
         value: Value::Farm(FarmNumber::Unserved),
-        help: "Jobs that wait for a function that workers alive may do and none does, at most.",
+        help: "Jobs of the longest queue that workers alive may serve and none does.",
     },
     Row {
         name: "poolman_is_late",

@@ -139,7 +139,7 @@ fn failure_rows(alloc: Global, failures: &[FailureView]) -> Result<Markup, Alloc
 const FUNCTIONS: &str = "<section><h2>Functions</h2><div class=\"wide\"><table><thead><tr>\
 <th class=\"words\" scope=\"col\">function</th><th scope=\"col\">waiting</th>\
 <th scope=\"col\">waiting per worker</th><th scope=\"col\">running</th>\
-<th scope=\"col\">workers</th><th scope=\"col\">of all</th><th scope=\"col\">least</th><th scope=\"col\">most</th>\
+<th scope=\"col\">workers</th><th scope=\"col\">share</th><th scope=\"col\">least</th><th scope=\"col\">most</th>\
 <th scope=\"col\">completed</th><th scope=\"col\">failed</th><th scope=\"col\">lost</th></tr></thead><tbody>\n";
 
 /// What is between the functions to look at and the others, if they are many: these are folded away.
@@ -147,7 +147,7 @@ const FOLD: &str =
     "</tbody></table></div><details><summary>all other functions</summary><div class=\"wide\"><table>\
 <thead><tr><th class=\"words\" scope=\"col\">function</th><th scope=\"col\">waiting</th>\
 <th scope=\"col\">waiting per worker</th><th scope=\"col\">running</th>\
-<th scope=\"col\">workers</th><th scope=\"col\">of all</th><th scope=\"col\">least</th><th scope=\"col\">most</th>\
+<th scope=\"col\">workers</th><th scope=\"col\">share</th><th scope=\"col\">least</th><th scope=\"col\">most</th>\
 <th scope=\"col\">completed</th><th scope=\"col\">failed</th><th scope=\"col\">lost</th></tr></thead><tbody>\n";
 
 /// The end of a table.
@@ -158,8 +158,8 @@ const FOLD_END: &str = "</tbody></table></div></details></section>\n";
 
 /// The head of the table of hosts.
 const HOSTS: &str = "<section><h2>Hosts</h2><div class=\"wide\"><table><thead><tr>\
-<th class=\"words\" scope=\"col\">host</th><th scope=\"col\">workers alive</th><th scope=\"col\">of</th>\
-<th scope=\"col\">alive of all</th><th class=\"words\" scope=\"col\">service</th></tr></thead><tbody>\n";
+<th class=\"words\" scope=\"col\">host</th><th scope=\"col\">workers alive</th><th scope=\"col\">workers</th>\
+<th scope=\"col\">share alive</th><th class=\"words\" scope=\"col\">service</th></tr></thead><tbody>\n";
 
 /// The head of the table of causes.
 const ENDS: &str = "<section><h2>Workers that ended</h2><div class=\"wide\"><table><thead><tr>\

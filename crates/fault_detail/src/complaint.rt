@@ -14,7 +14,7 @@ use std::alloc::Global;
 /// Who reads what the program writes to error output.
 #[derive(Clone, Copy, Debug, PartialEq, Eq)]
 pub enum Reader {
-    /// A person at a terminal, who gets a second line that says what a fault is about.
+    /// A person, who gets a second line that says what a fault is about.
     Person,
     /// A program or a file, which gets the fault line alone.
     Program,
