@@ -124,14 +124,20 @@ def has_red_ground(stage):
     return '<rect class="gap"' in stage.page.text("/?still")
 
 
+def begin_without_plan(stage):
+    """Starts a farm, and kills the only host of a function: soon there is no plan."""
+    waves = begin(stage)
+    time.sleep(DRAWN_SECONDS / 2)
+    stage.kill_service("attic")
+    wait_until(says(stage, "No plan: "), PATIENCE, "the page says that there is no plan")
+    time.sleep(DRAWN_SECONDS / 8)
+    return waves
+
+
 def take_red_ground(program, folder):
     """The pictures of a farm that had no plan while the only host of a function was down, and is well again."""
     with farm(program, ("attic",)) as stage:
-        waves = begin(stage)
-        time.sleep(DRAWN_SECONDS / 2)
-        stage.kill_service("attic")
-        wait_until(says(stage, "No plan: "), PATIENCE, "the page says that there is no plan")
-        time.sleep(DRAWN_SECONDS / 8)
+        waves = begin_without_plan(stage)
         stage.start_service("attic", SERVICE)
         wait_until(says(stage, "Well: "), PATIENCE, "the page says that the farm is well again")
         time.sleep(DRAWN_SECONDS / 8)
@@ -154,11 +160,7 @@ def pictures(program):
         take_all(stage, folder, "host_down")
         waves.stop()
     with farm(program, ("attic",)) as stage:
-        waves = begin(stage)
-        time.sleep(DRAWN_SECONDS / 2)
-        stage.kill_service("attic")
-        wait_until(says(stage, "No plan: "), PATIENCE, "the page says that there is no plan")
-        time.sleep(DRAWN_SECONDS / 8)
+        waves = begin_without_plan(stage)
         take_all(stage, folder, "no_plan")
         waves.stop()
     take_red_ground(program, folder)
