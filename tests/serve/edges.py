@@ -10,7 +10,6 @@ its processes write is in the folder.
 import contextlib
 import fcntl
 import http.client
-import itertools
 import os
 import re
 import resource
@@ -29,18 +28,11 @@ sys.path[:0] = [f"{TOP}/tests/gearmand", f"{TOP}/tests/together"]
 from farm import HOST, SUBMIT_JOB, TOTALS, Client, at_once, held, request, wait_until
 
 import suite
-from asking import ask_rightly
+from edge import HOSTS, WORKERS, Edge, bad_jobs, good_jobs, holds_pace, settings
 from page import PLACES, Page
 from service import POISON
 from slow_way import SlowWay
-from starting import LINE, PATIENCE, Processes, drain, ports, untimed
-
-HOSTS = ("north", "south")
-WORKERS = 4
-ROUND_MS = 50
-
-# An attempt is not to take longer on average, though it is made each 50 milliseconds where nothing else is to do.
-SLOWEST_MS = 2000
+from starting import LINE, PATIENCE, Processes, ports, untimed
 
 # So many lines wait in the program, if nobody takes them.
 MOST_WAITING = 4096
@@ -64,126 +56,6 @@ IFF_UP, SIOCSIFFLAGS, SIOCSIFADDR = 1, 0x8914, 0x8916
 FAR = "192.0.2.1"
 
 LEFT_OUT = re.compile(r"left out (\d+) lines")
-
-
-def settings(server, others, job_timeout_ms=60_000, round_ms=ROUND_MS, host=HOST):
-    """The settings of a farm with these further machines, with its job server at this port of this host."""
-    lines = ["version = 1", f'server = "{host}:{server}"', f"round_ms = {round_ms}", "lull_ms = 20"]
-    lines += [f"job_timeout_ms = {job_timeout_ms}", "[functions.upper]"]
-    for name, workers in [*((name, WORKERS) for name in HOSTS), *((name, 1) for name in others)]:
-        lines.append(f'[machines.{name}]\nworkers = {workers}\nfunctions = ["upper"]')
-    return "\n".join([*lines, ""])
-
-
-def good_jobs(name, count):
-    """So many jobs that can be done."""
-    return [("upper", f"{name}-{number}", b"a job") for number in range(count)]
-
-
-def bad_jobs(name, count):
-    """So many jobs whose data is no text. A line tells of each."""
-    return [("upper", f"{name}-{number}", b"\xff") for number in range(count)]
-
-
-class Edge:
-    """A job server and two services, and a farm of theirs."""
-
-    def __init__(self, program, processes, others=(), named=None):
-        """The services are named by their address, or by these names."""
-        self.program, self.processes = program, processes
-        named = named or dict.fromkeys(HOSTS, HOST)
-        self.server, page, *places = ports(2 + len(HOSTS))
-        self.page = Page(page, PATIENCE)
-        self.others = others
-        self.places = dict(zip(HOSTS, places))
-        processes.start_server(self.server)
-        self.services = {name: processes.start_service(name, port) for name, port in self.places.items()}
-        self.write("settings", settings(self.server, others))
-        urls = {**{name: f"{named[name]}:{port}" for name, port in self.places.items()}, **{name: f"{name}.invalid:80" for name in others}}
-        lines = ["version = 1", f'[page]\nlisten = "{HOST}:{page}"']
-        self.write("services", "\n".join([*lines, *[f'[machines.{name}]\nurl = "http://{url}/jobs"' for name, url in urls.items()], ""]))
-
-    def write(self, name, text):
-        with open(f"{self.processes.folder}/{name}.toml", "w") as it:
-            it.write(text)
-
-    def begin(self, *before, options=(), **streams):
-        """Starts poolman, after these words of another program."""
-        files = [f"{self.processes.folder}/{name}.toml" for name in ("settings", "services")]
-        self.poolman = self.processes.start("poolman", *before, self.program, "serve", *files, *options, **streams)
-
-    def start(self, *before, **how):
-        """The same, and waits until it has a plan."""
-        self.begin(*before, **how)
-        wait_until(self.is_well, PATIENCE, "the farm has a plan")
-
-    def is_well(self):
-        held(self.poolman.poll() is None, f"poolman ended with status {self.poolman.returncode}")
-        return self.page.is_well()
-
-    def lines(self):
-        """The whole lines of poolman so far, without their times."""
-        text = self.processes.text("poolman.out")
-        return untimed(text.splitlines()[: text.count("\n")])
-
-    def metric(self, name):
-        """A number of the page."""
-        return int(re.search(rf"^{re.escape(name)} (\d+)$", self.page.text("/metrics"), re.MULTILINE)[1])
-
-    def kill(self, name):
-        """Kills a service, so that its connections are closed."""
-        self.services[name].kill()
-        self.services[name].wait()
-
-    def restart(self, name):
-        """Kills a service, and starts it again."""
-        self.kill(name)
-        self.services[name] = self.processes.start_service(name, self.places[name])
-
-    def causes(self, workers=r"\S+"):
-        """The causes for which these workers ended, in order."""
-        return [found[1] for line in self.lines() if (found := re.fullmatch(rf"ended {workers} (\S+)", line))]
-
-    def has_all_workers(self):
-        return self.metric("poolman_alive_workers") == WORKERS * len(HOSTS)
-
-    def sessions(self):
-        """How many workers of the farm have given their name to the job server."""
-        with contextlib.closing(socket.create_connection((HOST, self.server), PATIENCE)) as admin, admin.makefile("rb") as said:
-            admin.sendall(b"workers\n")
-            return sum(b"#" in line for line in itertools.takewhile(lambda line: line != b".\n", said))
-
-    def holds_no_good_host_unreached(self):
-        said = [line for line in self.lines() if line.startswith("unreached ") and line.split()[1] in HOSTS]
-        held(not said, f"of hosts that do jobs it is said: {said}")
-
-    def ask(self, jobs):
-        ask_rightly(self.server, jobs, PATIENCE)
-
-    def keeps_pace_while(self, call):
-        """Makes a call, and one second's worth of attempts besides, which do not become slow."""
-        begin, before = time.monotonic(), self.metric("poolman_attempts_total")
-        call()
-        wait_until(lambda: self.metric("poolman_attempts_total") >= before + 10, PATIENCE, "attempts are made")
-        holds_pace(self.metric("poolman_attempts_total") - before, begin)
-
-    def end(self, reported=None, exit_status=0):
-        """Ends the farm by a drain, and holds it to how many jobs were reported, and to its exit status."""
-        status, told, said = drain(self.program, self.processes.folder)
-        held((status, said) == (0, ""), f"the drain: {status} {told} {said}")
-        totals = next(filter(None, map(TOTALS.fullmatch, told.splitlines())), None)
-        held(totals, f"a drain without totals: {told}")
-        grabbed, running, did, lost = map(int, totals.groups()[:4])
-        held(running == 0 and grabbed == did + lost, f"the totals do not account for each job: {totals[0]}")
-        held(reported in (None, did), f"{did} jobs were reported, and {reported} answered")
-        status = self.poolman.wait(PATIENCE)
-        held(status == exit_status, f"poolman ended with status {status}")
-
-
-def holds_pace(made, begin):
-    """Holds that so many attempts since then did not take long."""
-    took = 1000 * (time.monotonic() - begin)
-    held(took <= made * SLOWEST_MS, f"{made} attempts took {took:.0f} milliseconds")
 
 
 class Pipe:
@@ -554,19 +426,34 @@ def idle_workers_see_that_their_service_closed(program, processes):
 
 def one_job_is_never_served(program, processes):
     """A job comes again and again, and each time its connection is closed without a response. No host is left alone for that, and the jobs
-    of others are done."""
+    of others are done. The job is held before it comes again, for longer each time: it ends two workers or fewer for each slot."""
     edge = Edge(program, processes)
     edge.start()
     with contextlib.closing(Client(edge.server, PATIENCE)) as client:
         client.socket.sendall(request(SUBMIT_JOB, b"upper", b"poison", POISON))
         for turn in range(5):
-            lost = (turn + 1) * WORKERS * len(HOSTS)
-            wait_until(lambda: sum(line.startswith("lost ") for line in edge.lines()) >= lost, PATIENCE, "the job is lost again")
+            wait_until(lambda: edge.lost() >= turn + 2, PATIENCE, "the job is lost again")
             edge.keeps_pace_while(lambda: edge.ask(good_jobs(f"beside-{turn}", 50)))
     # Without its client the job is gone.
     wait_until(edge.has_all_workers, PATIENCE, "all workers are back")
     edge.ask(good_jobs("after", 50))
     edge.end(300)
+    held(edge.lost() <= 2 * WORKERS * len(HOSTS), f"one job ended {edge.lost()} workers")
+    edge.holds_no_good_host_unreached()
+
+
+def one_job_leaves_workers_to_others(program, processes):
+    """No attempt replaces the workers that a job without an answer ends. It is held before it comes again, for longer each time, so that the
+    sixteenth worker would have it after more than four minutes. The jobs of others are done meanwhile."""
+    edge = Edge(program, processes)
+    edge.write("settings", settings(edge.server, (), round_ms=600_000, workers=8))
+    edge.start()
+    wait_until(lambda: edge.sessions() == 8 * len(HOSTS), PATIENCE, "the job server knows all workers")
+    with contextlib.closing(Client(edge.server, PATIENCE)) as client:
+        client.socket.sendall(request(SUBMIT_JOB, b"upper", b"poison", POISON))
+        wait_until(lambda: edge.lost() >= 4, PATIENCE, "the job is lost again")
+        edge.ask(good_jobs("beside", 50))
+        edge.end(50)
     edge.holds_no_good_host_unreached()
 
 
@@ -582,6 +469,7 @@ PARTS = (
     workers_without_orders_end_with_their_host,
     idle_workers_see_that_their_service_closed,
     one_job_is_never_served,
+    one_job_leaves_workers_to_others,
     peers_from_elsewhere,
 )
 

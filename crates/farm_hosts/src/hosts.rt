@@ -118,6 +118,15 @@ impl Hosts {
         }
     }
 
+    /// Whether the host of this machine is left alone.
+    pub fn is_left_alone<R: Wait>(&self, rt: &R, machine: MachineId) -> bool {
+        let held = self.table.lock(rt);
+        match held.hosts.get(machine.number() as usize) {
+            Some(host) => host.state.reason().is_some(),
+            None => false,
+        }
+    }
+
     /// A worker of the machine joined. If its host is left alone, the worker tries it, and the next one waits for longer.
     pub fn note_join<R: Wait>(&self, rt: &R, machine: MachineId) {
         let mut held = self.table.lock(rt);

@@ -330,6 +330,9 @@ impl<'e, N: RunId, J: JobSource + Sync, C: Watch + Sync, R: Threads + Wait + Syn
             } else {
                 Ok(EndedSession::of(&site, &mut link, papers))
             };
+            if let Ok((ended, _)) = &outcome {
+                site.lent.watch.before_hang_up(ended.worker);
+            }
             drop(link);
             of_session.has_ended.store(true, Ordering::SeqCst);
             outcome

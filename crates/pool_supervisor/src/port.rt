@@ -37,14 +37,18 @@ pub trait Watch {
     fn may_go_on(&self, _worker: WorkerName, _readiness: Readiness) -> bool {
         true
     }
+
+    /// Called when a worker's session has ended, before its link is closed. Until this returns, the job server waits for the answer to a job
+    /// that the worker left, and gives it to nobody else. The worker's slot is empty meanwhile, and may have another worker.
+    fn before_hang_up(&self, _worker: WorkerName) {}
 }
 
 /// A session's way to the shared pool, with a share of each of its books.
 ///
 /// Orders are read from the board, with no lock; a worker that may not go on is ordered to stop, also if it has no order yet. Each other
-/// call is one call of the pool in one hold of the lock, with the arguments that it was given, at the time of the watch; a job that is
-/// grabbed when no time is known is never late. A refusal that says that the worker is not what its session takes it for is reported as
-/// [`Gone`].
+/// call is one hold of the lock, and one call of the pool with the arguments that it was given, at the time of the watch. But in a run
+/// until its watch ends it, a grab that finds no room in the history ends the chapter and grabs again. A job that is grabbed when no time
+/// is known is never late. A refusal that says that the worker is not what its session takes it for is reported as [`Gone`].
 ///
 /// Its calls are known to contracts alone ([`Calls`]). Each share is the number of those that succeeded, and it counts how the jobs ended.
 #[derive(Drop)]

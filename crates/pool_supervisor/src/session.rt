@@ -239,9 +239,9 @@ pub fn give_up<N: RunId, J, C, R: Wait>(
 }
 
 /// A worker's session over the shared pool, to its end, with the jobs that the source gives it. It promises of what it reads and writes
-/// what [`serve_worker`] does, and each order that it obeys is one that its place saw. If the source gives it none, it ends as `Unserved`
-/// before it begins, and nothing is read or written. The shares begin at 0 and come back at the counts of its end, so the pool has booked
-/// just what the session reports.
+/// what [`serve_worker`] does, and each order that it obeys is one that its place saw, or Stop. If the source gives it none, it ends as
+/// `Unserved` before it begins, and nothing is read or written. The shares begin at 0 and come back at the counts of its end, so the pool
+/// has booked just what the session reports.
 pub fn run_worker<N: RunId, L: Source + Sink, J: JobSource, C: Watch, R: Wait>(
     site: &Site<'_, N, J, C, R>,
     link: &mut L,

@@ -4,6 +4,8 @@ use crate::farm::Farm;
 use crate::last_jobs::LastJobs;
 use farm_hosts::{FileRoom, Hosts, ThreadRoom};
 use farm_notes::Tally;
+use std::sync::Mutex;
+use unserved_jobs::UnservedJobs;
 
 /// What is kept of a farm while it runs.
 #[derive(Clone, Copy)]
@@ -12,6 +14,8 @@ pub struct Books<'e> {
     pub farm: &'e Farm,
     /// Which hosts are reached.
     pub hosts: &'e Hosts,
+    /// The jobs that services left unserved lately, and which workers hold one.
+    pub unserved: &'e Mutex<UnservedJobs>,
     /// What became of the jobs.
     pub tally: &'e Tally,
     /// The job that each worker did last.

@@ -15,6 +15,7 @@ use plan_model::{FuncId, MachineId, SlotId};
 use pool_supervisor::JobSource;
 use std::alloc::{AllocError, Global};
 use std::sync::{Mutex, Wait};
+use unserved_jobs::UnservedJobs;
 use worker_state::WorkerName;
 
 /// Gives each worker of a farm the jobs of its machine's service.
@@ -244,6 +245,37 @@ pub fn host_line(
     Some(news_line(alloc, farm, machine, news))
 }
 
+/// What a job tells of its host that was left unserved so often, if it was. Only the first time counts: it may be the job that cannot be
+/// served, and then it would tell the same of each host.
+fn sign_after(sign: HostSign, times_left: Option<u32>) -> HostSign {
+    match times_left {
+        Some(times) if times > 1 => HostSign::Nothing,
+        _ => sign,
+    }
+}
+
+/// Notes that the job was left unserved at this time, if it was. How often it was, this time included. None if no time is known.
+fn note_left<R: Wait>(
+    rt: &R,
+    unserved: &Mutex<UnservedJobs>,
+    job: &Handle,
+    sign: HostSign,
+    now_ms: Option<u64>,
+) -> Option<u32> {
+    match (sign, now_ms) {
+        (HostSign::Unserved, Some(now_ms)) => Some(unserved.lock(rt).note(job, now_ms)),
+        _ => None,
+    }
+}
+
+/// Lets the worker, which left the job, hold it for a while once its session has ended, if the job was left before. Not if the host is left
+/// alone: then the host fails and not the job, and another host may do it.
+fn hold<R: Wait>(rt: &R, books: &Books<'_>, machine: MachineId, worker: WorkerName, job: &Handle) {
+    if !books.hosts.is_left_alone(rt, machine) {
+        let _milliseconds = books.unserved.lock(rt).hold(worker, job);
+    }
+}
+
 impl<'e, H: FarmHost> Jobs for FarmJobs<'e, H> {
     ghost use Rattle.std.specs.Prelude.{◌≡◌};
     ghost use Rattle.http_jobs.specs.Serving.{IsDoneBy, IsNotDoneBy, visible};
@@ -280,11 +312,23 @@ impl<'e, H: FarmHost> Jobs for FarmJobs<'e, H> {
         let done = self.jobs.serve(alloc, &job);
         self.books.hosts.end_use(self.host, self.machine);
         let sign = sign_of(&done, timeout_ms, farm.services.connect_ms());
+        let now_ms = self.host.now_ms();
+        let times_left = note_left(self.host, self.books.unserved, &job.handle, sign, now_ms);
+        let sign = sign_after(sign, times_left);
         let turn = self.books.hosts.turn(self.host);
         let news = news_of(self.host, self.books.hosts, self.machine, &job.handle, sign);
         self.host
             .tell_if(host_line(alloc, farm, self.machine, news));
         drop(turn);
+        if times_left.is_some() {
+            hold(
+                self.host,
+                &self.books,
+                self.machine,
+                self.worker,
+                &job.handle,
+            );
+        }
         self.books.tally.end(self.host, function, end_of(&done));
         let failure = failure_of(alloc, farm, self.worker, &job, &done);
         self.host.tell_if(line_of(alloc, &failure));

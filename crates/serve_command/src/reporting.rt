@@ -226,6 +226,17 @@ impl<'e, H: FarmHost> Watch for Reporting<'e, H> {
         }
         lets_go_on(said)
     }
+
+    /// A job that no service serves would go round all workers, and end each. So a worker that left one which was left before holds it for
+    /// a while, and the job server gives it to nobody. Not once the farm has to end.
+    fn before_hang_up(&self, worker: WorkerName) {
+        let held_ms = self.books.unserved.lock(self).hold_of(worker);
+        let Some(milliseconds) = held_ms else {
+            return;
+        };
+        self.host.rest(milliseconds);
+        self.books.unserved.lock(self).give_back(worker);
+    }
 }
 
 impl<'e, H: FarmHost> Progress for Reporting<'e, H> {
