@@ -1,8 +1,8 @@
 -- The jobs that services of a farm left unserved lately. In a list of them the one that was left last stands at the end.
-use Rattle.std.specs.Prelude.{ℕ, ◌≤◌, ◌+◌, ◌-◌, ◌*◌, ◌^◌, min, max, Bool, true, false, not, ◌&&◌, ◌==◌, if◌then◌else◌, nat_lt, List, [], ◌∷◌, ◌++◌}
-use Rattle.std.specs.Prelude.{Option, Some, None, is_some, length, count_by, find, fold, remove, slice_set}
+use Rattle.std.specs.Prelude.{ℕ, ◌≤◌, ◌+◌, ◌-◌, ◌*◌, ◌^◌, min, max, nat_lt, Bool, false, not, ◌&&◌, ◌==◌, if◌then◌else◌}
+use Rattle.std.specs.Prelude.{Option, Some, None, is_some, List, [], ◌∷◌, ◌++◌, length, count_by, find, fold, remove, slice_set}
 use Rattle.std.specs.List.{position_or_len}
-use Rattle.std.specs.Option.{option_and_then}
+use Rattle.std.specs.Option.{option_and_then, option_map_or}
 use Rattle.std.specs.Str.{bytes_eq}
 use Rattle.worker_state.specs.declared.slot.WorkerName.{WorkerName}
 use Rattle.unserved_jobs.specs.declared.job.UnservedJob.{UnservedJob}
@@ -96,13 +96,13 @@ free_hold_ms left = if is_held left then None else hold_ms left.times
 abbrev pub next_hold_ms : List ℕ → List UnservedJob → Option ℕ
 next_hold_ms job jobs = if nat_lt (held_count jobs) 64 then option_and_then free_hold_ms (known job jobs) else None
 
--- the job once this worker holds it
-abbrev pub held_by : WorkerName → UnservedJob → UnservedJob
-held_by worker left = record left { held_by = Some worker }
+-- the jobs with another in the place of this one
+abbrev pub with_job : List ℕ → UnservedJob → List UnservedJob → List UnservedJob
+with_job job left jobs = slice_set jobs (position_or_len (is_of job) jobs) left
 
--- the jobs with this one in the place of what is known of the same job
-abbrev pub with_job : UnservedJob → List UnservedJob → List UnservedJob
-with_job left jobs = slice_set jobs (position_or_len (is_of left.handle) jobs) left
+-- the jobs once this worker holds that one, if it is among them
+abbrev pub once_held : WorkerName → List ℕ → List UnservedJob → List UnservedJob
+once_held worker job jobs = option_map_or (λ left. with_job job (record left { held_by = Some worker }) jobs) (known job jobs) jobs
 
 -- for how many milliseconds this worker holds a job, if it holds one
 abbrev pub own_hold_ms : WorkerName → List UnservedJob → Option ℕ

@@ -1,6 +1,6 @@
 //! One job that was left unserved: whether it is new, how long it is held, and when it is answered as failed.
 
-ghost use Rattle.std.specs.Prelude.{◌≡◌, ◌↔◌, ◌<◌, ◌≤◌, ◌+◌, ◌-◌, ◌*◌, ◌^◌, IfNone, IfSome, IsTrue, None, Some, false, is_some, min};
+ghost use Rattle.std.specs.Prelude.{◌≡◌, ◌↔◌, ◌<◌, IfNone, IfSome, IsTrue, false};
 ghost use Rattle.unserved_jobs.specs.Unserved as spec;
 
 use gear_packets::Handle;
@@ -30,8 +30,8 @@ pub struct UnservedJob {
 }
 
 /// Whether the two are one worker.
-fn is_same_worker(one: WorkerName, other: WorkerName) -> bool
-    ensures { result ≡ spec.is_same_worker one other }
+fn is_same_worker(one: &WorkerName, other: &WorkerName) -> bool
+    ensures { result ≡ spec.is_same_worker one.now other.now }
 {
     one == other
 }
@@ -96,18 +96,18 @@ impl UnservedJob {
     }
 
     /// Whether this worker holds it.
-    pub(crate) fn is_held_by(&self, worker: WorkerName) -> bool
-        ensures { result ≡ spec.is_held_by worker self.now }
+    pub(crate) fn is_held_by(&self, worker: &WorkerName) -> bool
+        ensures { result ≡ spec.is_held_by worker.now self.now }
     {
-        match self.held_by {
+        match &self.held_by {
             Some(holder) => is_same_worker(holder, worker),
             None => false,
         }
     }
 
     /// This worker does not hold it any more.
-    pub(crate) fn give_back(&mut self, worker: WorkerName)
-        ensures { self.new ≡ spec.given_back worker self.old }
+    pub(crate) fn give_back(&mut self, worker: &WorkerName)
+        ensures { self.new ≡ spec.given_back worker.now self.old }
     {
         if self.is_held_by(worker) {
             self.held_by = None;

@@ -1,7 +1,7 @@
 //! The jobs that were left unserved lately, in a table of a fixed size, and which of them are held.
 
-ghost use Rattle.std.specs.Prelude.{◌≡◌, ◌≤◌, ◌++◌, ◌∷◌, [], IfOk, IfNone, IfSome, Some, count_by, length, map, position, slice_index_or};
-ghost use Rattle.std.specs.Prelude.{vec_capacity, vec_len};
+ghost use Rattle.std.specs.Prelude.{◌≡◌, ◌≤◌, [], IfNone, IfOk, IfSome, count_by, find, map, position, vec_capacity, vec_len};
+ghost use Rattle.std.specs.Option.{option_copied};
 ghost use Rattle.unserved_jobs.specs.Unserved as spec;
 
 use crate::job::{UnservedJob, hold_ms};
@@ -17,9 +17,9 @@ const MOST_JOBS: usize = 256;
 const MOST_HELD: usize = 64;
 
 /// The jobs that services left unserved lately, by whichever worker: the last 256, how often each was left and when last, and which worker
-/// holds it before it is given back, if one does. 64 jobs are held at once at most, and one that is held is not forgotten. Its memory is
-/// all taken by `new`: no later call needs any, or can fail. Clauses see it as the list of its jobs: the one that was left last stands at
-/// the end.
+/// holds it before it is given back, if one does. 64 jobs are held at once at most, and one that is held gives way to no other. All its
+/// memory is taken by `new`: no later call needs any, or can fail. Clauses see it as the list of its jobs: the one that was left last
+/// stands at the end.
 #[derive(Drop)]
 pub struct UnservedJobs {
     jobs: Vec<UnservedJob>,
@@ -77,6 +77,13 @@ fn make_room(jobs: &mut Vec<UnservedJob>)
     }
 }
 
+/// The job that this worker holds, if it holds one.
+fn held_by<'j>(jobs: &'j [UnservedJob], worker: &WorkerName) -> Option<&'j UnservedJob>
+    ensures { option_copied result ≡ find (spec.is_held_by worker.now) jobs.now }
+{
+    jobs.iter().find(|left| left.is_held_by(worker))
+}
+
 /// How many of the jobs are held.
 fn held_in(jobs: &[UnservedJob]) -> usize
     ensures { result ≡ spec.held_count jobs.now }
@@ -85,8 +92,8 @@ fn held_in(jobs: &[UnservedJob]) -> usize
 }
 
 /// The worker holds none of these jobs any more.
-fn give_back_in(jobs: &mut [UnservedJob], worker: WorkerName)
-    ensures { jobs.new ≡ map (spec.given_back worker) jobs.old }
+fn give_back_in(jobs: &mut [UnservedJob], worker: &WorkerName)
+    ensures { jobs.new ≡ map (spec.given_back worker.now) jobs.old }
 {
     for left in jobs.iter_mut() {
         left.give_back(worker);
@@ -115,8 +122,8 @@ impl UnservedJobs {
     }
 
     /// The job was left unserved now, by this clock. How often it was left, this time included. One that was last left 10 minutes ago or
-    /// longer counts as new, and so does one that is not among the last 256. If 256 others are known, the one that was left longest ago gives
-    /// way, of those that nobody holds.
+    /// longer counts as new, and so does one that is not among the last 256. If 256 others are known, the one that was left longest ago
+    /// gives way, of those that nobody holds.
     pub fn note(&mut self, job: &Handle, now_ms: u64) -> u32
         ensures times { result ≡ spec.times_now now_ms (spec.known job.now self.old) }
         ensures jobs { self.new ≡ spec.after_left job.now now_ms self.old }
@@ -135,8 +142,7 @@ impl UnservedJobs {
     /// holds already; and with any if 64 are held.
     pub fn hold(&mut self, worker: WorkerName, job: &Handle) -> Option<u32>
         ensures time { result ≡ spec.next_hold_ms job.now self.old }
-        ensures held { IfSome result (λ _. IfSome (spec.known job.now self.old)
-            (λ left. self.new ≡ spec.with_job (spec.held_by worker left) self.old)) }
+        ensures held { IfSome result (λ _. self.new ≡ spec.once_held worker job.now self.old) }
         ensures not_held { IfNone result (self.new ≡ self.old) }
     {
         if held_in(&self.jobs) >= MOST_HELD {
@@ -155,15 +161,14 @@ impl UnservedJobs {
     pub fn hold_of(&self, worker: WorkerName) -> Option<u32>
         ensures { result ≡ spec.own_hold_ms worker self.now }
     {
-        let left = self.jobs.iter().find(|left| left.is_held_by(worker))?;
-        hold_ms(left.times)
+        hold_ms(held_by(&self.jobs, &worker)?.times)
     }
 
     /// The worker gives back what it holds. What others hold stays held.
     pub fn give_back(&mut self, worker: WorkerName)
         ensures { self.new ≡ map (spec.given_back worker) self.old }
     {
-        give_back_in(&mut self.jobs, worker);
+        give_back_in(&mut self.jobs, &worker);
     }
 
     /// The job was answered: it does not come again.
