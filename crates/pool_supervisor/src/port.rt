@@ -38,8 +38,8 @@ pub trait Watch {
         true
     }
 
-    /// Called when a worker's session has ended, before its link is closed. Until this returns, the job server waits for the answer to a job
-    /// that the worker left, and gives it to nobody else. The worker's slot is empty meanwhile, and may have another worker.
+    /// Called when a worker's session has ended, before its link is closed. Until this returns, the job server waits for the answer to a
+    /// job that the worker left, and gives it to nobody else. The worker's slot is empty meanwhile, and may have another worker.
     fn before_hang_up(&self, _worker: WorkerName) {}
 }
 
