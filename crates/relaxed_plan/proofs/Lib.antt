@@ -1,0 +1,4 @@
+pub mod Rows
+pub mod Left
+pub mod Turns
+pub mod Counts

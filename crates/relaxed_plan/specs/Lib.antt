@@ -1,0 +1,2 @@
+pub mod Relaxed
+pub mod Least

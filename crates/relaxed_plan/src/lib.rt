@@ -1,0 +1,14 @@
+//! A plan for as much as can be met, if no plan meets all least numbers.
+//!
+//! A problem without a plan has a set of functions that need more workers than may do any of them. [`relaxed_plan`] lets these functions
+//! off: their least numbers are 0 then. It solves what is left, lets off the next such set if there is one, and so on, until there is a
+//! plan. So functions that lack workers take none from the others.
+#![tactic(auto)]
+
+mod law;
+mod letting_off;
+mod relaxing;
+
+pub use law::short_has_least;
+pub use letting_off::let_off;
+pub use relaxing::{Relaxed, relaxed_plan};
