@@ -38,7 +38,7 @@ class Stage:
         self.program, self.functions, self.machines, self.keys = program, functions, machines, keys
         self.folder = tempfile.mkdtemp(prefix="page-")
         self.processes = Processes(self.folder)
-        self.server = Gearmand(*options)
+        self.server = self.start_server(options)
         page, *places = ports(1 + len(machines))
         self.listen, self.page = f"{listen}:{page}", Page(page, PATIENCE)
         self.places = dict(zip(machines, places))
@@ -52,6 +52,9 @@ class Stage:
         self.server.stop()
         if failure is None:
             shutil.rmtree(self.folder)
+
+    def start_server(self, options):
+        return Gearmand(*options)
 
     def settings(self):
         keys = {"server": f"{HOST}:{self.server.port}", "lull_ms": 20, **self.keys}
