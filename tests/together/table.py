@@ -73,7 +73,7 @@ RUN_ONLY = (
     ("program", "drain_command", "fault_detail", "run_command", "settings_command", "tests_run_command"),
     ("tests_pool_supervisor", "farm_hosts", "http_jobs", "pool_supervisor", "tests_job_runner"),
 )
-MEMORY = (("served", "open_job", "supervised"), ("commands",), ("machine", "relaxing", "service", "session", "sizing", "texts"))
+MEMORY = (("served", "open_job", "supervised"), ("commands",), ("machine", "relaxing", "service", "session", "sizing", "texts", "turns"))
 
 
 def run_only_parts():

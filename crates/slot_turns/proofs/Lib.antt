@@ -1,0 +1,3 @@
+pub mod Order
+pub mod Coming
+pub mod Marked
