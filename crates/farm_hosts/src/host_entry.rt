@@ -61,7 +61,7 @@ pub struct HostEntry {
     pub tries: u64,
     /// How many of its workers joined in this attempt.
     pub joined: u32,
-    /// How many of its workers are alive.
+    /// How many of its workers have joined, and were not seen to end. One whose link is held still counts.
     pub alive: u32,
     /// How many attempts pass at most before it is dialled again if it takes no connection.
     pub longest_unreached: u64,

@@ -38,6 +38,6 @@ abbrev pub IsGivenUp : Instance → List ℕ → Type 0
 IsGivenUp i set = (later : List (List ℕ)) × AreShortInTurn i (set ∷ later) × (length later ≡ 64)
 
 -- The answer is a plan.
-abbrev pub HasPlan : Answer → Type 0
-HasPlan (Planned entries backlog short) = Unit {0}
-HasPlan (NoPlan set) = ⊥
+abbrev pub IsPlanned : Answer → Type 0
+IsPlanned (Planned entries backlog short) = Unit {0}
+IsPlanned (NoPlan set) = ⊥

@@ -1,8 +1,8 @@
-//! A plan for as much as can be met, if no plan meets all least numbers.
+//! A plan that leaves out least numbers of functions that are short of workers, if no plan meets all.
 //!
 //! A problem without a plan has a set of functions that need more workers than may do any of them. [`relaxed_plan`] lets these functions
 //! off: their least numbers are 0 then. It solves what is left, lets off the next such set if there is one, and so on, until there is a
-//! plan. So functions that lack workers take none from the others.
+//! plan. So functions that lack workers take none that the least numbers of the others need.
 #![tactic(auto)]
 
 mod law;

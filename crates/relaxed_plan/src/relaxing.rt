@@ -6,7 +6,7 @@ ghost use Rattle.plan_model.specs.Planning.{IsShort, top_level};
 ghost use Rattle.plan_model.specs.Shown.{Shown};
 ghost use Rattle.level_search.specs.Steady.{IsSteady};
 ghost use Rattle.relaxed_plan.specs.Least.{least_count};
-ghost use Rattle.relaxed_plan.specs.Relaxed.{AreLetOff, HasPlan, IsGivenUp, let_off_of};
+ghost use Rattle.relaxed_plan.specs.Relaxed.{AreLetOff, IsGivenUp, IsPlanned, let_off_of};
 
 use crate::letting_off::let_off;
 use bumpalo::Bump;
@@ -17,7 +17,7 @@ use std::alloc::{AllocError, Global};
 /// No more problems than this are solved for one plan.
 const MAX_SOLVES: u32 = 64;
 
-/// A plan for as much as can be met.
+/// A plan that leaves out least numbers of functions that are short of workers.
 #[derive(Drop)]
 pub struct Relaxed {
     /// The problem in which the functions that are let off have least numbers of 0, with its best plan.
@@ -60,18 +60,18 @@ fn solved(alloc: Global, input: Input, previous: Option<&Plan>) -> Result<Certif
     Ok(Certified::of(input, solved.answer))
 }
 
-/// A plan for as much as can be met, of a problem that has no plan.
+/// A plan that leaves out least numbers of functions that are short of workers, of a problem that has no plan.
 ///
 /// The condition is a set of functions that shows this: it is short of workers at the top level (Hall's theorem, with demands), as
 /// [`Answer::NoPlan`] has it. The set is let off, as [`let_off`] says: the least numbers of its functions are 0, and nothing else changes.
 /// What is left is solved. If it has no plan either, the set that shows this is let off too, and so on. So whoever is let off is in a set
-/// without which there is no plan.
+/// of which some function has to be let off; which one, nothing says.
 ///
 /// The plan is best for the problem that is left. A previous plan that is best for it too, and leaves nobody idle who may do a function
 /// below its greatest number, is the plan again, cut to live workers, permitted functions and greatest numbers.
 ///
-/// At most 64 problems are solved. The answer is `None` if none of them has a plan: then 64 more sets are short in turn, and more than 64
-/// functions have a least number above 0. The only error is out of memory.
+/// At most 64 problems are solved. The answer may be `None` only if 64 more sets are short in turn; then more than 64 functions have a least
+/// number above 0. The only error is out of memory.
 pub fn relaxed_plan(
     alloc: Global,
     input: &Input,
@@ -82,7 +82,7 @@ pub fn relaxed_plan(
     ensures let_off { IfOk result (λ found. IfSome found (λ relaxed. AreLetOff input.now short.now relaxed.let_off)) }
     ensures left { IfOk result
         (λ found. IfSome found (λ relaxed. relaxed.certified.input ≡ let_off_of input.now relaxed.let_off)) }
-    ensures planned { IfOk result (λ found. IfSome found (λ relaxed. HasPlan relaxed.certified.answer)) }
+    ensures planned { IfOk result (λ found. IfSome found (λ relaxed. IsPlanned relaxed.certified.answer)) }
     ensures shown { IfOk result
         (λ found. IfSome found (λ relaxed. Shown (let_off_of input.now relaxed.let_off) relaxed.certified.answer)) }
     ensures steady { IfOk result (λ found. IfSome found

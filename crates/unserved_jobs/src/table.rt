@@ -139,7 +139,7 @@ impl UnservedJobs {
 
     /// From now on the worker, which left the job, holds it, until `give_back`. For how many milliseconds it is to hold it (`hold_ms`).
     /// None: it does not hold it, and gives it back at once. That is so of a job that was left once or is not known, of one that somebody
-    /// holds, and of any if 64 are held.
+    /// holds, and of any if 64 are held. A worker that holds another job holds both.
     pub fn hold(&mut self, worker: WorkerName, job: &Handle) -> Option<u32>
         ensures time { result ≡ spec.next_hold_ms job.now self.old }
         ensures held { IfSome result (λ _. self.new ≡ spec.once_held worker job.now self.old) }
