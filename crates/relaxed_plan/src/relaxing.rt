@@ -70,8 +70,8 @@ fn solved(alloc: Global, input: Input, previous: Option<&Plan>) -> Result<Certif
 /// The plan is best for the problem that is left. A previous plan that is best for it too, and leaves nobody idle who may do a function
 /// below its greatest number, is the plan again, cut to live workers, permitted functions and greatest numbers.
 ///
-/// At most 64 problems are solved. The answer may be `None` only if 64 more sets are short in turn; then more than 64 functions have a least
-/// number above 0. The only error is out of memory.
+/// At most 64 problems are solved. The answer may be `None` only if 64 more sets are short in turn; then more than 64 functions have a
+/// least number above 0. The only error is out of memory.
 pub fn relaxed_plan(
     alloc: Global,
     input: &Input,
