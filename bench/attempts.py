@@ -41,8 +41,9 @@ HERE = os.path.dirname(os.path.abspath(__file__))
 sys.path[:0] = [f"{HERE}/gearmand", *[f"{HERE}/../tests/{name}" for name in ("gearmand", "page", "serve", "together")]]
 sys.path.append(f"{HERE}/starving")
 
-from farm import FAILED, HOST, Client, Gearmand, held, wait_until
-from stage import PATIENCE, Stage
+from farm import FAILED, HOST, Client, held, wait_until
+from runs import Run, Server
+from stage import PATIENCE
 from starting import drain, untimed
 from turns import Experiment, Figure, Found, Row, main
 from wire import OTHERS, Wire, be_alone
@@ -65,7 +66,7 @@ COUNTED_S, JOB_S = 5, 5
 SECONDS = "{:.2f} s"
 
 
-class OpenGearmand(Gearmand):
+class OpenGearmand(Server):
     """A gearmand that listens at all addresses."""
 
     def start(self):
@@ -78,14 +79,13 @@ class OpenGearmand(Gearmand):
         self.folder.cleanup()
 
 
-class Farm(Stage):
+class Farm(Run):
     """A farm whose job server is behind the wire, under a name that has so many addresses."""
 
     def __init__(self, program, slots=64, addresses=1):
         super().__init__(program.path, {"echo": {"least": 1}}, {"north": (slots, ["echo"])}, round_ms=ROUND_MS, lull_ms=LULL_MS)
         self.keys["server"] = f"{SERVER}:{self.server.port}"
-        self.slots = slots
-        name_server(self.folder, OTHERS[:addresses])
+        self.slots, self.addresses = slots, OTHERS[:addresses]
 
     def start_server(self, options):
         return OpenGearmand("--file-descriptors=8192", *options)
@@ -93,6 +93,7 @@ class Farm(Stage):
     def start_all(self):
         """Starts the service and poolman. The moment at which that is started."""
         self.start_service("north", f"{HERE}/starving/service.py", f"{self.folder}/busy")
+        name_server(self.folder, self.addresses)
         begin = time.monotonic()
         self.start()
         return begin
@@ -235,7 +236,7 @@ def few_files(program):
     """How many workers each machine has if the farm may open too few files."""
     machines = {name: (EACH, [f"work_{name}"]) for name in MACHINES}
     functions = {f"work_{name}": {} for name in MACHINES}
-    with Stage(program.path, functions, machines, round_ms=ROUND_MS, lull_ms=LULL_MS) as stage:
+    with Run(program.path, functions, machines, round_ms=ROUND_MS, lull_ms=LULL_MS) as stage:
         for name in machines:
             stage.start_service(name, f"{HERE}/starving/service.py", f"{stage.folder}/busy")
         with limit_of_files(FILES):

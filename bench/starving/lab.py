@@ -11,7 +11,8 @@ import time
 import stage
 from clients import ASKED, OTHER, Clients
 from farm import Client, held, wait_until
-from stage import PATIENCE, Stage
+from runs import Run
+from stage import PATIENCE
 from starting import untimed
 from turns import Figure, Found, Row
 
@@ -94,7 +95,7 @@ class Part:
         return f"  {self.name}: {'  '.join(facts)}\n    page: {pages}"
 
 
-class Lab(Stage):
+class Lab(Run):
     """A job server with so many `--job-retries`, or with its default, hosts, a farm, and clients. The services file has these keys for each
     function, and the program's."""
 
@@ -112,13 +113,7 @@ class Lab(Stage):
     def __exit__(self, failure, *more):
         if self.clients:
             self.clients.end()
-        if failure is not None:
-            print(f"  the logs are in {self.folder}")
-        try:
-            super().__exit__(failure, *more)
-        finally:
-            if self.server.process.poll() is None:
-                self.server.kill()
+        super().__exit__(failure, *more)
 
     def services(self):
         tables = [stage.table("functions", name, self.service_keys) for name in self.functions if self.service_keys]
