@@ -1,7 +1,7 @@
 #!/usr/bin/env python3
 """How long attempts and drains take in an outage: bench/attempts.py PROGRAM.. [EXPERIMENT..] [--turns N]
 
-Wants Debian's gearman-job-server, unshare, mount, /dev/net/tun (so mostly root), and 4,096 descriptors (`ulimit -n`). All happens in a
+Wants Debian's gearman-job-server, unshare, mount, /dev/net/tun (so mostly root), and 8,192 descriptors (`ulimit -n`). All happens in a
 network namespace of its own, where the job server is reached over a wire of this script: it can take its time, or lose all packets, as if
 the job server's machine were off. Attempts are a second apart, and `lull_ms` is 100, so that a connection may take 6.5 seconds.
 
@@ -19,11 +19,12 @@ EXPERIMENT is one of these, by default all. A name without what comes after `:` 
 - few_files: 8 machines with 8 workers each, a function for each machine, and descriptors for some half of the workers. Told are the workers
   alive of each machine five seconds after the start, and how many of the 8 functions then do a job within five seconds
 
-Other numbers are from 1 to 8 addresses and from 1 to 2,048 slots. An attempt, a drain and a start are given up after a minute.
+Other numbers are from 1 to 8 addresses and from 1 to 2,048 slots. `--seconds` changes nothing.
 
-At the end there is a table, with the median of the turns; a minus means that it did not happen. A run takes from ten seconds to a minute,
-and all with two programs some six minutes. If one goes wrong that is said, with the folder of its logs; the others are made all the same,
-and the exit status is 1.
+At the end there is a table, with the median of the turns; a minus means that it had not happened a minute after the start, or that no run
+went well. If a drain, the end of its process or the start before it takes over a minute, the run goes wrong. A run takes from ten seconds
+to a minute, and all with two programs some six minutes. If one goes wrong that is said, with the folder of its logs; the others are made
+all the same, and the exit status is 1.
 """
 import contextlib
 import os

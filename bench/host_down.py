@@ -6,7 +6,7 @@ Wants Debian's gearman-job-server. A farm has two hosts with four workers each, 
 is measured for ten seconds, or for N, in each part. PROGRAM, what is started, the turns, and the lines that are printed are those of
 bench/starving.py.
 
-EXPERIMENT is one of these, by default all. Each ends with the host back, and `mail` served.
+EXPERIMENT is one of these, by default all. Each ends with the host back.
 
 - off_from_the_start: the farm is started while the other host is off, and clients wait for it. The rate with both hosts is the reference
 - goes_away:restart: the other host is killed, and then the job server is killed and started again, so that each worker has to be replaced
@@ -15,7 +15,7 @@ EXPERIMENT is one of these, by default all. Each ends with the host back, and `m
 
 The table has for each part: how many milliseconds after its beginning `resize` had its first job done, jobs/s, and what that is of the rate
 before. The beginning of off_from_the_start is the start of the program, and after a restart it is the moment at which the job server
-listens again. A minus means that no job was done. A run takes a minute at most, and all with two programs six.
+listens again. A minus means that no job was done. A run takes about a minute, and all with two programs six.
 """
 import os
 import sys
