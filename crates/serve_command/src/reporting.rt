@@ -23,6 +23,7 @@ use run_command::{attempt_told, end_notes, gave_no_status};
 use std::alloc::{AllocError, Global};
 use std::sync::{Mutex, Wait};
 use std::thread::Threads;
+use unserved_jobs::UnservedJobs;
 use worker_state::WorkerName;
 
 /// What the attempts of a run came to so far.
@@ -167,6 +168,16 @@ impl<'e, H: Threads> Threads for Reporting<'e, H> {}
 
 impl<'e, H: Wait> Wait for Reporting<'e, H> {}
 
+/// For how many milliseconds the worker is to hold its job, if it holds one.
+fn hold_of<R: Wait>(rt: &R, unserved: &Mutex<UnservedJobs>, worker: WorkerName) -> Option<u32> {
+    unserved.lock(rt).hold_of(worker)
+}
+
+/// The worker gives back what it holds.
+fn give_back<R: Wait>(rt: &R, unserved: &Mutex<UnservedJobs>, worker: WorkerName) {
+    unserved.lock(rt).give_back(worker);
+}
+
 impl<'e, H: FarmHost> Watch for Reporting<'e, H> {
     fn now_ms(&self) -> Option<u64> {
         self.host.now_ms()
@@ -230,12 +241,12 @@ impl<'e, H: FarmHost> Watch for Reporting<'e, H> {
     /// A job that no service serves would go round all workers, and end each. So a worker that left one which was left before holds it for
     /// a while, and the job server gives it to nobody. Not once the farm has to end.
     fn before_hang_up(&self, worker: WorkerName) {
-        let held_ms = self.books.unserved.lock(self).hold_of(worker);
-        let Some(milliseconds) = held_ms else {
-            return;
-        };
-        self.host.rest(milliseconds);
-        self.books.unserved.lock(self).give_back(worker);
+        let WorkerName { slot, generation } = worker;
+        let held_ms = hold_of(self, self.books.unserved, WorkerName { slot, generation });
+        if let Some(milliseconds) = held_ms {
+            self.host.rest(milliseconds);
+            give_back(self, self.books.unserved, WorkerName { slot, generation });
+        }
     }
 }
 
