@@ -1,8 +1,10 @@
 pub mod Called
 pub mod Counts
+pub mod FarmPosts
 pub mod Late
 pub mod Published
 pub mod Rounds
 pub mod Seen
 pub mod Sessions
 pub mod Tries
+pub mod Turns

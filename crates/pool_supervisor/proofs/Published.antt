@@ -1,6 +1,6 @@
 -- The orders of the first slots, posted one by one.
-use Rattle.std.proofs.Common.{◌≡◌, ◌≢◌, ◌≤◌, ℕ, ◌+◌, List, [], ◌∷◌, ◌++◌, length, Bool, true, false, refl, sym, ap, subst, ◌∙◌, arith}
-use Rattle.std.specs.Prelude.{nat_lt, if◌then◌else◌, slice_get, Some}
+use Rattle.std.proofs.Common.{◌≡◌, ◌≢◌, ◌≤◌, ◌<◌, ℕ, ◌+◌, List, [], ◌∷◌, ◌++◌, length, Bool, true, false, refl, sym, ap, subst, ◌∙◌, arith}
+use Rattle.std.specs.Prelude.{nat_lt, if◌then◌else◌, slice_get, Option, Some}
 use Rattle.std.proofs.lemmas.Option.{get_or_from_slice_get}
 use Rattle.std.proofs.lemmas.List.{append-nil, get_or_past}
 use Rattle.std.proofs.lemmas.Bool.{lt-ltb, le-ltb, ltb-true, ltb-false}
@@ -10,14 +10,17 @@ use native.Mathlib.Decide.{ℕ_discrete}
 use Rattle.worker_state.specs.OrderParts.{OrderParts}
 use Rattle.worker_state.specs.Slots.{is_live}
 use Rattle.worker_state.specs.Orders.{no_order}
-use Rattle.worker_state.specs.declared.order.What.TheVariants.{Stop}
+use Rattle.plan_model.specs.Planning.{assigned}
+use Rattle.worker_state.specs.declared.order.What.{What}
+use Rattle.worker_state.specs.declared.order.What.TheVariants.{Idle, Stop}
 use Rattle.worker_state.specs.declared.slot.Slot.{Slot}
 use Rattle.worker_state.specs.declared.slot.Slot.TheVariants.{Empty}
 use Rattle.order_board.specs.declared.view.Post.{Post}
 use Rattle.order_board.specs.Posts.{posts_of}
-use Rattle.pool_core.specs.Machine.{State}
+use Rattle.pool_core.specs.Machine.{State, slot_in}
 use Rattle.pool_core.specs.Laws.{order_at}
 use Rattle.pool_supervisor.specs.Published.{ArePosted, live_order, stop_order}
+use Rattle.pool_supervisor.specs.FarmPosts.{plan_order, standing_order, what_at, what_by}
 
 -- the orders of the slots below this one
 abbrev pub orders_below : (ℕ → List OrderParts) → ℕ → ℕ → List OrderParts
@@ -79,3 +82,29 @@ stop_here state j order there at_order =
 
 pub no_stop_past : (state : State) (s : ℕ) → length state.slots ≤ s → stop_order state s ≡ []
 no_stop_past state s past = ap (λ (b : Bool). if b then record (order_at state.orders s) { what = Stop } ∷ [] else []) (le-ltb s (length state.slots) past)
+
+-- the order of a slot after a plan, by what was read
+pub standing_here : (state : State) (j : ℕ) (slot : Slot) (order : OrderParts) (what : What) → j < length state.slots → slice_get state.slots j ≡ Some slot → slice_get state.orders j ≡ Some order
+    → what ≡ (if is_live slot then order.what else Idle) → standing_order state j ≡ record order { what = what } ∷ []
+standing_here state j slot order what there at at_order is =
+    let same = get_or_from_slice_get state.slots j slot (Empty 0) at in
+    let same_order = get_or_from_slice_get state.orders j order no_order at_order in
+    ap (λ (b : Bool). if b then record (order_at state.orders j) { what = what_at state j } ∷ [] else []) (lt-ltb j (length state.slots) there)
+    ∙ (ap (λ (o : OrderParts). record o { what = if is_live (slot_in state.slots j) then o.what else Idle } ∷ []) same_order
+    ∙ (ap (λ (s : Slot). record order { what = if is_live s then order.what else Idle } ∷ []) same
+    ∙ ap (λ (w : What). record order { what = w } ∷ []) (sym is)))
+
+-- what a plan gives a slot, by what was read
+pub plan_here : (plan : List (ℕ × Option ℕ)) (round : ℕ) (state : State) (j : ℕ) (order : OrderParts) (what : What) → j < length state.slots → slice_get state.orders j ≡ Some order
+    → what ≡ what_by (assigned plan j) → plan_order plan round state j ≡ record order { round = round; what = what } ∷ []
+plan_here plan round state j order what there at_order is =
+    ap (λ (b : Bool). if b then record (order_at state.orders j) { round = round; what = what_by (assigned plan j) } ∷ [] else []) (lt-ltb j (length state.slots) there)
+    ∙ (ap (λ (o : OrderParts). record o { round = round; what = what_by (assigned plan j) } ∷ []) (get_or_from_slice_get state.orders j order no_order at_order)
+    ∙ ap (λ (w : What). record order { round = round; what = w } ∷ []) (sym is))
+
+pub no_standing_past : (state : State) (s : ℕ) → length state.slots ≤ s → standing_order state s ≡ []
+no_standing_past state s past = ap (λ (b : Bool). if b then record (order_at state.orders s) { what = what_at state s } ∷ [] else []) (le-ltb s (length state.slots) past)
+
+pub no_plan_past : (plan : List (ℕ × Option ℕ)) (round : ℕ) (state : State) (s : ℕ) → length state.slots ≤ s → plan_order plan round state s ≡ []
+no_plan_past plan round state s past =
+    ap (λ (b : Bool). if b then record (order_at state.orders s) { round = round; what = what_by (assigned plan s) } ∷ [] else []) (le-ltb s (length state.slots) past)

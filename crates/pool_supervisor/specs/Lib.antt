@@ -3,6 +3,7 @@ pub mod Boards
 pub mod Counted
 pub mod Dials
 pub mod EndCounts
+pub mod FarmPosts
 pub mod JobCounts
 pub mod Joined
 pub mod Lines

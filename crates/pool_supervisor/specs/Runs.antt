@@ -10,9 +10,10 @@ use Rattle.pool_supervisor.specs.declared.attempts.Until.TheVariants.{Rounds, En
 use Rattle.pool_supervisor.specs.declared.run_end.RunEnd.{RunEnd}
 use Rattle.pool_supervisor.specs.Counted.{CountAHistory}
 use Rattle.pool_supervisor.specs.Dials.{DialCall}
-use Rattle.pool_supervisor.specs.Rounds.{AreNoted, TellRun}
-use Rattle.pool_supervisor.specs.Sessions.{PastSession}
-use Rattle.pool_supervisor.specs.Tries.{Dials, Rule}
+use Rattle.pool_supervisor.specs.FarmPosts.{PostAndStopBy, TellsBy}
+use Rattle.pool_supervisor.specs.Rounds.{AreNoted}
+use Rattle.pool_supervisor.specs.Sessions.{Counts, PastSession}
+use Rattle.pool_supervisor.specs.Tries.{Attempts, DialsBy, LooksBy, Rule}
 
 -- how many lines are kept
 abbrev pub most_kept : Until → ℕ
@@ -23,6 +24,12 @@ most_kept Ended = 0
 abbrev pub Keeps : Until → List Attempt → List Attempt → Type 0
 Keeps (Rounds rounds) lines kept = (kept ≡ lines) × (length lines ≡ rounds)
 Keeps Ended lines kept = kept ≡ []
+
+-- All attempts of a run were made, which added these lines, and Stop was posted after the last of them.
+abbrev pub MakesAll : Until → Settings → Rule → (PastSession → Type 0) → List Attempt → List Attempt → List Post → List Post
+    → Counts → Counts → Option (List DialCall) → Option (List DialCall) → Type 0
+MakesAll until settings allows had_jobs old all posts posted first last before now =
+    PostAndStopBy until settings old all posts posted × Attempts until settings allows had_jobs old all first last before now
 
 -- One history of a pool of these settings has all: the totals count its events, so many of its chapters ended, and the lines report its
 -- rounds, each as what it came to, in order, and no other round.
@@ -36,6 +43,6 @@ pub record IsRun (settings : Settings) (allows : Rule) (had_jobs : PastSession �
     (run : RunEnd) (posts : List Post) (before now : Option (List DialCall)) : Type 0 where
   pub lines : List Attempt
   pub keeps : Keeps until lines run.lines.items
-  pub tells : TellRun settings old lines posts
-  pub dials : Dials settings allows had_jobs old lines run before now
+  pub tells : TellsBy until settings old lines posts
+  pub dials : DialsBy (LooksBy until settings allows) settings had_jobs old lines run before now
   pub history : AreOfOneHistory settings run.totals run.chapters lines

@@ -5,14 +5,17 @@ ghost use Rattle.job_runner.specs.Run.{seen_link};
 ghost use Rattle.order_board.specs.declared.view.Post.{Post};
 ghost use Rattle.pool_supervisor.specs.Asking.{Tells};
 ghost use Rattle.pool_supervisor.specs.Dials.{IsNew};
-ghost use Rattle.pool_supervisor.specs.Rounds.{AreNoted, Notes, PostAndStop, Posts, PostSince, StopsAll};
-ghost use Rattle.pool_supervisor.specs.Runs.{IsRun, Keeps, most_kept};
+ghost use Rattle.pool_supervisor.specs.FarmPosts.{AttemptPosts, PostSinceBy, PostsBy, PostsMore};
+ghost use Rattle.pool_supervisor.specs.Rounds.{AreNoted, Notes, StopsAll};
+ghost use Rattle.pool_supervisor.specs.Runs.{IsRun, Keeps, MakesAll, most_kept};
 ghost use Rattle.pool_supervisor.specs.Sessions.{Covers, HadJobs, no_counts};
-ghost use Rattle.pool_supervisor.specs.Tries.{Attempts, Fills, FillsOne};
+ghost use Rattle.pool_supervisor.specs.Tries.{Attempts, Fills, FillsBy, FillsOne};
+ghost use Rattle.slot_turns.specs.Turns.{IsEachSlotOnce};
 
 use crate::attempt::Attempt;
 use crate::crew::Crew;
 use crate::dial::Dial;
+use crate::filling::Filling;
 use crate::jobs::JobSource;
 use crate::news::{Attempted, JoinedWorker, Progress};
 use crate::place::{Place, RunId, RunRounds};
@@ -25,6 +28,8 @@ use byte_io::{Sink, Source};
 use order_board::{PublisherSeat, SeatSource};
 use plan_model::SlotId;
 use pool_core::{Chapter, JoinError, Pass};
+use relaxed_plan::Relaxed;
+use slot_turns::SlotTurns;
 use std::alloc::AllocError;
 use std::marker::PhantomData;
 use std::sync::Wait;
@@ -77,10 +82,16 @@ pub struct Supervisor<'e, N: RunId, L: Source + Sink, Y, P, J: JobSource, C, R> 
     pub crew: Crew<N, L>,
     /// Its seats at the board.
     pub seats: Seats,
+    /// The order in which slots have their turns, in a run that goes on until its watch ends it.
+    pub turns: SlotTurns,
     /// The rounds so far, as it tells them.
     pub rounds: RunRounds<N>,
     /// The longest queue per worker under the plan of this attempt. None if it has none yet, or if no job waits.
     pub longest: Option<Queue>,
+    /// The plan whose orders were posted, if the last round had none and there is a relaxed one.
+    pub relaxed: Option<Relaxed>,
+    /// Each slot has its turns.
+    pub ghost each_once: { ∥ IsEachSlotOnce N.settings turns ∥₁ },
     /// The seats are at the run's board.
     pub ghost can_post: { seats.publisher.board ≡ N.board },
     pub ghost can_seat: { seats.source.board ≡ N.board },
@@ -125,8 +136,15 @@ impl<'e, N: RunId, J, C: Watch, R: Wait> Site<'e, N, J, C, R> {
         self.run.alive(&held)
     }
 
+    /// The most workers that one slot has had.
+    fn most_used(&self) -> u32 {
+        let held = self.shared.hold(self.lent.rt);
+        held.facts();
+        self.run.most_used(&held)
+    }
+
     /// Loses each worker whose job is late. It is left out if no time is known.
-    fn expire_late(&self) {
+    pub fn expire_late(&self) {
         let Some(now_ms) = self.lent.watch.now_ms() else {
             return;
         };
@@ -181,9 +199,10 @@ impl<
         L: 's,
         requires slot { slot < slot_count N.settings }
         requires fresh { IsNew (seen_link L.input L.output link) }
-        ensures posts { self.new.seats.publisher ≡ self.old.seats.publisher }
+        ensures posts { PostsMore N.until self.old.seats.publisher.posts self.new.seats.publisher.posts }
         ensures rounds { self.new.rounds ≡ self.old.rounds }
         ensures dial { self.new.dial ≡ self.old.dial }
+        ensures turns { self.new.turns ≡ self.old.turns }
         ensures counts { self.new.crew.counts ≡ self.old.crew.counts }
     {
         let site = self.site;
@@ -202,6 +221,8 @@ impl<
             of: PhantomData,
         };
         let name = pass.name();
+        site.run
+            .hand_on(&mut self.seats.publisher, slot, name.generation);
         let worker = Enrolled { pass, place };
         match site.start(scope, &mut self.crew, berth, link, worker) {
             Ok(()) => {
@@ -217,14 +238,19 @@ impl<
 
     /// Dials for the slot if it is empty and may have a worker, and starts a session if there is a link, room and a worker. The error is
     /// that a thread could not be started.
-    fn start_one<'s>(&mut self, scope: &Scope<'s, &'e ()>, slot: SlotId) -> Result<(), AllocError>
+    pub fn start_one<'s>(
+        &mut self,
+        scope: &Scope<'s, &'e ()>,
+        slot: SlotId,
+    ) -> Result<(), AllocError>
     where
         'e: 's,
         N: 's,
         L: 's,
         requires slot { slot < slot_count N.settings }
-        ensures posts { self.new.seats.publisher ≡ self.old.seats.publisher }
+        ensures posts { PostsMore N.until self.old.seats.publisher.posts self.new.seats.publisher.posts }
         ensures rounds { self.new.rounds ≡ self.old.rounds }
+        ensures turns { self.new.turns ≡ self.old.turns }
         ensures counts { self.new.crew.counts ≡ self.old.crew.counts }
         ensures fills { FillsOne N.allows slot (Y.calls self.old.dial) (Y.calls self.new.dial) }
     {
@@ -247,7 +273,7 @@ impl<
         'e: 's,
         N: 's,
         L: 's,
-        ensures posts { self.new.seats.publisher ≡ self.old.seats.publisher }
+        ensures posts { PostsMore N.until self.old.seats.publisher.posts self.new.seats.publisher.posts }
         ensures rounds { self.new.rounds ≡ self.old.rounds }
         ensures counts { self.new.crew.counts ≡ self.old.crew.counts }
         ensures fills { OnOk result (Fills N.allows (slot_count N.settings) (Y.calls self.old.dial) (Y.calls self.new.dial)) }
@@ -256,6 +282,27 @@ impl<
             self.start_one(scope, SlotId::new(number))?;
         }
         Ok(())
+    }
+
+    /// Starts sessions in empty slots: by [`Supervisor::start_all`] in a run of so many attempts. In another, workers whose jobs are late are
+    /// lost first, and [`Supervisor::start_in_turn`] does it. The error is that a thread could not be started.
+    fn fill<'s>(&mut self, scope: &Scope<'s, &'e ()>) -> Result<(), AllocError>
+    where
+        'e: 's,
+        N: 's,
+        L: 's,
+        ensures posts { PostsMore N.until self.old.seats.publisher.posts self.new.seats.publisher.posts }
+        ensures rounds { self.new.rounds ≡ self.old.rounds }
+        ensures counts { self.new.crew.counts ≡ self.old.crew.counts }
+        ensures fills { OnOk result (FillsBy N.until N.settings N.allows (Y.calls self.old.dial) (Y.calls self.new.dial)) }
+    {
+        match self.site.run.until {
+            Until::Rounds(_) => self.start_all(scope),
+            Until::Ended => {
+                self.site.expire_late();
+                self.start_in_turn(scope, Filling::Attempt)
+            }
+        }
     }
 
     /// Posts Stop to the worker of every slot.
@@ -273,7 +320,7 @@ impl<
 
     /// What the server says, and then a plan for it.
     fn make_round(&mut self) -> Attempt
-        ensures posts { Posts N.settings result self.old.seats.publisher.posts self.new.seats.publisher.posts }
+        ensures posts { PostsBy N.until N.settings result self.old.seats.publisher.posts self.new.seats.publisher.posts }
         ensures notes { Notes result self.old.rounds self.new.rounds }
         ensures crew { self.new.crew ≡ self.old.crew }
         ensures tells { Tells result (Y.calls self.old.dial) (Y.calls self.new.dial) }
@@ -291,18 +338,19 @@ impl<
         N: 's,
         L: 's,
         ensures posts { IfOk result
-            (λ line. Posts N.settings line self.old.seats.publisher.posts self.new.seats.publisher.posts) }
+            (λ line. AttemptPosts N.until N.settings line self.old.seats.publisher.posts self.new.seats.publisher.posts) }
         ensures notes { IfOk result (λ line. Notes line self.old.rounds self.new.rounds) }
         ensures calls { IfOk result
-            (λ line. Attempts N.settings N.allows N.had_jobs [] (line ∷ []) self.old.crew.counts self.new.crew.counts
-            (Y.calls self.old.dial) (Y.calls self.new.dial)) }
+            (λ line. Attempts N.until N.settings N.allows N.had_jobs [] (line ∷ [])
+            self.old.crew.counts self.new.crew.counts (Y.calls self.old.dial) (Y.calls self.new.dial)) }
     {
         let site = self.site;
         self.crew
             .join_ended(&site, &mut self.seats.source, &mut self.dial);
         // The lock is free when the events of the chapter are dropped.
         drop(site.end_chapter_if_due());
-        self.start_all(scope)?;
+        let alive_before = site.alive();
+        self.fill(scope)?;
         site.expire_late();
         site.forget_ended();
         self.longest = None;
@@ -312,6 +360,8 @@ impl<
             number,
             attempt: &attempt,
             alive: site.alive(),
+            alive_before,
+            most_used: site.most_used(),
             longest: self.longest,
         });
         Ok(attempt)
@@ -333,9 +383,10 @@ impl<
         ensures noted { OnOk result (AreNoted lines.new.told.items self.new.rounds) }
         ensures until { lines.new.until ≡ lines.old.until }
         ensures lines { OnOk result (vec_len lines.new.told ≡ attempts) }
-        ensures posts { OnOk result (PostSince N.settings lines.old.told.items lines.new.told.items
+        ensures posts { OnOk result (PostSinceBy N.until N.settings lines.old.told.items lines.new.told.items
             self.old.seats.publisher.posts self.new.seats.publisher.posts) }
-        ensures calls { OnOk result (Attempts N.settings N.allows N.had_jobs lines.old.told.items lines.new.told.items
+        ensures calls { OnOk result (Attempts N.until N.settings N.allows N.had_jobs
+            lines.old.told.items lines.new.told.items
             self.old.crew.counts self.new.crew.counts (Y.calls self.old.dial) (Y.calls self.new.dial)) }
     {
         let site = self.site;
@@ -348,17 +399,19 @@ impl<
         Ok(())
     }
 
-    /// Attempts until the watch says that the run has to end. The error is that a thread could not be started.
+    /// Attempts until the watch says that the run has to end. Between two of them slots are filled whose workers ended for what their jobs
+    /// came to. The error is that a thread could not be started.
     fn attempt_until_ended<'s>(&mut self, scope: &Scope<'s, &'e ()>) -> Result<(), AllocError>
     where
         'e: 's,
         N: 's,
         L: 's,
         requires noted { AreNoted [] self.old.rounds }
+        requires ended { N.until ≡ Until.Ended }
         ensures attempts { OnOk result ((lines : List Attempt)
-            × PostSince N.settings [] lines self.old.seats.publisher.posts self.new.seats.publisher.posts
-            × Attempts N.settings N.allows N.had_jobs [] lines self.old.crew.counts self.new.crew.counts
-            (Y.calls self.old.dial) (Y.calls self.new.dial)
+            × PostSinceBy N.until N.settings [] lines self.old.seats.publisher.posts self.new.seats.publisher.posts
+            × Attempts N.until N.settings N.allows N.had_jobs [] lines
+            self.old.crew.counts self.new.crew.counts (Y.calls self.old.dial) (Y.calls self.new.dial)
             × AreNoted lines self.new.rounds) }
     {
         let site = self.site;
@@ -369,7 +422,7 @@ impl<
             }
             number = number.saturating_add(1);
             self.attempt(scope, number)?;
-            site.lent.watch.pause(site.run.settings.round_ms());
+            self.rest_and_refill(scope)?;
         }
         Ok(())
     }
@@ -388,10 +441,10 @@ impl<
         requires until { self.old.site.run.until ≡ lines.old.until }
         ensures stops { (before : List Post) × StopsAll N.settings before self.new.seats.publisher.posts }
         ensures attempts { OnOk result ((all : List Attempt) × Keeps lines.old.until all lines.new.told.items
-            × PostAndStop N.settings lines.old.told.items all self.old.seats.publisher.posts self.new.seats.publisher.posts
-            × Attempts N.settings N.allows N.had_jobs lines.old.told.items all self.old.crew.counts self.new.crew.counts
-            (Y.calls self.old.dial) (Y.calls self.new.dial)
-            × AreNoted all self.new.rounds) }
+            × AreNoted all self.new.rounds
+            × MakesAll N.until N.settings N.allows N.had_jobs lines.old.told.items all
+            self.old.seats.publisher.posts self.new.seats.publisher.posts
+            self.old.crew.counts self.new.crew.counts (Y.calls self.old.dial) (Y.calls self.new.dial)) }
     {
         let attempted = match self.site.run.until {
             Until::Rounds(rounds) => self.attempt_all(scope, rounds, lines),
@@ -424,8 +477,10 @@ impl<
             planner: _,
             crew,
             mut seats,
+            turns: _,
             rounds,
             longest: _,
+            relaxed: _,
         } = self;
         let ended = crew.join_all(&site, &mut seats.source, &mut dial, rounds, lines);
         attempted?;

@@ -21,6 +21,7 @@ use crate::run_end::RunEnd;
 use crate::session::{Enrolled, Papers, Returned, Site, give_up};
 use byte_io::{Sink, Source};
 use core::thread::Stack;
+use job_runner::{EndCause, SessionEnd};
 use order_board::SeatSource;
 use std::alloc::{AllocError, Global};
 use std::marker::Model;
@@ -57,6 +58,13 @@ struct Unjoined<N: RunId, L: Source + Sink> {
 pub struct Berth {
     signals: Arc<Signals>,
     of_session: Arc<Signals>,
+}
+
+/// Whether the slot of a session that ended so should have another worker before the next attempt: if it had a job, and ended for no other
+/// reason. What ends a session that had no job, or that lost its job server, ends the next one just as soon.
+fn calls_for_another(end: &SessionEnd) -> bool {
+    let is_of_jobs = end.cause == EndCause::Unserved || end.cause == EndCause::Retired;
+    is_of_jobs && end.grabbed > 0
 }
 
 /// The sessions that run, and what those that ended handed back.
@@ -331,6 +339,9 @@ impl<'e, N: RunId, J: JobSource + Sync, C: Watch + Sync, R: Threads + Wait + Syn
                 Ok(EndedSession::of(&site, &mut link, papers))
             };
             if let Ok((ended, _)) = &outcome {
+                if calls_for_another(&ended.returned.end) {
+                    site.lent.watch.wake();
+                }
                 site.lent.watch.before_hang_up(ended.worker);
             }
             drop(link);

@@ -14,6 +14,7 @@ mod crew;
 mod dial;
 mod ended;
 mod ends;
+mod filling;
 mod job_counts;
 mod jobs;
 mod news;

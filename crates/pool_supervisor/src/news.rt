@@ -10,6 +10,7 @@ use job_runner::SessionEnd;
 use plan_model::{Certified, FuncId, SlotId};
 use pool_core::JoinError;
 use pool_settings::Settings;
+use relaxed_plan::Relaxed;
 use worker_state::WorkerName;
 
 /// An attempt that was made.
@@ -23,6 +24,10 @@ pub struct Attempted<'a> {
     pub attempt: &'a Attempt,
     /// How many workers are alive after it.
     pub alive: u32,
+    /// How many workers were alive when the attempt began, before it started new ones.
+    pub alive_before: u32,
+    /// The most workers that one slot has had so far.
+    pub most_used: u32,
     /// The longest queue per worker under the attempt's plan. None if it led to no plan, or if no job waits.
     pub longest: Option<Queue>,
 }
@@ -61,6 +66,10 @@ pub trait Progress {
     fn planned(&self, _settings: &Settings, _certified: &Certified)
         requires of_these { IsMadeOf _settings.now _certified.now.input }
     {}
+
+    /// The last answer that was found says that there is no plan, and this relaxed plan was found. Its orders are posted if the pool takes
+    /// the answer.
+    fn relaxed(&self, _settings: &Settings, _relaxed: &Relaxed) {}
 
     /// An attempt was made.
     fn attempted(&self, made: &Attempted<'_>);

@@ -11,17 +11,21 @@ use std::alloc::AllocError;
 use std::marker::{Brand, PhantomData};
 use std::sync::ledger::Ledger;
 
-/// The name of a run: its board, the settings of its pool, which slots its source allows and which jobs it gives, the ledgers of its grabs
-/// and of its reports, and its rounds. Each call of a program picks it, so that what a thread hands back is known to be of its own run.
+/// The name of a run: its board, the settings of its pool, how long it makes attempts, which slots its source allows and which jobs it
+/// gives, the ledgers of its grabs and of its reports, and its rounds. Each call of a program picks it, so that what a thread hands back is
+/// known to be of its own run.
 pub trait RunId {
     ghost use Rattle.std.specs.Prelude.{ℕ, Bool};
     ghost use Rattle.atomic_table.specs.Seated.{TableId};
     ghost use Rattle.pool_settings.specs.Settings.{Settings};
     ghost use Rattle.pool_supervisor.specs.Sessions.{PastSession};
+    ghost use Rattle.pool_supervisor.specs.declared.attempts.Until.{Until};
 
     ghost board: { TableId };
 
     ghost settings: { Settings };
+
+    ghost until: { Until };
 
     ghost allows: { ℕ → Bool → Bool };
 
@@ -36,11 +40,13 @@ pub trait RunId {
 
 impl RunId for Brand {
     ghost use Rattle.std.specs.Prelude.{⊤};
-    ghost use Rattle.pool_supervisor.specs.Boards.{no_board, no_settings, no_rule};
+    ghost use Rattle.pool_supervisor.specs.Boards.{no_board, no_settings, no_rule, no_until};
 
     ghost board = { no_board };
 
     ghost settings = { no_settings };
+
+    ghost until = { no_until };
 
     ghost allows = { no_rule };
 
@@ -132,6 +138,8 @@ pub struct RunBoard<'e, N: RunId> {
     pub ghost here: { board.now.id ≡ N.board },
     /// The settings are those of the run's pool.
     pub ghost settings_are: { settings.now ≡ N.settings },
+    /// It goes on as long as the run.
+    pub ghost until_is: { until ≡ N.until },
     /// There is a place for each slot.
     pub ghost room: { slots settings.now ≤ board.now.slots },
 }

@@ -27,6 +27,16 @@ pub trait Watch {
     /// Lets so many milliseconds pass.
     fn pause(&self, milliseconds: u32);
 
+    /// Lets so many milliseconds pass, or fewer if it is woken. Whether it was woken, meanwhile or before.
+    fn pause_until_woken(&self, milliseconds: u32) -> bool {
+        self.pause(milliseconds);
+        false
+    }
+
+    /// Wakes who pauses until woken, now or next. Called if a worker's slot is empty that should have another worker before the next
+    /// attempt.
+    fn wake(&self) {}
+
     /// Whether the run has to end. A run of so many attempts does not ask.
     fn has_to_end(&self) -> bool {
         false
@@ -38,8 +48,9 @@ pub trait Watch {
         true
     }
 
-    /// Called when a worker's session has ended, before its link is closed. Until this returns, the job server waits for the answer to a
-    /// job that the worker left, and gives it to nobody else. The worker's slot is empty meanwhile, and may have another worker.
+    /// Called when a worker's session has ended, before its link is closed, and not for a worker for which there was no thread. Until this
+    /// returns, the job server waits for the answer to a job that the worker left, and gives it to nobody else. The worker's slot is empty
+    /// meanwhile, and may have another worker. The end of the run waits for it.
     fn before_hang_up(&self, _worker: WorkerName) {}
 }
 

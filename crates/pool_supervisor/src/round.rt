@@ -1,12 +1,13 @@
 //! One round of planning: what the server says, the plan, and its orders.
 ghost use Rattle.std.specs.Prelude.{◌≡◌, true, false, IfSome, IfNone, IfOk, IfErr, OnOk};
 ghost use Rattle.pool_supervisor.specs.Asking.{Given, IsNotTaken, Tells, is_planned};
-ghost use Rattle.pool_supervisor.specs.Rounds.{Notes, Posts, is_round};
+ghost use Rattle.pool_supervisor.specs.FarmPosts.{IsRelaxedFor, PostsBy};
+ghost use Rattle.pool_supervisor.specs.Rounds.{Notes, is_round};
 ghost use Rattle.pool_supervisor.specs.Steps.{AnswersPool, AnswersView, IsMadeOf, IsViewOf};
 
 use crate::asking::ask_for_load;
 use crate::attempt::{Attempt, PoolRefusal};
-use crate::attempts::Supervisor;
+use crate::attempts::{Supervisor, Until};
 use crate::dial::Dial;
 use crate::jobs::JobSource;
 use crate::news::Progress;
@@ -16,8 +17,10 @@ use crate::queue::longest_queue;
 use crate::session::Site;
 use byte_io::{Sink, Source};
 use gear_status::Load;
-use plan_model::{Certified, Input, Plan};
+use plan_model::{Answer, Certified, Input, Plan};
 use pool_core::{AdoptError, ViewError};
+use relaxed_plan::{Relaxed, relaxed_plan};
+use std::alloc::Global;
 use std::sync::Wait;
 
 /// How often a round is planned if the pool changes while the planner is at work.
@@ -35,13 +38,38 @@ fn view_pool<N: RunId, J, C, R: Wait>(
     held.view()
 }
 
-/// The answer of the planner to what was viewed, as one that is shown. The lock is free meanwhile. None if memory was refused.
-fn planned_for<P: Planner>(planner: &P, viewed: (Input, Option<Plan>)) -> Option<Certified>
-    ensures { IfSome result (AnswersView viewed) }
+/// The answer of the planner to what was viewed, as one that is shown, with the plan before it. The lock is free meanwhile. None if memory
+/// was refused.
+fn planned_for<P: Planner>(
+    planner: &P,
+    viewed: (Input, Option<Plan>),
+) -> Option<(Certified, Option<Plan>)>
+    ensures { IfSome result (λ planned. AnswersView viewed planned.0) }
 {
     let (input, previous) = viewed;
     match planner.solve(&input, previous.as_ref()) {
-        Ok(answer) => Some(Certified::of(input, answer)),
+        Ok(answer) => Some((Certified::of(input, answer), previous)),
+        Err(_) => None,
+    }
+}
+
+/// The plan of an answer that has one.
+fn plan_of(certified: &Certified) -> Option<&Plan> {
+    match certified.answer() {
+        Answer::Planned { plan, .. } => Some(plan),
+        Answer::NoPlan { .. } => None,
+    }
+}
+
+/// A relaxed plan, if the answer is that there is no plan. None too if memory was refused, or if the search for one gave up.
+fn relaxed_for(alloc: Global, certified: &Certified, previous: Option<&Plan>) -> Option<Relaxed>
+    ensures { IfSome result (IsRelaxedFor certified.now.input) }
+{
+    let Answer::NoPlan { short } = certified.answer() else {
+        return None;
+    };
+    match relaxed_plan(alloc, certified.input(), short, previous) {
+        Ok(found) => found,
         Err(_) => None,
     }
 }
@@ -84,10 +112,26 @@ impl<
         give_load(&self.site, load)
     }
 
+    /// A relaxed plan, if the answer is that there is no plan, in a run that goes on until its watch ends it. It keeps the relaxed plan of
+    /// the round before, or else this previous plan, if that is best.
+    fn relax(&self, certified: &Certified, previous: Option<&Plan>) -> Option<Relaxed>
+        ensures { IfSome result (IsRelaxedFor certified.now.input) }
+    {
+        let Until::Ended = self.site.run.until else {
+            return None;
+        };
+        let last = match &self.relaxed {
+            Some(relaxed) => plan_of(&relaxed.certified),
+            None => previous,
+        };
+        relaxed_for(self.site.lent.alloc, certified, last)
+    }
+
     /// Views the pool, plans while the lock is free, and adopts the plan, whose orders are posted in the same hold of the lock. None if the
     /// pool has changed meanwhile.
     fn try_round(&mut self) -> Option<Attempt>
-        ensures posts { IfSome result (λ line. Posts N.settings line self.old.seats.publisher.posts self.new.seats.publisher.posts) }
+        ensures posts { IfSome result
+            (λ line. PostsBy N.until N.settings line self.old.seats.publisher.posts self.new.seats.publisher.posts) }
         ensures notes { IfSome result (λ line. Notes line self.old.rounds self.new.rounds) }
         ensures stale { IfNone result ((self.new.seats.publisher ≡ self.old.seats.publisher) × (self.new.rounds ≡ self.old.rounds)) }
         ensures planned { IfSome result (λ line. is_planned line ≡ true) }
@@ -100,21 +144,32 @@ impl<
             Ok(viewed) => viewed,
             Err(error) => return Some(Attempt::Refused(PoolRefusal::View(error))),
         };
-        let Some(certified) = planned_for(self.planner, viewed) else {
+        let Some((certified, previous)) = planned_for(self.planner, viewed) else {
             return Some(Attempt::Memory);
         };
         site.lent.watch.planned(site.run.settings, &certified);
         let longest = longest_queue(&certified);
+        let relaxed = self.relax(&certified, previous.as_ref());
+        if let Some(relaxed) = &relaxed {
+            site.lent.watch.relaxed(site.run.settings, relaxed);
+        }
         let rt = site.lent.rt;
         let mut held = site.shared.hold(rt);
         held.facts();
         let publisher = &mut self.seats.publisher;
         match site
             .run
-            .adopt_and_publish(rt, &mut held, publisher, &mut self.rounds, certified)
-        {
+            .adopt_and_publish(
+                rt,
+                &mut held,
+                publisher,
+                &mut self.rounds,
+                certified,
+                relaxed.as_ref(),
+            ) {
             Ok(ran) => {
                 self.longest = longest;
+                self.relaxed = relaxed;
                 Some(Attempt::of_round(&ran))
             }
             Err(AdoptError::Stale) => None,
@@ -124,7 +179,7 @@ impl<
 
     /// A round for the load that the pool has. If the pool changes while it is planned, it is tried again, three times in all.
     pub fn plan_round(&mut self) -> Attempt
-        ensures posts { Posts N.settings result self.old.seats.publisher.posts self.new.seats.publisher.posts }
+        ensures posts { PostsBy N.until N.settings result self.old.seats.publisher.posts self.new.seats.publisher.posts }
         ensures notes { Notes result self.old.rounds self.new.rounds }
         ensures planned { is_planned result ≡ true }
         ensures answers { is_round result ≡ true → AnswersPool N.settings result }

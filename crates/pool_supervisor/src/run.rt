@@ -3,10 +3,12 @@ ghost use Rattle.std.specs.Prelude.{◌≡◌, ◌≤◌, ◌^◌, [], List, IfO
 ghost use Rattle.pool_settings.specs.Slots.{slots as slot_count};
 ghost use Rattle.pool_core.specs.Book.{totals_of};
 ghost use Rattle.pool_supervisor.specs.declared.attempt.Attempt.{Attempt};
+ghost use Rattle.pool_supervisor.specs.FarmPosts.{TellFarm};
 ghost use Rattle.pool_supervisor.specs.Rounds.{TellRun};
 ghost use Rattle.pool_supervisor.specs.Runs.{AreOfOneHistory, IsRun};
 ghost use Rattle.pool_supervisor.specs.Sessions.{Covers, HadJobs, HadNamedJobs};
-ghost use Rattle.pool_supervisor.specs.Tries.{Dials, all_slots};
+ghost use Rattle.pool_supervisor.specs.Tries.{Dials, DialsBy, LooksBy, all_slots};
+ghost use Rattle.slot_turns.specs.Turns.{IsEachSlotOnce};
 
 use crate::attempts::{Lines, Seats, Supervisor, Until};
 use crate::crew::{Crew, PARTS};
@@ -26,6 +28,7 @@ use order_board::Board;
 use plan_model::FuncId;
 use pool_core::Pool;
 use pool_settings::Settings;
+use slot_turns::SlotTurns;
 use std::alloc::{AllocError, Global};
 use std::marker::{Brand, PhantomData};
 use std::sync::Wait;
@@ -38,6 +41,7 @@ struct Made {
     pool: Pool,
     board: Board,
     seats: Seats,
+    turns: SlotTurns,
     rounds: NoRounds,
     lines: Lines,
     /// Nothing was grabbed yet, and no round was made.
@@ -46,6 +50,8 @@ struct Made {
     ghost can_post: { seats.publisher.board ≡ board.id },
     ghost can_seat: { seats.source.board ≡ board.id },
     ghost room: { slot_count pool.settings ≤ board.slots },
+    /// Each slot has its turns.
+    ghost each_once: { ∥ IsEachSlotOnce pool.settings turns ∥₁ },
     /// Nothing was posted or reported yet.
     ghost none_posted: { seats.publisher.posts ≡ [] },
     ghost none_told: { lines.told.items ≡ [] },
@@ -77,6 +83,7 @@ impl<'e, L: Source + Sink + Send + Drop, Y: Dial<L> + Drop, P: Planner> Tools<'e
     ) -> Result<(RunEnd, Y), AllocError>
         requires board { made.board.id ≡ N.board }
         requires settings { (self.settings.now ≡ N.settings) × (made.pool.settings ≡ N.settings) }
+        requires until { made.lines.until ≡ N.until }
         requires grabbed { (grabbed.name ≡ N.grabs) × (grabbed.parts ≡ 2 ^ 40) }
         requires reported { (reported.name ≡ N.reports) × (reported.parts ≡ 2 ^ 40) }
         requires rounds { made.rounds ≡ N.rounds }
@@ -95,6 +102,7 @@ impl<'e, L: Source + Sink + Send + Drop, Y: Dial<L> + Drop, P: Planner> Tools<'e
             pool,
             board,
             seats,
+            turns,
             rounds,
             lines,
         } = made;
@@ -116,8 +124,10 @@ impl<'e, L: Source + Sink + Send + Drop, Y: Dial<L> + Drop, P: Planner> Tools<'e
             planner,
             crew: Crew::<N, L>::new(lent.alloc, grabs, reports),
             seats,
+            turns,
             rounds: told,
             longest: None,
+            relaxed: None,
         };
         supervisor.run(lines)
     }
@@ -163,11 +173,13 @@ fn make(alloc: Global, settings: &Settings, until: Until) -> Result<Made, AllocE
     let Ok((board, publisher, source)) = Board::new(alloc, settings.slots()) else {
         return Err(AllocError);
     };
+    let turns = SlotTurns::new(alloc, settings)?;
     let rounds = NoRounds::new(alloc)?;
     Ok(Made {
         pool,
         board,
         seats: Seats { publisher, source },
+        turns,
         rounds,
         lines,
     })
@@ -221,8 +233,8 @@ pub fn run_until_ended<
     planner: &P,
     settings: Settings,
 ) -> Result<(RunEnd, Y), AllocError>
-    ensures attempts { IfOk result (λ e. (lines : List Attempt) × TellRun settings [] lines []
-        × Dials settings (S.allows lent.entry.jobs.now)
+    ensures attempts { IfOk result (λ e. (lines : List Attempt) × TellFarm settings [] lines []
+        × DialsBy (LooksBy Until.Ended settings (S.allows lent.entry.jobs.now)) settings
         (HadJobs S.Jobs.tells S.Jobs.fails (S.gives lent.entry.jobs.now) (S.denies lent.entry.jobs.now)) [] lines
         e.0 (Y.calls dial) (Y.calls e.1)
         × AreOfOneHistory settings e.0.totals e.0.chapters lines) }

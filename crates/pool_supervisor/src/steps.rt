@@ -2,28 +2,30 @@
 ghost use Rattle.std.specs.Prelude.{◌≡◌, ◌↔◌, ◌+◌, ◌<◌, ◌≤◌, ◌++◌, ◌∷◌, [], ℕ, true, false, not, count_by, length};
 ghost use Rattle.std.specs.Prelude.{IsSome, IfSome, IfNone, IfOk, OnOk, OnErr, Ok, Err};
 ghost use Rattle.pool_settings.specs.Slots.{slots as slot_count};
-ghost use Rattle.worker_state.specs.Slots.{is_live};
+ghost use Rattle.worker_state.specs.Slots.{is_live, last_generation};
 ghost use Rattle.worker_state.specs.declared.slot.Slot.TheVariants.{Empty};
 ghost use Rattle.pool_core.specs.Machine.{slot_in};
 ghost use Rattle.pool_core.specs.Book.{has_closed_prefix};
 ghost use Rattle.pool_core.specs.Calls.{Adopts, EndsChapter, Expires};
-ghost use Rattle.pool_supervisor.specs.Published.{ArePosted, round_order, stop_order};
+ghost use Rattle.pool_supervisor.specs.FarmPosts.{IsRelaxedFor, IsRelaxedIn, PostsAfter, PostsMore, PostsRound, orders_by};
+ghost use Rattle.pool_supervisor.specs.Published.{ArePosted, stop_order};
 ghost use Rattle.pool_supervisor.specs.Reached.{IsRoundOf};
 ghost use Rattle.pool_supervisor.specs.Steps.{GrabsOrCuts, IsChapterDue, IsLate, most_forgotten, worker_of};
 
 use crate::attempts::Until;
 use crate::booked::Booked;
 use crate::place::{Grabs, Reports, RunBoard, RunId, RunRounds};
-use crate::posting::{publish_by, stop_by};
+use crate::posting::{publish_all_by, publish_by, publish_plan_by, stop_by};
 use gear_packets::Handle;
 use order_board::PublisherSeat;
-use plan_model::{Certified, SlotId};
+use plan_model::{Answer, Certified, SlotId};
 use pool_core::{
     AdoptError, Chapter, ChapterError, ExpireError, GrabError, Pass, Ran, histories_join,
 };
+use relaxed_plan::Relaxed;
 use std::sync::Wait;
 use std::sync::ledger::Share;
-use worker_state::{Slot, Ticket};
+use worker_state::{MAX_GENERATION, Order, Slot, Ticket, What};
 
 /// How many jobs are forgotten in one hold of the lock, at the most.
 const MOST_FORGOTTEN: u32 = 1024;
@@ -126,6 +128,53 @@ impl<'e, N: RunId> RunBoard<'e, N> {
         !held.pool().slot(slot).is_live()
     }
 
+    /// How many workers the slot has had.
+    pub fn used(&self, held: &Booked<Grabs<N>, Reports<N>>, slot: SlotId) -> u32
+        requires slot { slot < slot_count self.now.settings.now }
+        ensures { result ≡ last_generation (slot_in held.now.state.slots slot) }
+    {
+        held.facts();
+        held.pool().slot(slot).last_generation()
+    }
+
+    /// The most workers that one slot has had.
+    pub fn most_used(&self, held: &Booked<Grabs<N>, Reports<N>>) -> u32
+        ensures most { (slot : ℕ) → slot < slot_count self.now.settings.now
+            → last_generation (slot_in held.now.state.slots slot) ≤ result }
+    {
+        let mut most = 0;
+        for number in 0..self.settings.slots() {
+            most = most.max(self.used(held, SlotId::new(number)));
+        }
+        most
+    }
+
+    /// Posts to a worker that joined in the slot, of this generation, what the slot did last, if that was a function, in a run that goes on
+    /// until its watch ends it. A run of so many attempts posts nothing.
+    pub fn hand_on(&self, publisher: &mut PublisherSeat, slot: SlotId, generation: u32)
+        requires own { publisher.old.board ≡ N.board }
+        requires slot { slot < slot_count self.now.settings.now }
+        ensures own { publisher.new.board ≡ publisher.old.board }
+        ensures posts { PostsMore N.until publisher.old.posts publisher.new.posts }
+    {
+        let Until::Ended = self.until else {
+            return;
+        };
+        let Order {
+            generation: _,
+            round,
+            what,
+        } = self.board.posted_by(publisher, slot);
+        if let What::Work(_) = what {
+            let order = Order {
+                generation: generation.min(MAX_GENERATION),
+                round,
+                what,
+            };
+            self.board.post_by(publisher, slot, order);
+        }
+    }
+
     /// How many workers are alive.
     pub fn alive(&self, held: &Booked<Grabs<N>, Reports<N>>) -> u32
         ensures { result ≡ count_by is_live held.now.state.slots }
@@ -190,8 +239,53 @@ impl<'e, N: RunId> RunBoard<'e, N> {
         true
     }
 
-    /// Adopts an answer as the next round to tell, and posts the orders of the round if it has a plan, so that no later round's orders come
-    /// before them.
+    /// Posts the orders of a round that the pool has just made, if it has a plan: those of its live workers, and in a run that goes on
+    /// until its watch ends it Idle to each empty slot.
+    fn post_round(
+        &self,
+        held: &Booked<Grabs<N>, Reports<N>>,
+        publisher: &mut PublisherSeat,
+        ran: &Ran,
+    )
+        requires own { publisher.old.board ≡ N.board }
+        ensures own { publisher.new.board ≡ publisher.old.board }
+        ensures posts { ArePosted (orders_by N.until ran.now held.now.state) publisher.old.posts publisher.new.posts }
+    {
+        held.facts();
+        if ran.backlog.is_none() {
+            return;
+        }
+        match self.until {
+            Until::Rounds(_) => publish_by(held.pool(), self.board, publisher),
+            Until::Ended => publish_all_by(held.pool(), self.board, publisher),
+        }
+    }
+
+    /// Posts the orders of a relaxed plan, if there is one, after a round without a plan in a run that goes on until its watch ends it.
+    fn post_relaxed(
+        &self,
+        held: &Booked<Grabs<N>, Reports<N>>,
+        publisher: &mut PublisherSeat,
+        ran: &Ran,
+        relaxed: Option<&Relaxed>,
+    )
+        requires own { publisher.old.board ≡ N.board }
+        requires relaxed { IfSome relaxed (λ r. IsRelaxedIn N.settings held.now.state r.now) }
+        ensures own { publisher.new.board ≡ publisher.old.board }
+        ensures posts { PostsAfter N.until N.settings ran.now held.now.state publisher.old.posts publisher.new.posts }
+    {
+        held.facts();
+        let (Until::Ended, None, Some(relaxed)) = (self.until, ran.backlog, relaxed) else {
+            return;
+        };
+        let Answer::Planned { plan, .. } = relaxed.certified.answer() else {
+            return;
+        };
+        publish_plan_by(held.pool(), self.board, publisher, plan, ran.number);
+    }
+
+    /// Adopts an answer as the next round to tell, and posts the orders of the round if it has a plan, and else those of the relaxed plan
+    /// if there is one, so that no later round's orders come before them.
     pub fn adopt_and_publish<R: Wait>(
         &self,
         rt: &R,
@@ -199,22 +293,23 @@ impl<'e, N: RunId> RunBoard<'e, N> {
         publisher: &mut PublisherSeat,
         rounds: &mut RunRounds<N>,
         certified: Certified,
+        relaxed: Option<&Relaxed>,
     ) -> Result<Ran, AdoptError>
         requires own { publisher.old.board ≡ N.board }
+        requires relaxed { IfSome relaxed (λ r. IsRelaxedFor certified.input r.now) }
         ensures pool { Adopts certified held.old held.new result }
         ensures round { IfOk result (λ ran. IsRoundOf N.settings ran held.new.state) }
         ensures own { publisher.new.board ≡ publisher.old.board }
-        ensures posts { IfOk result (λ ran. ArePosted (round_order ran held.new.state) publisher.old.posts publisher.new.posts) }
+        ensures posts { IfOk result
+            (λ ran. PostsRound N.until N.settings ran held.new.state publisher.old.posts publisher.new.posts) }
         ensures told { IfOk result (λ ran. rounds.new ≡ rounds.old ++ ran ∷ []) }
         ensures refused { OnErr result ((publisher.new ≡ publisher.old) × (rounds.new ≡ rounds.old)) }
     {
         held.facts();
         histories_join();
         let ran = held.adopt(rt, rounds, certified)?;
-        if ran.backlog.is_some() {
-            held.facts();
-            publish_by(held.pool(), self.board, publisher);
-        }
+        self.post_round(held, publisher, &ran);
+        self.post_relaxed(held, publisher, &ran, relaxed);
         Ok(ran)
     }
 

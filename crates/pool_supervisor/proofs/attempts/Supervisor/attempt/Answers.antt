@@ -5,7 +5,7 @@ use Rattle.pool_supervisor.proofs.attempts.Supervisor.attempt.Goals as goal
 
 pub returns-clause-calls : goal.returns-clause-calls
 returns-clause-calls g c =
-    let same = ap (λ (s : Sessions). s.counts) c.make_round-attempt.ensures.crew ∙ c.start_all.ensures.counts in
-    one_attempt g.N.RunId.settings g.N.RunId.allows g.N.RunId.had_jobs [] c.make_round-attempt.result c.args.self.now.crew.counts _ c.make_round-attempt.new.self.crew.counts
+    let same = ap (λ (s : Sessions). s.counts) c.make_round-attempt.ensures.crew ∙ c.fill.ensures.counts in
+    one_attempt g.N.RunId.until g.N.RunId.settings g.N.RunId.allows g.N.RunId.had_jobs c.make_round-attempt.result c.args.self.now.crew.counts _ c.make_round-attempt.new.self.crew.counts
     (g.Y.Dial.calls c.args.self.now.dial) _ _ (g.Y.Dial.calls c.make_round-attempt.new.self.dial)
-    c.join_ended.ensures.joins same c.in_ok-start_all.ensures.fills c.make_round-attempt.ensures.tells
+    c.join_ended.ensures.joins same c.in_ok-fill.ensures.fills c.make_round-attempt.ensures.tells

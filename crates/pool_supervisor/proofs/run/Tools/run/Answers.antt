@@ -13,6 +13,7 @@ invariant_of-supervisor g c =
     record {
       here = c.requires.board;
       settings_are = c.requires.settings.0;
+      until_is = c.requires.until;
       room = subst (λ s. slot_count s ≤ c.args.made.board.slots) (c.requires.settings.1 ∙ sym c.requires.settings.0) c.args.made.room;
     }
 
