@@ -9,7 +9,7 @@ ghost use Rattle.job_runner.specs.Book.{no_calls};
 ghost use Rattle.job_runner.specs.Course.{GoesOnOrEnds, IsAccepted, PortReason, session_of};
 ghost use Rattle.job_runner.specs.Run.{EndTold, FailsAs, ReadReason, Reason, Served, ServedBy, seen_link, tally_of, LinkKept};
 ghost use Rattle.job_runner.specs.Listening.{Reads, reads_of, reads_by};
-ghost use Rattle.job_runner.specs.Acting.{Begins};
+ghost use Rattle.job_runner.specs.Acting.{Begins, Glances};
 ghost use Rattle.job_runner.specs.Holding.{Idles, IsOver, SameParts, Stands, Start, having_read, link_of, now_of};
 ghost use Rattle.job_runner.specs.Loop.{first_state, duty_of, session_in, HasServed, Halts};
 
@@ -112,6 +112,8 @@ impl<'l, 'p, 'j, L: Source + Sink, P: PoolPort, J: Jobs> Session<'l, 'p, 'j, L, 
             (λ cause. IsOver L.output P.book J.tells J.fails worker.now (having_read start more) self.new cause
             × Reason (session_in worker.now start.before more) (link_of L.input L.output self.old) (link_of L.input L.output self.new)
             self.new.state.tally (P.book self.new.port.now) cause) result }
+        ensures looks { (L.input self.new.link.now).lulls ≢ (L.input self.old.link.now).lulls
+            → Glances worker.now (now_of L.output P.book self.old) (now_of L.output P.book self.new) result }
         ensures reads { Reads 4096 (reads_of result) 1 (L.input self.old.link.now) (L.input self.new.link.now) }
         ensures no_turns { IfErr result (λ cause. cause ≢ EndCause.TurnsUsed) }
         ensures read_failures { result ≢ Err EndCause.ReadFault

@@ -1,4 +1,4 @@
-use Rattle.std.proofs.Common.{◌≡◌, ℕ, ◌+◌, length, Result, Err, inl, refl, sym, ap, subst, ◌∙◌, arith, add-zero}
+use Rattle.std.proofs.Common.{◌≡◌, ℕ, ◌+◌, List, length, Option, Result, Err, inl, refl, sym, ap, subst, ◌∙◌, arith, add-zero}
 use Rattle.gear_packets.specs.Text.{Reading}
 use Rattle.byte_io.specs.Sides.{Input, Output}
 use Rattle.job_runner.specs.declared.end.EndCause.{EndCause}
@@ -11,8 +11,9 @@ use Rattle.job_runner.proofs.Reasons.{port_turns}
 use Rattle.job_runner.proofs.Listening.{one_at_most, reads_within}
 use Rattle.job_runner.proofs.Reasons.{memory_is_other}
 use Rattle.job_runner.proofs.Listening.{no_read_failed}
+use Rattle.byte_io.proofs.Devices.{counted_nothing}
 use Rattle.job_runner.proofs.Turning.{glanced, read_ended}
-use Rattle.job_runner.specs.Acting.{moment}
+use Rattle.job_runner.specs.Acting.{moment, Glances}
 use Rattle.job_runner.proofs.Paths.{went_at, glance_gone}
 use Rattle.job_runner.proofs.state.Session.listen.Goals as goal
 
@@ -59,6 +60,17 @@ returns-in-Err-clause-listens g c = λ start given at st.
           (λ x. c.in-Err.ensures.failures ∙ ap (λ (y : EndCause). (g.L.Device.input c.args.self.now.link.now).failures + read_failures (Err y)) x)
           (λ x. (c.in-Err.ensures.failures ∙ ap (λ (y : EndCause). (g.L.Device.input c.args.self.now.link.now).failures + read_failures (Err y)) x ∙ add-zero (g.L.Device.input c.args.self.now.link.now).failures, ap (λ (o : Output). o.failures) c.in-Err.ensures.output)),
     )
+
+pub returns-in-Ok-Piece-clause-looks : goal.returns-in-Ok-Piece-clause-looks
+returns-in-Ok-Piece-clause-looks g c = λ differs. absurd (differs (c.in-Ok-Piece.ensures.lulls ∙ sym (counted_nothing (g.L.Device.input c.args.self.now.link.now).lulls)))
+
+pub returns-in-Ok-Lull-clause-looks : goal.returns-in-Ok-Lull-clause-looks
+returns-in-Ok-Lull-clause-looks g c = λ differs.
+    subst (λ (written : Option (List ℕ)). Glances c.args.worker.now (moment c.args.self.now.state written (g.P.PoolPort.book c.args.self.now.port.now)) (moment c.glance.new.self.state (g.L.Device.output c.glance.new.self.link.now).got (g.P.PoolPort.book c.glance.new.self.port.now)) c.glance.result)
+    (ap (λ (o : Output). o.got) c.in-Ok-Lull.ensures.output) c.glance.ensures.glances
+
+pub returns-in-Err-clause-looks : goal.returns-in-Err-clause-looks
+returns-in-Err-clause-looks g c = λ differs. absurd (differs (c.in-Err.ensures.lulls ∙ sym (counted_nothing (g.L.Device.input c.args.self.now.link.now).lulls)))
 
 pub returns-in-Ok-Piece-clause-reads : goal.returns-in-Ok-Piece-clause-reads
 returns-in-Ok-Piece-clause-reads g c =
