@@ -1,14 +1,16 @@
 -- The packets of an answer.
-use Rattle.std.proofs.Common.{◌≡◌, ◌≢◌, ℕ, suc, ◌+◌, ◌<◌, Bool, true, false, ◌&&◌, List, [], ◌∷◌, ◌++◌, length, take, drop, map, Some, None, Result, Err, refl, sym, ap, subst, ◌∙◌, arith}
+use Rattle.std.proofs.Common.{◌≡◌, ◌≢◌, ℕ, suc, ◌+◌, ◌-◌, ◌^◌, ◌<◌, Bool, true, false, ◌&&◌, List, [], ◌∷◌, ◌++◌, length, take, drop, map, Some, None, Result, Err, refl, sym, ap, subst, ◌∙◌, arith}
 use Rattle.std.specs.Prelude.{nat_lt, get_or}
 use Rattle.std.proofs.Math.Seq.{take-suc}
-use Rattle.std.proofs.lemmas.List.{map-append, append-nil, append_assoc, take-append-drop}
+use Rattle.std.proofs.lemmas.List.{map-append, append-nil, append_assoc, length-append, take-append-drop}
+use Rattle.std.proofs.lemmas.List.Folds.{list_all-append}
 use Rattle.std.specs.List.{list_all, AllByRecursion}
 use Rattle.std.proofs.lemmas.Bool.{le-leb}
 use Rattle.gear_packets.specs.Frame.{body_limit}
-use Rattle.gear_packets.specs.Request.{Packet, body_of, names_nul, encoding, IsSent}
+use Rattle.gear_packets.specs.Request.{Packet, work_status, work_complete, work_fail, body_of, names_nul, encoding, IsHandle, IsSent}
 use Rattle.gear_packets.specs.Text.{text_of}
 use Rattle.gear_packets.specs.PacketRefusals.{refusal_told, request_refusal}
+use Rattle.gear_packets.proofs.Sizes.{status_is_sent}
 use Rattle.gear_packets.specs.declared.encoding.EncodeError.{EncodeError}
 use Rattle.gear_packets.specs.declared.encoding.EncodeError.TheVariants.{TooLarge, NulInArgument, Memory}
 use Rattle.job_runner.specs.declared.job.Note.{Note}
@@ -107,23 +109,75 @@ breaks_all (x ∷ xs) ys p h = rw (breaks_all xs ys p h) (by (can_send x))
     by true = refl
     by false = refl
 
-pub note_too_large : (handle : List ℕ) (told : Told) (notes : List Note) (i : ℕ) (n : Note) (p : Packet) (e : EncodeError) → i < length notes → n ≡ get_or notes i n → p ≡ remark_packet handle (remark_of n) → told.remarks ≡ map remark_of notes
-    → refusal_told (let z : Result (Unit {0}) EncodeError = Err e in z) ≡ request_refusal p → e ≢ Memory → list_all can_send (told_packets handle told) ≡ false
-note_too_large handle told notes i n p e within is same all refused other =
-    let small : can_send p ≡ false = refused_for_size p e refused other (ap names_nul same ∙ remark_nameless handle (remark_of n)) in
+-- a note that is too large breaks the whole
+pub note_breaks : (handle : List ℕ) (told : Told) (notes : List Note) (i : ℕ) (n : Note) → i < length notes → n ≡ get_or notes i n → told.remarks ≡ map remark_of notes
+    → can_send (remark_packet handle (remark_of n)) ≡ false → list_all can_send (told_packets handle told) ≡ false
+note_breaks handle told notes i n within is all small =
+    let p = remark_packet handle (remark_of n) in
     let ps = note_packets handle (take i notes) in
     let rest = note_packets handle (drop (i + 1) notes) in
-    let prefix : note_packets handle (take (i + 1) notes) ≡ ps ++ p ∷ [] = one_more handle notes i n within is ∙ ap (λ (x : Packet). ps ++ x ∷ []) (sym same) in
     let split : note_packets handle notes ≡ note_packets handle (take (i + 1) notes) ++ rest =
     ap (note_packets handle) (sym (take-append-drop (i + 1) notes)) ∙ ap (map (remark_packet handle)) (map-append remark_of (take (i + 1) notes) (drop (i + 1) notes)) ∙ map-append (remark_packet handle) (map remark_of (take (i + 1) notes)) (map remark_of (drop (i + 1) notes)) in
     let parts : told_packets handle told ≡ ps ++ p ∷ (rest ++ finish_packet handle told.finish ∷ []) =
     ap (λ (rs : List Remark). map (remark_packet handle) rs ++ finish_packet handle told.finish ∷ []) all
-    ∙ ap (λ (x : List Packet). x ++ finish_packet handle told.finish ∷ []) (split ∙ ap (λ (x : List Packet). x ++ rest) prefix ∙ append_assoc ps (p ∷ []) rest)
+    ∙ ap (λ (x : List Packet). x ++ finish_packet handle told.finish ∷ []) (split ∙ ap (λ (x : List Packet). x ++ rest) (one_more handle notes i n within is) ∙ append_assoc ps (p ∷ []) rest)
     ∙ append_assoc ps (p ∷ rest) (finish_packet handle told.finish ∷ []) in
     ap (list_all can_send) parts ∙ breaks_all ps (rest ++ finish_packet handle told.finish ∷ []) p small
+
+pub note_too_large : (handle : List ℕ) (told : Told) (notes : List Note) (i : ℕ) (n : Note) (p : Packet) (e : EncodeError) → i < length notes → n ≡ get_or notes i n → p ≡ remark_packet handle (remark_of n) → told.remarks ≡ map remark_of notes
+    → refusal_told (let z : Result (Unit {0}) EncodeError = Err e in z) ≡ request_refusal p → e ≢ Memory → list_all can_send (told_packets handle told) ≡ false
+note_too_large handle told notes i n p e within is same all refused other =
+    note_breaks handle told notes i n within is all (sym (ap can_send same) ∙ refused_for_size p e refused other (ap names_nul same ∙ remark_nameless handle (remark_of n)))
 
 pub end_too_large : (handle : List ℕ) (told : Told) (p : Packet) (e : EncodeError) → p ≡ finish_packet handle told.finish → refusal_told (let z : Result (Unit {0}) EncodeError = Err e in z) ≡ request_refusal p → e ≢ Memory → list_all can_send (told_packets handle told) ≡ false
 end_too_large handle told p e same refused other =
     let small : can_send p ≡ false = refused_for_size p e refused other (ap names_nul same ∙ finish_nameless handle told.finish) in
     let ps = map (remark_packet handle) told.remarks in
     ap (λ (x : Packet). list_all can_send (ps ++ x ∷ [])) (sym same) ∙ breaks_all ps [] p small
+
+-- ---- sizes
+
+-- a packet has room for a handle, its NUL and these bytes where fewer bytes than the rest are asked for
+pub room_told : (handle bytes : List ℕ) → IsHandle handle → nat_lt (length bytes) (body_limit - length handle) ≡ can_send (work_complete handle bytes)
+room_told handle bytes is = by (nat_lt (length bytes) (body_limit - length handle)) (can_send (work_complete handle bytes)) refl refl
+  where
+    sizes : length (handle ++ 0 ∷ bytes) ≡ length handle + suc (length bytes)
+    sizes = length-append handle (0 ∷ bytes)
+    by : (a b : Bool) → nat_lt (length bytes) (body_limit - length handle) ≡ a → can_send (work_complete handle bytes) ≡ b → a ≡ b
+    by true true s t = refl
+    by false false s t = refl
+    by true false s t = absurd (let short = is.short in grind (arith, sizes, short, s, t))
+    by false true s t = absurd (let short = is.short in grind (arith, sizes, short, s, t))
+
+-- a packet that breaks no rule can be sent
+accepted_fits : (p : Packet) → request_refusal p ≡ None → can_send p ≡ true
+accepted_fits p h = by (nat_lt body_limit (length (body_of p))) (can_send p) refl refl
+  where
+    by : (a b : Bool) → nat_lt body_limit (length (body_of p)) ≡ a → can_send p ≡ b → b ≡ true
+    by a true s t = refl
+    by true false s t = absurd (let told : request_refusal p ≡ Some TooLarge = rw s refl in let clash : Some TooLarge ≡ None = sym told ∙ h in cc)
+    by false false s t = absurd (grind (arith, s, t))
+
+-- two numbers always have room
+pub progress_fits : (handle : List ℕ) (part whole : ℕ) → IsHandle handle → part < 2 ^ 32 → whole < 2 ^ 32 → true ≡ can_send (work_status handle part whole)
+progress_fits handle part whole is a b = sym (accepted_fits (work_status handle part whole) (status_is_sent handle part whole is a b))
+
+-- and so has a handle alone
+pub fail_fits : (handle : List ℕ) → IsHandle handle → true ≡ can_send (work_fail handle)
+fail_fits handle is = let short = is.short in sym (le-leb (length handle) body_limit (omega (arith, short)))
+
+-- one note more fits
+pub note_fits_too : (handle : List ℕ) (notes : List Note) (i : ℕ) (n : Note) → i < length notes → n ≡ get_or notes i n → list_all can_send (note_packets handle (take i notes)) ≡ true
+    → can_send (remark_packet handle (remark_of n)) ≡ true → list_all can_send (note_packets handle (take (i + 1) notes)) ≡ true
+note_fits_too handle notes i n within is before fits =
+    ap (list_all can_send) (one_more handle notes i n within is) ∙ list_all-append can_send (note_packets handle (take i notes)) (remark_packet handle (remark_of n) ∷ []) ∙ rw (before, fits) refl
+
+and_true : (b : Bool) → (b && true) ≡ b
+and_true true = refl
+and_true false = refl
+
+-- where all notes fit the end decides
+pub end_decides : (handle : List ℕ) (told : Told) → list_all can_send (map (remark_packet handle) told.remarks) ≡ true → can_send (finish_packet handle told.finish) ≡ list_all can_send (told_packets handle told)
+end_decides handle told notes =
+    let p = finish_packet handle told.finish in
+    sym (list_all-append can_send (map (remark_packet handle) told.remarks) (p ∷ []) ∙ rw notes (and_true (can_send p)))

@@ -1,5 +1,5 @@
 -- What jobs tell, and the packets that answer an assignment.
-use Rattle.std.specs.Prelude.{◌≡◌, ℕ, Bool, nat_le, if◌then◌else◌, List, [], ◌∷◌, ◌++◌, length, map, Option, Some, None}
+use Rattle.std.specs.Prelude.{◌≡◌, ℕ, Bool, true, nat_le, if◌then◌else◌, List, [], ◌∷◌, ◌++◌, length, map, Option, Some, None}
 use Rattle.std.specs.List.{list_all, flat_map}
 use Rattle.gear_packets.specs.Frame.{body_limit}
 use Rattle.gear_packets.specs.Request.{Packet, work_status, work_complete, work_fail, work_data, work_warning, body_of}
@@ -62,6 +62,11 @@ can_send p = nat_le (length (body_of p)) body_limit
 unfoldable pub answer_to : List ℕ → Option Told → List Packet
 answer_to handle None = work_fail handle ∷ []
 answer_to handle (Some told) = if list_all can_send (told_packets handle told) then told_packets handle told else work_fail handle ∷ []
+
+-- a job was run, and all that it told is small enough to be sent
+abbrev pub CanBeSent : List ℕ → Option Told → Type 0
+CanBeSent handle None = ⊥
+CanBeSent handle (Some told) = list_all can_send (told_packets handle told) ≡ true
 
 -- how such an answer ends, as the pool books it
 unfoldable pub kind_of_answer : List ℕ → Option Told → EndKind

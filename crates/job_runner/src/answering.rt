@@ -11,7 +11,7 @@ ghost use Rattle.job_runner.specs.Acting.{account_of, tellings_of, Came, Answers
 use crate::end::EndCause;
 use crate::jobs::{Jobs, NotDone};
 use crate::port::{GrabRefusal, PoolPort};
-use crate::reply::encode_reply;
+use crate::reply::{encode_failure, encode_reply};
 use crate::state::Session;
 use crate::worker::Worker;
 use byte_io::{Sink, give_all};
@@ -56,12 +56,15 @@ impl<'l, 'p, 'j, L: Sink, P: PoolPort, J: Jobs> Session<'l, 'p, 'j, L, P, J> {
             Err(GrabRefusal::Memory) => return Err(EndCause::Memory),
         };
         self.state.tally.grabbed += 1;
+        let Ok(failure) = encode_failure(worker.place.alloc, &handle) else {
+            return Err(EndCause::Memory);
+        };
         let outcome = match self.jobs.run(worker.place.alloc, job) {
             Ok(outcome) => outcome,
             Err(NotDone::Unserved) => return Err(EndCause::Unserved),
             Err(NotDone::Memory) => return Err(EndCause::Memory),
         };
-        let Ok(encoded) = encode_reply(worker.place.alloc, &handle, outcome) else {
+        let Ok(encoded) = encode_reply(worker.place.alloc, &handle, outcome, failure) else {
             return Err(EndCause::Memory);
         };
         let Ok(()) = self.port.begin_report(worker.pass, ticket) else {

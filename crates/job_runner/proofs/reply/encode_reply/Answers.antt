@@ -17,49 +17,25 @@ returns-in-Ok-clause-each c =
     let h = c.args.handle.now in
     subst (AllByRecursion IsSent) (sym (answers_told h (told_of c.in-Some.outcome) c.in-Ok.ensures.each) ∙ ap (λ o. answer_to h (option_map told_of o)) (sym c.in-Some.is)) c.in-Ok.ensures.each
 
-pub returns-in-Err-TooLarge-clause-text : goal.returns-in-Err-TooLarge-clause-text
-returns-in-Err-TooLarge-clause-text c =
-    let h = c.args.handle.now in
-    let large = rw c.in-Err-TooLarge.field-0-is at c.in-Err-TooLarge.ensures.refused in
-    let same = sym (answers_failed h (told_of c.in-Some.outcome) (large (λ e. cc))) ∙ ap (λ o. answer_to h (option_map told_of o)) (sym c.in-Some.is) in
-    rw (sym same) c.encode_failure-in-Err-TooLarge.ensures.text
-
-pub returns-in-Err-TooLarge-clause-each : goal.returns-in-Err-TooLarge-clause-each
-returns-in-Err-TooLarge-clause-each c =
-    let h = c.args.handle.now in
-    let large = rw c.in-Err-TooLarge.field-0-is at c.in-Err-TooLarge.ensures.refused in
-    let same = sym (answers_failed h (told_of c.in-Some.outcome) (large (λ e. cc))) ∙ ap (λ o. answer_to h (option_map told_of o)) (sym c.in-Some.is) in
-    rw (sym same) c.encode_failure-in-Err-TooLarge.ensures.each
-
-pub returns-in-Err-NulInArgument-clause-text : goal.returns-in-Err-NulInArgument-clause-text
-returns-in-Err-NulInArgument-clause-text c =
-    let h = c.args.handle.now in
-    let large = rw c.in-Err-NulInArgument.field-0-is at c.in-Err-NulInArgument.ensures.refused in
-    let same = sym (answers_failed h (told_of c.in-Some.outcome) (large (λ e. cc))) ∙ ap (λ o. answer_to h (option_map told_of o)) (sym c.in-Some.is) in
-    rw (sym same) c.encode_failure-in-Err-NulInArgument.ensures.text
-
-pub returns-in-Err-NulInArgument-clause-each : goal.returns-in-Err-NulInArgument-clause-each
-returns-in-Err-NulInArgument-clause-each c =
-    let h = c.args.handle.now in
-    let large = rw c.in-Err-NulInArgument.field-0-is at c.in-Err-NulInArgument.ensures.refused in
-    let same = sym (answers_failed h (told_of c.in-Some.outcome) (large (λ e. cc))) ∙ ap (λ o. answer_to h (option_map told_of o)) (sym c.in-Some.is) in
-    rw (sym same) c.encode_failure-in-Err-NulInArgument.ensures.each
-
 pub returns-in-Ok-clause-kind : goal.returns-in-Ok-clause-kind
 returns-in-Ok-clause-kind c =
     let h = c.args.handle.now in
     c.end_kind.ensures ∙ sym (kind_told h (told_of c.in-Some.outcome) c.in-Ok.ensures.each) ∙ ap (λ o. kind_of_answer h (option_map told_of o)) (sym c.in-Some.is)
 
-pub returns-in-Err-TooLarge-clause-kind : goal.returns-in-Err-TooLarge-clause-kind
-returns-in-Err-TooLarge-clause-kind c =
+pub returns-then-not-can_be_sent-clause-text : goal.returns-then-not-can_be_sent-clause-text
+returns-then-not-can_be_sent-clause-text c =
     let h = c.args.handle.now in
-    let large = rw c.in-Err-TooLarge.field-0-is at c.in-Err-TooLarge.ensures.refused in
-    let same = sym (kind_failed h (told_of c.in-Some.outcome) (large (λ e. cc))) ∙ ap (λ o. kind_of_answer h (option_map told_of o)) (sym c.in-Some.is) in
-    rw (sym same) c.encode_failure-in-Err-TooLarge.ensures.kind
+    let large = sym c.if-not-can_be_sent.ensures in
+    c.requires.fails ∙ ap text_of (sym (answers_failed h (told_of c.in-Some.outcome) large) ∙ ap (λ o. answer_to h (option_map told_of o)) (sym c.in-Some.is))
 
-pub returns-in-Err-NulInArgument-clause-kind : goal.returns-in-Err-NulInArgument-clause-kind
-returns-in-Err-NulInArgument-clause-kind c =
+pub returns-then-not-can_be_sent-clause-each : goal.returns-then-not-can_be_sent-clause-each
+returns-then-not-can_be_sent-clause-each c =
     let h = c.args.handle.now in
-    let large = rw c.in-Err-NulInArgument.field-0-is at c.in-Err-NulInArgument.ensures.refused in
-    let same = sym (kind_failed h (told_of c.in-Some.outcome) (large (λ e. cc))) ∙ ap (λ o. kind_of_answer h (option_map told_of o)) (sym c.in-Some.is) in
-    rw (sym same) c.encode_failure-in-Err-NulInArgument.ensures.kind
+    let large = sym c.if-not-can_be_sent.ensures in
+    subst (AllByRecursion IsSent) (sym (answers_failed h (told_of c.in-Some.outcome) large) ∙ ap (λ o. answer_to h (option_map told_of o)) (sym c.in-Some.is)) c.requires.each_fails
+
+pub returns-then-not-can_be_sent-clause-kind : goal.returns-then-not-can_be_sent-clause-kind
+returns-then-not-can_be_sent-clause-kind c =
+    let h = c.args.handle.now in
+    let large = sym c.if-not-can_be_sent.ensures in
+    c.requires.kind_fails ∙ sym (kind_failed h (told_of c.in-Some.outcome) large) ∙ ap (λ o. kind_of_answer h (option_map told_of o)) (sym c.in-Some.is)

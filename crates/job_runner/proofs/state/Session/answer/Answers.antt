@@ -42,6 +42,15 @@ returns-in-Err-Memory-clause-answers g c =
           (grab_refused _ _ c.grab.result c.in-Err-Memory.field-0 c.in-Err-Memory.is c.grab.ensures) (omega arith) (λ e. cc) tt,
     )
 
+pub returns-in_default-clause-answers : goal.returns-in_default-clause-answers
+returns-in_default-clause-answers g c =
+    let new : Tally = record { grabbed = c.args.self.now.state.tally.grabbed + 1; answered = c.args.self.now.state.tally.answered; reported = c.args.self.now.state.tally.reported } in (
+      None,
+      (c.args.self.now.jobs.now, refl, inl (refl, λ e. cc)),
+      breaks_unrun (job_of c.args.job) c.args.self.now.state.tally new _ _ _ Memory 1 (record { grabbed_is = refl; answered_is = omega arith; reported_is = omega arith })
+          (grab_done _ _ c.grab.result c.in-Ok.ticket c.in-Ok.is c.grab.ensures) (omega arith) (λ e. cc) tt,
+    )
+
 pub returns-in-Err-Unserved-clause-answers : goal.returns-in-Err-Unserved-clause-answers
 returns-in-Err-Unserved-clause-answers g c =
     let new : Tally = record { grabbed = c.args.self.now.state.tally.grabbed + 1; answered = c.args.self.now.state.tally.answered; reported = c.args.self.now.state.tally.reported } in (
@@ -60,8 +69,8 @@ returns-in-Err-Memory-run-clause-answers g c =
           (grab_done _ _ c.grab.result c.in-Ok.ticket c.in-Ok.is c.grab.ensures) (omega arith) (λ e. cc) tt,
     )
 
-pub returns-in_default-clause-answers : goal.returns-in_default-clause-answers
-returns-in_default-clause-answers g c =
+pub returns-in_default-encode_reply-clause-answers : goal.returns-in_default-encode_reply-clause-answers
+returns-in_default-encode_reply-clause-answers g c =
     let told = option_map told_of c.in-Ok-run.outcome in (
       Some told,
       (c.run.new.self, (c.run.new.self, c.in-Ok-run.ensures.tells, refl), inl (refl, λ e. cc)),
