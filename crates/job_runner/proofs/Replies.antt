@@ -143,6 +143,7 @@ room_told handle bytes is = by (nat_lt (length bytes) (body_limit - length handl
   where
     sizes : length (handle ++ 0 ∷ bytes) ≡ length handle + suc (length bytes)
     sizes = length-append handle (0 ∷ bytes)
+
     by : (a b : Bool) → nat_lt (length bytes) (body_limit - length handle) ≡ a → can_send (work_complete handle bytes) ≡ b → a ≡ b
     by true true s t = refl
     by false false s t = refl

@@ -1,10 +1,11 @@
-use Rattle.std.proofs.Common.{◌≡◌, ℕ, ◌+◌, List, length, Option, Result, Err, inl, refl, sym, ap, subst, ◌∙◌, arith, add-zero}
+use Rattle.std.proofs.Common.{◌≡◌, ℕ, ◌+◌, List, length, Option, Result, Ok, Err, inl, refl, sym, ap, subst, ◌∙◌, arith, add-zero}
 use Rattle.gear_packets.specs.Text.{Reading}
-use Rattle.byte_io.specs.Sides.{Input, Output}
+use Rattle.byte_io.specs.Sides.{Input, Output, counted}
 use Rattle.job_runner.specs.declared.end.EndCause.{EndCause}
+use Rattle.job_runner.specs.declared.listen.Heard.{Heard}
 use Rattle.job_runner.specs.Told.{AreTold}
 use Rattle.job_runner.specs.Run.{EndTold, Link}
-use Rattle.job_runner.specs.Listening.{IsReadEnd, Reads, reads_of, read_failures, finds_end}
+use Rattle.job_runner.specs.Listening.{IsReadEnd, Reads, lulls_of, reads_of, read_failures, finds_end}
 use Rattle.job_runner.specs.Course.{session_of}
 use Rattle.job_runner.specs.Loop.{duty_in}
 use Rattle.job_runner.proofs.Reasons.{port_turns}
@@ -62,7 +63,9 @@ returns-in-Err-clause-listens g c = λ start given at st.
     )
 
 pub returns-in-Ok-Piece-clause-looks : goal.returns-in-Ok-Piece-clause-looks
-returns-in-Ok-Piece-clause-looks g c = λ differs. absurd (differs (c.in-Ok-Piece.ensures.lulls ∙ sym (counted_nothing (g.L.Device.input c.args.self.now.link.now).lulls)))
+returns-in-Ok-Piece-clause-looks g c =
+    let lulls = (g.L.Device.input c.args.self.now.link.now).lulls in
+    λ differs. absurd (differs (c.in-Ok-Piece.ensures.lulls ∙ ap (λ (h : Heard). counted lulls (lulls_of (let z : Result Heard EndCause = Ok h in z))) c.in-Ok-Piece.field-0-is ∙ sym (counted_nothing lulls)))
 
 pub returns-in-Ok-Lull-clause-looks : goal.returns-in-Ok-Lull-clause-looks
 returns-in-Ok-Lull-clause-looks g c = λ differs.
