@@ -1,6 +1,6 @@
 //! The planning problem that settings, lost workers and a status text pose.
 
-ghost use Rattle.std.specs.Prelude.{◌≡◌, ◌≢◌, ◌-◌, ◌^◌, ◌<◌, IfErr, IfOk, false, map, true};
+ghost use Rattle.std.specs.Prelude.{◌≡◌, ◌≢◌, ◌-◌, ◌^◌, ◌<◌, IfErr, IfOk, IfSome, false, is_some, map, not, true};
 ghost use Rattle.byte_io.specs.Sides.{Meets, Met};
 ghost use Rattle.pool_report.specs.Law.{IsOf};
 ghost use Rattle.pool_settings.specs.Planning.{instance_of, waiting_of};
@@ -23,19 +23,38 @@ pub struct Problem {
     pub input: Input,
 }
 
-/// By slot, whether its worker is live: all are but the lost ones.
+/// The place of the first lost worker that is none of the settings.
+fn first_unknown(settings: &Settings, lost: &[&str]) -> Option<usize>
+    ensures unknown { IfSome result (λ place. place ≡ spec.unknown_place settings.now (map (λ w. w.now) lost.now)) }
+    ensures any { is_some result ≡ not (spec.are_workers settings.now (map (λ w. w.now) lost.now)) }
+{
+    for (place, name) in lost.iter().enumerate() {
+        match settings.slot_named(name.as_bytes()) {
+            Some(_) => {}
+            None => return Some(place),
+        }
+    }
+    None
+}
+
+/// By slot, whether its worker is live: all are but the lost ones. A lost worker that is none of the settings is told before any memory is
+/// asked for.
 fn live_marks(alloc: Global, settings: &Settings, lost: &[&str]) -> Result<Vec<bool>, Fault>
     ensures ok { IfOk result (λ marks. marks.items ≡ spec.live_marks settings.now (map (λ w. w.now) lost.now)) }
     ensures known { IfOk result (λ _. spec.are_workers settings.now (map (λ w. w.now) lost.now) ≡ true) }
     ensures unknown { IfErr result (λ f. f ≢ Fault.Memory →
         (f ≡ Fault.UnknownWorker (spec.unknown_place settings.now (map (λ w. w.now) lost.now)))
         × (spec.are_workers settings.now (map (λ w. w.now) lost.now) ≡ false)) }
+    ensures memory { IfErr result (λ f. f ≡ Fault.Memory → spec.are_workers settings.now (map (λ w. w.now) lost.now) ≡ true) }
 {
+    if let Some(place) = first_unknown(settings, lost) {
+        return Err(Fault::UnknownWorker(place));
+    }
     let mut marks = vec![in alloc; true; settings.slots() as usize]?;
-    for (place, name) in lost.iter().enumerate() {
+    for name in lost {
         match settings.slot_named(name.as_bytes()) {
             Some(slot) => marks[slot.number() as usize] = false,
-            None => return Err(Fault::UnknownWorker(place)),
+            None => unreachable!(),
         }
     }
     Ok(marks)
