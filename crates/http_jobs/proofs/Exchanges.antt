@@ -1,6 +1,6 @@
 -- What an exchange has seen, step by step, and why it was not done.
-use Rattle.std.proofs.Common.{◌≡◌, ℕ, ◌+◌, List, [], ◌∷◌, ◌++◌, Option, Some, None, Result, Ok, Err, sym, refl, ap, ◌∙◌, subst, append_assoc, IsSome, MatchResult, OnOk, false}
-use Rattle.std.proofs.lemmas.List.{append-nil}
+use Rattle.std.proofs.Common.{◌≡◌, ℕ, ◌+◌, List, [], ◌∷◌, ◌++◌, Option, Some, None, Result, Ok, Err, sym, refl, ap, ◌∙◌, subst, append_assoc, IsSome, MatchResult, OnOk, false, arith}
+use Rattle.std.proofs.lemmas.List.{append-nil, length-append}
 use Rattle.http1.specs.declared.conn.Limits.{Limits}
 use Rattle.std.specs.Prelude.{IfErr}
 use Rattle.byte_io.specs.Sides.{Input, Output, and_then, counted}
@@ -125,7 +125,7 @@ late_after deadline times more before h = (times ++ h.0, h.1, ap (λ x. times ++
 pub not_sent_after : (deadline : Option ℕ) (times more : List (Option ℕ)) (old mid new : Output) (r : Result (Unit {0}) Unsent) → InTime deadline times → mid.failures ≡ old.failures → IfErr r (NotSent deadline more mid new) → IfErr r (NotSent deadline (times ++ more) old new)
 not_sent_after deadline times more old mid new (Ok x) before same h = tt
 not_sent_after deadline times more old mid new (Err unsent.Write) before same h =
-    (h.0 ∙ ap (λ (n : ℕ). n + 1) same, in_time_both deadline times more before h.1)
+    (h.0 ∙ ap (λ (n : ℕ). n + 1) same, in_time_both deadline times more before h.1, (let looks = h.2 in omega (arith, looks, length-append times more)))
 not_sent_after deadline times more old mid new (Err unsent.Late) before same h = late_after deadline times more before h
 
 -- times that were shown before the response was not read

@@ -1,4 +1,5 @@
 use Rattle.std.proofs.Common.{◌∙◌, ◌++◌, ◌∷◌, [], ◌≤◌, length, drop, arith, ap, subst, sym, refl, length-drop}
+use Rattle.std.proofs.lemmas.List.{length-append}
 use Rattle.byte_io.specs.Sides.{Output}
 use Rattle.byte_io.proofs.Devices.{more_gone, rest_taken}
 use Rattle.http_jobs.specs.Clock.{shown_then}
@@ -48,7 +49,7 @@ returns-in-Err-clause-why g c =
       times ++ again.0 ∷ [],
       again.1 ∙ ap (λ (o : Shown). shown_then o (again.0 ∷ [])) shown ∙ shown_twice _ times (again.0 ∷ []),
       tt,
-      (omega (arith, c.in-Err.ensures.fails, unfailed, c.loop-count.invariant.unfailed), in_time_more c.args.deadline times again.0 in_time (sym again.2 ∙ c.if-is_late.false)),
+      (omega (arith, c.in-Err.ensures.fails, unfailed, c.loop-count.invariant.unfailed), in_time_more c.args.deadline times again.0 in_time (sym again.2 ∙ c.if-is_late.false), omega (arith, length-append times (again.0 ∷ []), length-append so_far.0 (now ∷ []))),
     )
 
 pub returns-clause-why : goal.returns-clause-why
