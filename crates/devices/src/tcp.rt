@@ -3,14 +3,13 @@
 ghost use Rattle.std.specs.Prelude.{◌≡◌, ◌≤◌, IfOk};
 ghost use Rattle.byte_io.specs.Sides.{no_input, no_output};
 
-use crate::dial_error::DialError;
 use crate::reads::Reads;
 use crate::results::TimeLimit;
 use crate::writes::write_some;
 use byte_io::{Device, DeviceFault, LAST_TIMEOUT, Sink, Source, Took};
 use std::io;
 use std::io::{ErrorKind, Read};
-use std::net::{Net, SocketAddr, TcpStream, ToSocketAddrs};
+use std::net::TcpStream;
 use std::time::Duration;
 
 /// A TCP stream to the job server or a service, as a source and a sink with one descriptor.
@@ -55,77 +54,6 @@ impl TcpLink {
         })
     }
 
-    /// Dials `host:port`, each address of the host in turn, for 65 timeouts at most each. The error says why the last address was not
-    /// reached, or that there is none.
-    pub fn dial<R: Net<Stream = TcpStream>>(
-        net: &R,
-        server: &str,
-        lull_ms: u32,
-    ) -> Result<TcpLink, DialError>
-        ensures input { IfOk result (λ link. ⟦<TcpLink as Device>⟧.input link ≡ no_input) }
-        ensures output { IfOk result (λ link. ⟦<TcpLink as Device>⟧.output link ≡ no_output) }
-    {
-        let addresses = match server.to_socket_addrs(net) {
-            Ok(addresses) => addresses,
-            Err(error) => return Err(DialError::why_not_found(net, &error)),
-        };
-        let mut last = DialError::NoAddress;
-        for address in addresses {
-            match TcpLink::dial_address(net, address, lull_ms) {
-                Ok(link) => return Ok(link),
-                Err(error) => last = error,
-            }
-        }
-        Err(last)
-    }
-
-    /// Dials the address that took the last link, if one is known. If it takes none, dials `host:port` as `dial` does, and keeps the
-    /// address that took the link. So neither a name that is not found for a while nor a silent address before the right one costs each
-    /// dial its time. The address is forgotten only if the name was found and none of its addresses took a link.
-    pub fn dial_again<R: Net<Stream = TcpStream>>(
-        net: &R,
-        known: &mut Option<SocketAddr>,
-        server: &str,
-        lull_ms: u32,
-    ) -> Result<TcpLink, DialError>
-        ensures input { IfOk result (λ link. ⟦<TcpLink as Device>⟧.input link ≡ no_input) }
-        ensures output { IfOk result (λ link. ⟦<TcpLink as Device>⟧.output link ≡ no_output) }
-    {
-        if let Some(address) = *known {
-            if let Ok(link) = TcpLink::dial_address(net, address, lull_ms) {
-                return Ok(link);
-            }
-        }
-        match TcpLink::dial(net, server, lull_ms) {
-            Ok(link) => {
-                *known = link.stream.peer_addr().ok();
-                Ok(link)
-            }
-            Err(error) => {
-                if error.is_of_address() {
-                    *known = None;
-                }
-                Err(error)
-            }
-        }
-    }
-
-    /// Dials this address, for 65 timeouts at most.
-    fn dial_address<R: Net<Stream = TcpStream>>(
-        net: &R,
-        address: SocketAddr,
-        lull_ms: u32,
-    ) -> Result<TcpLink, DialError>
-        ensures input { IfOk result (λ link. ⟦<TcpLink as Device>⟧.input link ≡ no_input) }
-        ensures output { IfOk result (λ link. ⟦<TcpLink as Device>⟧.output link ≡ no_output) }
-    {
-        let patience = Duration::from_millis(lull_ms as u64 * LAST_TIMEOUT as u64);
-        match TcpStream::connect_timeout(net, &address, patience) {
-            Ok(stream) => TcpLink::over(stream, lull_ms),
-            Err(error) => Err(DialError::why_not_connected(net, address, &error)),
-        }
-    }
-
     /// Lets each write from now on take so many milliseconds, and no longer. The error is the system's, or that zero is no time: then the
     /// limit stays as it was.
     pub fn limit_writes(&self, milliseconds: u64) -> io::Result<()> {
@@ -146,17 +74,6 @@ impl TcpLink {
         match seen {
             Ok(_) => false,
             Err(error) => error.kind() == ErrorKind::WouldBlock,
-        }
-    }
-
-    /// A link over a stream that was just connected.
-    fn over(stream: TcpStream, lull_ms: u32) -> Result<TcpLink, DialError>
-        ensures input { IfOk result (λ link. ⟦<TcpLink as Device>⟧.input link ≡ no_input) }
-        ensures output { IfOk result (λ link. ⟦<TcpLink as Device>⟧.output link ≡ no_output) }
-    {
-        match TcpLink::new(stream, lull_ms) {
-            Ok(link) => Ok(link),
-            Err(error) => Err(DialError::of_connect(&error)),
         }
     }
 }

@@ -1,8 +1,11 @@
 //! The system as the host of a run.
+ghost use Rattle.std.specs.Prelude.{◌≡◌, IfSome};
+ghost use Rattle.byte_io.specs.Sides.{no_input, no_output};
 
 use crate::host::Host;
 use crate::watching::{attempt_note, end_notes, job_note, worker_note};
-use devices::{DialError, TcpLink};
+use byte_io::Device;
+use devices::{Caller, DialError, TcpLink};
 use jiff::Timestamp;
 use plan_model::FuncId;
 use pool_settings::Settings;
@@ -148,14 +151,36 @@ impl<R: Wait + Clock + Eprint + Alloc<A = Global>> Progress for System<R> {
     }
 }
 
-impl<R: Threads + Wait + Clock + Eprint + Alloc<A = Global> + Net<Stream = TcpStream> + Sync> Host
-    for System<R> {
-    type Link = TcpLink;
+/// Waits for a link until the run has to end.
+struct UntilEnd<'w, W> {
+    watch: &'w W,
+}
 
-    fn reach(&self, server: &str, lull_ms: u32) -> Option<TcpLink> {
+impl<W: Watch> Caller for UntilEnd<'_, W> {
+    fn has_given_up(&self) -> bool {
+        self.watch.has_to_end()
+    }
+}
+
+impl<R: Wait + Clock + Net<Stream = TcpStream>> System<R> {
+    /// A new link to the server, as `reach` gives one, for a run that this watch ends. Once the run has to end no address is dialled, and
+    /// if it had to before, why the last dial failed stays as it was.
+    pub fn reach_until_end<W: Watch>(
+        &self,
+        watch: &W,
+        server: &str,
+        lull_ms: u32,
+    ) -> Option<TcpLink>
+        ensures input { IfSome result (λ link. ⟦<TcpLink as Device>⟧.input link ≡ no_input) }
+        ensures output { IfSome result (λ link. ⟦<TcpLink as Device>⟧.output link ≡ no_output) }
+    {
+        if watch.has_to_end() {
+            return None;
+        }
         // A run has one server.
         let mut known = *self.known.lock(&self.rt);
-        let dialled = TcpLink::dial_again(&self.rt, &mut known, server, lull_ms);
+        let caller = UntilEnd { watch };
+        let dialled = TcpLink::dial_again(&self.rt, &caller, &mut known, server, lull_ms);
         *self.known.lock(&self.rt) = known;
         match dialled {
             Ok(link) => {
@@ -167,6 +192,15 @@ impl<R: Threads + Wait + Clock + Eprint + Alloc<A = Global> + Net<Stream = TcpSt
                 None
             }
         }
+    }
+}
+
+impl<R: Threads + Wait + Clock + Eprint + Alloc<A = Global> + Net<Stream = TcpStream> + Sync> Host
+    for System<R> {
+    type Link = TcpLink;
+
+    fn reach(&self, server: &str, lull_ms: u32) -> Option<TcpLink> {
+        self.reach_until_end(self, server, lull_ms)
     }
 
     fn doubt(&self) {

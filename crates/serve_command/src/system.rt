@@ -166,7 +166,7 @@ impl<
     type Link = TcpLink;
 
     fn reach(&self, server: &str, lull_ms: u32) -> Option<TcpLink> {
-        self.run.reach(server, lull_ms)
+        self.run.reach_until_end(self, server, lull_ms)
     }
 
     fn doubt(&self) {
