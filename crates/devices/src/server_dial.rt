@@ -1,6 +1,6 @@
 //! One dial of a server: all addresses of its name, in one time.
 
-ghost use Rattle.std.specs.Prelude.{◌≡◌, ◌≤◌, IfOk, IfSome};
+ghost use Rattle.std.specs.Prelude.{◌≡◌, ◌≤◌, ◌*◌, IfOk, IfSome};
 ghost use Rattle.byte_io.specs.Sides.{no_input, no_output};
 
 use crate::dial_error::DialError;
@@ -72,9 +72,12 @@ impl<'d, R: Net<Stream = TcpStream> + Clock, C: Caller> ServerDial<'d, R, C> {
         }
     }
 
-    /// For how many milliseconds an address is dialled that is the first of so many that share the time that is left. None if the time is
-    /// up, or nobody waits for the link any more.
-    fn share_ms(&self, count: usize) -> Option<u64> {
+    /// For how many milliseconds an address is dialled that is the first of so many that share the time that is left. None if none is left
+    /// for it, or nobody waits for the link any more.
+    fn share_ms(&self, count: usize) -> Option<u64>
+        ensures some { IfSome result (λ share_ms. 1 ≤ share_ms) }
+        ensures enough { IfSome result (λ share_ms. share_ms * count ≤ self.now.left_ms) }
+    {
         let share = self.left_ms.checked_div(count as u64)?;
         if share == 0 || self.caller.has_given_up() {
             return None;
@@ -102,7 +105,9 @@ impl<'d, R: Net<Stream = TcpStream> + Clock, C: Caller> ServerDial<'d, R, C> {
         let after = self.net.monotonic().ok();
         self.spend(share_ms, passed_ms(before, after));
         let linked = match connected {
-            Ok(stream) => TcpLink::new(stream, self.lull_ms).map_err(|error| DialError::of_connect(&error)),
+            Ok(stream) => TcpLink::new(stream, self.lull_ms).map_err(|error| DialError::of_connect(
+                &error,
+            )),
             Err(error) => Err(DialError::why_not_connected(self.net, address, &error)),
         };
         match linked {
