@@ -92,8 +92,8 @@ impl<'d, R: Net<Stream = TcpStream> + Clock, C: Caller> ServerDial<'d, R, C> {
         self.left_ms = self.left_ms.saturating_sub(passed_ms.unwrap_or(share_ms));
     }
 
-    /// A link to this address, which is the first of so many that share the time that is left. None if it was not reached, which is kept, or
-    /// if it was not dialled.
+    /// A link to this address, which is the first of so many that share the time that is left. None if it was not reached, and then why is
+    /// kept, or if it was not dialled.
     fn link_to(&mut self, address: SocketAddr, count: usize) -> Option<TcpLink>
         ensures input { IfSome result (λ link. ⟦<TcpLink as Device>⟧.input link ≡ no_input) }
         ensures output { IfSome result (λ link. ⟦<TcpLink as Device>⟧.output link ≡ no_output) }
@@ -134,8 +134,8 @@ impl<'d, R: Net<Stream = TcpStream> + Clock, C: Caller> ServerDial<'d, R, C> {
         None
     }
 
-    /// A link to the first of the server's addresses that takes one, and which that is. The one that was tried before is left out. The error
-    /// says why the last address was not reached, or that there is none; it is `NoAnswer` if none was dialled.
+    /// A link to the first of the server's addresses that takes one, and which that is. The one that was tried before is left out. The
+    /// error says why the last address was not reached, or that there is none; it is `NoAnswer` if none was dialled.
     fn link_by_name(
         &mut self,
         server: &str,
@@ -173,11 +173,11 @@ impl TcpLink {
         TcpLink::dial_again(net, &PatientCaller, &mut None, server, lull_ms)
     }
 
-    /// Dials `host:port` for 65 timeouts in all, without the time in which the name is looked up: first the address that took the last link,
-    /// if one is known, for half of that time. If it takes none, the name is looked up, and each other address is dialled once and in turn,
-    /// for its share of what is left. The one that takes the link is kept. So neither a name that is not found for a while nor a silent
-    /// address before the right one costs each dial its time. The known address is forgotten only if the name was found and no address took
-    /// a link.
+    /// Dials `host:port` for 65 timeouts in all, without the time in which the name is looked up: first the address that took the last
+    /// link, if one is known, for half of that time. If it takes none, the name is looked up, and each other address is dialled once and in
+    /// turn, for its share of what is left. The one that takes the link is kept. So neither a name that is not found for a while nor a
+    /// silent address before the right one costs each dial its time. The known address is forgotten only if the name was found and no
+    /// address took a link.
     ///
     /// The error says why the last address was not reached, or that there is none. It is `NoAnswer` if the caller gave up before one was
     /// dialled.

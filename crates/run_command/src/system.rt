@@ -152,6 +152,7 @@ impl<R: Wait + Clock + Eprint + Alloc<A = Global>> Progress for System<R> {
 }
 
 /// Waits for a link until the run has to end.
+#[derive(Drop)]
 struct UntilEnd<'w, W> {
     watch: &'w W,
 }
