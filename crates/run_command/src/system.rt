@@ -1,6 +1,7 @@
 //! The system as the host of a run.
-ghost use Rattle.std.specs.Prelude.{◌≡◌, IfSome};
-ghost use Rattle.byte_io.specs.Sides.{no_input, no_output};
+ghost use Rattle.std.specs.Prelude.{IfSome};
+ghost use Rattle.job_runner.specs.Run.{seen_link};
+ghost use Rattle.pool_supervisor.specs.Dials.{IsNew};
 
 use crate::host::Host;
 use crate::watching::{attempt_note, end_notes, job_note, worker_note};
@@ -172,8 +173,7 @@ impl<R: Wait + Clock + Net<Stream = TcpStream>> System<R> {
         server: &str,
         lull_ms: u32,
     ) -> Option<TcpLink>
-        ensures input { IfSome result (λ link. ⟦<TcpLink as Device>⟧.input link ≡ no_input) }
-        ensures output { IfSome result (λ link. ⟦<TcpLink as Device>⟧.output link ≡ no_output) }
+        ensures fresh { IfSome result (λ link. IsNew (seen_link ⟦<TcpLink as Device>⟧.input ⟦<TcpLink as Device>⟧.output link)) }
     {
         if watch.has_to_end() {
             return None;
