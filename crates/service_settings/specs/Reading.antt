@@ -14,7 +14,7 @@ use Rattle.pool_settings.specs.declared.place.Place.TheVariants as at
 use Rattle.pool_settings.specs.declared.place.Section.{Section}
 use Rattle.pool_settings.specs.declared.place.Section.TheVariants as section
 use Rattle.service_settings.specs.Keys.{function_keys, functions_row, hosts_row, listen_row, machine_keys, machines_row, page_keys}
-use Rattle.service_settings.specs.Keys.{page_row, timeout_ms_row, top_keys, url_row, version_row}
+use Rattle.service_settings.specs.Keys.{page_row, retries_row, timeout_ms_row, top_keys, url_row, version_row}
 use Rattle.service_settings.specs.Services.{Page, Services, Url}
 use Rattle.service_settings.specs.Url.{is_https, url_of}
 use Rattle.service_settings.specs.declared.error.ServicesError.{ServicesError}
@@ -212,6 +212,10 @@ abbrev pub timeout_for : Settings → Members → List ℕ → ℕ
 timeout_for settings tree name =
     option_map_or (λ own. min own settings.job_timeout_ms) (own_timeout tree name) settings.job_timeout_ms
 
+-- how many times a job of a function that services leave unserved comes again before it fails, if that is bounded
+abbrev pub retries_for : Members → List ℕ → Option ℕ
+retries_for tree name = option_and_then (number_of retries_row) (entry_table section.Functions tree name)
+
 abbrev pub hosts_in : Members → List (List ℕ)
 hosts_in page = filter_map as_str (option_map_or values_in (get_member hosts_key page) [])
 
@@ -226,6 +230,7 @@ services_of settings tree = record {
   numbers = numbers_in top_keys tree;
   urls = filter_map (url_for tree) settings.machines;
   timeouts = map (timeout_for settings tree) settings.functions;
+  retries = map (retries_for tree) settings.functions;
   page = page_in tree;
 }
 

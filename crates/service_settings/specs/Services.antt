@@ -31,5 +31,7 @@ pub record Services : Type 0 where
   pub urls : List Url
   -- for each function how long a job may take
   pub timeouts : List ℕ
+  -- for each function how many times a job that services leave unserved comes again before it fails, if that is bounded
+  pub retries : List (Option ℕ)
   -- the page, if there is one
   pub page : Option Page

@@ -5,7 +5,7 @@ ghost use Rattle.std.specs.List.{filter_map};
 ghost use Rattle.toml.specs.View.{table_view};
 ghost use Rattle.service_settings.specs.Reading as spec;
 
-use crate::keys::TIMEOUT_MS;
+use crate::keys::{RETRIES, TIMEOUT_MS};
 use crate::service_url::ServiceUrl;
 use crate::tree::entry_table;
 use crate::urls::url_text;
@@ -72,4 +72,28 @@ pub fn timeouts_of(alloc: Global, settings: &Settings, tree: &Table) -> Result<V
         timeouts.push(timeout_for(settings, tree, name))?;
     }
     Ok(timeouts)
+}
+
+/// How many times a job of a function that services leave unserved comes again before it fails, if that is bounded.
+fn retries_for(tree: &Table, name: &str) -> Option<u32>
+    ensures { result ≡ spec.retries_for (table_view tree.now) name.now }
+{
+    let function = entry_table(Section::Functions, tree, name)?;
+    number_of(&RETRIES, function)
+}
+
+/// The same for each function of the settings.
+pub fn retries_of(
+    alloc: Global,
+    settings: &Settings,
+    tree: &Table,
+) -> Result<Vec<Option<u32>>, AllocError>
+    ensures { IfOk result (λ retries. retries.items ≡ map (spec.retries_for (table_view tree.now)) settings.now.functions) }
+{
+    let mut retries = Vec::new(alloc);
+    for number in 0..settings.functions() {
+        let name = settings.function_name(FuncId::new(number));
+        retries.push(retries_for(tree, name))?;
+    }
+    Ok(retries)
 }

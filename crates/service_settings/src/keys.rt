@@ -31,14 +31,14 @@ pub const FUNCTIONS: Key = Row {
     name: "functions",
     value: KeyValue::Table,
     absent: Absent::Words("empty"),
-    help: "a table of one table for some functions of the settings",
+    help: "a table that has a table for each function with keys of its own",
 };
 
 pub const MACHINES: Key = Row {
     name: "machines",
     value: KeyValue::Table,
     absent: Absent::Words("empty"),
-    help: "a table of one table for some machines of the settings",
+    help: "a table that has a table for each machine with a URL of its own",
 };
 
 pub const PAGE: Key = Row {
@@ -56,6 +56,16 @@ pub const TIMEOUT_MS: Key = Row {
     },
     absent: Absent::Words("`job_timeout_ms`"),
     help: "how many milliseconds a job of F may take, never more than `job_timeout_ms`",
+};
+
+pub const RETRIES: Key = Row {
+    name: "retries",
+    value: KeyValue::Number {
+        least: 0,
+        most: 4_294_967_295,
+    },
+    absent: Absent::Words("no bound"),
+    help: "how many times a job of F that services leave unserved comes again before it fails",
 };
 
 pub const MACHINE_URL: Key = Row {
@@ -89,7 +99,7 @@ pub const CONNECT_PLACE: usize = 2;
 pub static TOP_KEYS: [Key; TOP] = [VERSION, URL, CONNECT_MS, FUNCTIONS, MACHINES, PAGE];
 
 /// The keys of the table of a function.
-pub static FUNCTION_KEYS: [Key; 1] = [TIMEOUT_MS];
+pub static FUNCTION_KEYS: [Key; 2] = [TIMEOUT_MS, RETRIES];
 
 /// The keys of the table of a machine.
 pub static MACHINE_KEYS: [Key; 1] = [MACHINE_URL];

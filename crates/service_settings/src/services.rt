@@ -1,13 +1,13 @@
 //! The services of a farm.
 
-ghost use Rattle.std.specs.Prelude.{◌≡◌, ◌≢◌, ◌<◌, ◌≤◌, Err, IfErr, IfOk, Ok, Some, length, slice_get, slice_index};
+ghost use Rattle.std.specs.Prelude.{◌≡◌, ◌≢◌, ◌<◌, ◌≤◌, Err, IfErr, IfOk, None, Ok, Some, length, slice_get, slice_index, slice_index_or};
 ghost use Rattle.std.specs.Option.{option_copied};
 ghost use Rattle.toml.specs.Errors.{IsBlank};
 ghost use Rattle.toml.specs.View.{table_view};
 ghost use Rattle.service_settings.specs.Keys.{connect_ms_of};
 ghost use Rattle.service_settings.specs.Reading as spec;
 
-use crate::build::{timeouts_of, urls_of};
+use crate::build::{retries_of, timeouts_of, urls_of};
 use crate::keys::{CONNECT_PLACE, TOP, TOP_KEYS};
 use crate::page::Page;
 use crate::service_url::ServiceUrl;
@@ -19,18 +19,19 @@ use std::alloc::{AllocError, Global};
 use std::marker::Model;
 use toml::Table;
 
-/// The services of a farm: where the jobs of each machine go, how long one may take, and the page. Machines and functions have the
-/// numbers of the settings that the file was read with.
+/// The services of a farm: where the jobs of each machine go, how long one may take, how many times one may come again, and the page.
+/// Machines and functions have the numbers of the settings that the file was read with.
 #[derive(Drop)]
 pub struct Services {
     numbers: [u32; TOP],
     urls: Vec<ServiceUrl>,
     timeouts: Vec<u32>,
+    retries: Vec<Option<u32>>,
     page: Option<Page>,
 }
 
 impl Model for Services {
-    ghost use Rattle.std.specs.Prelude.{◌≤◌};
+    ghost use Rattle.std.specs.Prelude.{◌≡◌, ◌≤◌, vec_len};
     ghost use Rattle.service_settings.specs.Keys.{AllInRange};
     ghost use Rattle.service_settings.specs.Services as meant;
 
@@ -40,7 +41,7 @@ impl Model for Services {
 
     ghost view = { services_view };
 
-    ghost invariant = { λ s. AllInRange s.numbers };
+    ghost invariant = { λ s. AllInRange s.numbers × (vec_len s.retries ≡ vec_len s.timeouts) };
 }
 
 /// The services of a tree, less the machines that have no URL.
@@ -49,11 +50,13 @@ pub fn services_of(alloc: Global, settings: &Settings, tree: &Table) -> Result<S
 {
     let urls = urls_of(alloc, settings, tree)?;
     let timeouts = timeouts_of(alloc, settings, tree)?;
+    let retries = retries_of(alloc, settings, tree)?;
     let page = Page::read(alloc, tree)?;
     Ok(Services {
         numbers: numbers_in(&TOP_KEYS, tree),
         urls,
         timeouts,
+        retries,
         page,
     })
 }
@@ -110,6 +113,14 @@ impl Services {
         ensures { result ≡ slice_index self.now.timeouts function }
     {
         self.timeouts[function.number() as usize]
+    }
+
+    /// How many times a job of a function that services leave unserved comes again before it fails. None: nothing bounds that.
+    pub fn retries(&self, function: FuncId) -> Option<u32>
+        requires { function < length self.now.timeouts }
+        ensures { result ≡ slice_index_or self.now.retries function None }
+    {
+        self.retries[function.number() as usize]
     }
 
     /// The page, if the file has one.
