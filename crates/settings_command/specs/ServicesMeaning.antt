@@ -1,5 +1,5 @@
 -- What services mean, as lines of one fact each.
-use Rattle.std.specs.Prelude.{ℕ, List, [], ◌++◌, codes, slice_get, slice_index}
+use Rattle.std.specs.Prelude.{ℕ, List, [], None, ◌++◌, codes, slice_get, slice_index, slice_index_or}
 use Rattle.std.specs.List.{flat_map}
 use Rattle.std.specs.Option.{option_map_or}
 use Rattle.std.specs.Fmt.{decimal}
@@ -34,10 +34,16 @@ machine_line settings services machine =
 abbrev pub timeout_line : List ℕ → ℕ → List ℕ → List ℕ
 timeout_line function timeout marked = ended (codes "function " ++ function ++ codes " timeout_ms " ++ decimal timeout ++ marked)
 
-abbrev pub function_line : Members → Settings → Services → ℕ → List ℕ
-function_line tree settings services f =
+-- how many times a job of a function that services leave unserved comes again before it fails
+abbrev pub retries_line : List ℕ → ℕ → List ℕ
+retries_line function retries = ended (codes "function " ++ function ++ codes " retries " ++ decimal retries)
+
+-- the lines of a function: one of its time, and one of its bound of retries, if it has one
+abbrev pub function_lines : Members → Settings → Services → ℕ → List ℕ
+function_lines tree settings services f =
     timeout_line (name_at settings.functions f) (slice_index services.timeouts f)
     (mark (function_has_key (name_at settings.functions f) timeout_key tree))
+    ++ option_map_or (retries_line (name_at settings.functions f)) (slice_index_or services.retries f None) []
 
 abbrev pub listen_line : List ℕ → List ℕ
 listen_line address = ended (codes "page listen " ++ address)
@@ -54,5 +60,5 @@ abbrev pub services_meaning : Members → Settings → Services → List ℕ
 services_meaning tree settings services =
     flat_map (key_line tree) top_keys
     ++ flat_map (machine_line settings services) (machines settings)
-    ++ flat_map (function_line tree settings services) (functions settings)
+    ++ flat_map (function_lines tree settings services) (functions settings)
     ++ option_map_or page_lines services.page []

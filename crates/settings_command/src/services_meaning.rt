@@ -87,8 +87,24 @@ fn push_timeout_line(
     write!(out, "function {function} timeout_ms {timeout_ms}{mark}\n")
 }
 
-/// How long a job of a function may take.
-fn push_timeout(
+fn push_retries_line(out: &mut String, function: &str, retries: u32) -> Result<(), AllocError>
+    ensures { OnOk result (string_bytes out.new ≡ string_bytes out.old ++ spec.retries_line function.now retries) }
+{
+    write!(out, "function {function} retries {retries}\n")
+}
+
+/// How many times a job of a function comes again, if that is bounded.
+fn push_retries(out: &mut String, function: &str, retries: Option<u32>) -> Result<(), AllocError>
+    ensures { OnOk result (string_bytes out.new ≡ string_bytes out.old ++ option_map_or (spec.retries_line function.now) retries []) }
+{
+    match retries {
+        Some(retries) => push_retries_line(out, function, retries),
+        None => Ok(()),
+    }
+}
+
+/// What the jobs of a function may do: how long one may take, and how many times it may come again.
+fn push_function(
     out: &mut String,
     settings: &Settings,
     services: &Services,
@@ -97,14 +113,15 @@ fn push_timeout(
 ) -> Result<(), AllocError>
     requires { function < length services.now.timeouts }
     ensures { OnOk result (string_bytes out.new ≡ string_bytes out.old
-        ++ spec.function_line (table_view file.now.tree) settings.now services.now function) }
+        ++ spec.function_lines (table_view file.now.tree) settings.now services.now function) }
 {
     let name = settings.function_name(function);
     let mark = mark(file.function_has_key(name, "timeout_ms"));
-    push_timeout_line(out, name, services.timeout_ms(function), mark)
+    push_timeout_line(out, name, services.timeout_ms(function), mark)?;
+    push_retries(out, name, services.retries(function))
 }
 
-fn push_timeouts(
+fn push_functions(
     out: &mut String,
     settings: &Settings,
     services: &Services,
@@ -112,10 +129,10 @@ fn push_timeouts(
 ) -> Result<(), AllocError>
     requires { length services.now.timeouts ≡ length settings.now.functions }
     ensures { OnOk result (string_bytes out.new ≡ string_bytes out.old
-        ++ flat_map (spec.function_line (table_view file.now.tree) settings.now services.now) (functions settings.now)) }
+        ++ flat_map (spec.function_lines (table_view file.now.tree) settings.now services.now) (functions settings.now)) }
 {
     for number in 0..settings.functions() {
-        push_timeout(out, settings, services, file, FuncId::new(number))?;
+        push_function(out, settings, services, file, FuncId::new(number))?;
     }
     Ok(())
 }
@@ -161,8 +178,8 @@ fn push_if_page(out: &mut String, services: &Services) -> Result<(), AllocError>
 }
 
 /// What services mean: a line for each number of the top table, the version first, one for each machine with its URL, one for each
-/// function with its time, and the lines of the page, if there is one, all in the order of the settings. A value that the file does not
-/// give is marked `(default)`; the URL at its top is given. The only error is out of memory.
+/// function with its time and one with its bound of retries, if it has one, and the lines of the page, if there is one, all in the order of
+/// the settings. A value that the file does not give is marked `(default)`; the URL at its top is given. The only error is out of memory.
 pub fn push_services(
     out: &mut String,
     settings: &Settings,
@@ -176,6 +193,6 @@ pub fn push_services(
 {
     push_numbers(out, file, &TOP_KEYS)?;
     push_urls(out, settings, services)?;
-    push_timeouts(out, settings, services, file)?;
+    push_functions(out, settings, services, file)?;
     push_if_page(out, services)
 }
