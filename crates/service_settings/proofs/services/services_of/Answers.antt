@@ -12,5 +12,5 @@ invariant_of-result c =
     let tree = table_view c.args.tree.now in (
       subst AllInRange (sym c.numbers_in.ensures) (numbers_in_range top_keys tree refl),
       ap length c.in_ok-retries.ensures ∙ length-map settings.functions (retries_for tree)
-      ∙ sym (ap length c.in_ok-timeouts.ensures ∙ length-map settings.functions (timeout_for settings tree)),
+          ∙ sym (ap length c.in_ok-timeouts.ensures ∙ length-map settings.functions (timeout_for settings tree)),
     )
