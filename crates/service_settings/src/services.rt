@@ -31,7 +31,7 @@ pub struct Services {
 }
 
 impl Model for Services {
-    ghost use Rattle.std.specs.Prelude.{◌≡◌, ◌≤◌, vec_len};
+    ghost use Rattle.std.specs.Prelude.{◌≡◌, ◌≤◌, length};
     ghost use Rattle.service_settings.specs.Keys.{AllInRange};
     ghost use Rattle.service_settings.specs.Services as meant;
 
@@ -41,7 +41,7 @@ impl Model for Services {
 
     ghost view = { services_view };
 
-    ghost invariant = { λ s. AllInRange s.numbers × (vec_len s.retries ≡ vec_len s.timeouts) };
+    ghost invariant = { λ s. AllInRange s.numbers × (length s.retries.items ≡ length s.timeouts.items) };
 }
 
 /// The services of a tree, less the machines that have no URL.
