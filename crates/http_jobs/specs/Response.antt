@@ -1,6 +1,7 @@
 -- The response to a request, and what it reports of a job (RFC 9110, section 15; RFC 9112, sections 4 to 9).
 use Rattle.std.specs.Prelude.{◌≡◌, ℕ, ◌<◌, ◌≤◌, Bool, false, ◌&&◌, ◌||◌, ◌==◌, nat_le, nat_lt, if◌then◌else◌, List, [], ◌∷◌, ◌++◌, length}
 use Rattle.std.specs.Prelude.{codes, Option, Some, None, option_map, Result, Ok, Err, IsTrue}
+use Rattle.std.specs.Fmt.{decimal}
 use Rattle.httparse.specs.Grammar.{ResponseHead, status_code}
 use Rattle.http1.specs.declared.conn.Limits.{Limits}
 use Rattle.http1.specs.declared.framing.Framing.{Framing}
@@ -11,8 +12,9 @@ use Rattle.http1.specs.Conn.{is_until_close, keeps_alive}
 use Rattle.http1.specs.Message.{Response, ReadsResponseMessage, AcceptsResponse, known_of}
 use Rattle.http1.specs.Client.{is_interim}
 use Rattle.job_runner.specs.Told.{Told, Remark, told_of, warning, complete, fail}
+use Rattle.http_jobs.specs.declared.fault.Unserved.{Unserved}
 use Rattle.http_jobs.specs.declared.outcome.Failure.{Failure}
-use Rattle.http_jobs.specs.declared.outcome.Failure.TheVariants.{Status, Unbounded}
+use Rattle.http_jobs.specs.declared.outcome.Failure.TheVariants.{LeftTooOften, Status, Unbounded}
 use Rattle.http_jobs.specs.declared.outcome.Reply.{Reply}
 
 -- ---- the grammar
@@ -122,6 +124,20 @@ reply_of r = record { told = told_of r.outcome; failure = r.failure }
 -- what the job reports, or none if the service has no job of its function
 abbrev pub told_in : Option Replied → Option Told
 told_in reply = option_map (λ r. r.told) reply
+
+-- the warning of a job that services left unserved too often: so many times in all, and the last time for a reason in these words
+abbrev pub left_words : ℕ → List ℕ → List ℕ
+left_words times reason = codes "left unserved too often (" ++ decimal times ++ codes "): " ++ reason
+
+-- what such a job reports
+abbrev pub left_too_often : ℕ → List ℕ → Told
+left_too_often times reason = failed_with (warning (left_words times reason) ∷ [])
+
+-- The job failed since services left it unserved too often: so many times in all, and the last time for this reason. Its warning says so.
+pub record IsLeftTooOften (times : ℕ) (last : Unserved) (reply : Replied) : Type 0 where
+  pub reason : List ℕ
+  pub told : reply.told ≡ left_too_often times reason
+  pub failure : reply.failure ≡ Some (LeftTooOften times last)
 
 -- What was read holds a whole response, and this is what it comes to.
 pub record Reports (limits : Limits) (read : List ℕ) (reply : Replied) (head : ResponseHead) (rest : List ℕ) : Type 0 where

@@ -24,7 +24,7 @@ pub use exchanging::{Done, exchange};
 pub use fault::{NotDone, Unserved, dial_words};
 pub use last_address::LastAddress;
 pub use look::Look;
-pub use outcome::{Failure, Reply};
+pub use outcome::{Failure, Reply, left_too_often};
 pub use posts::Post;
 pub use service::{Service, ServiceError};
 pub use service_jobs::{Dial, ServiceJobs, try_dial};

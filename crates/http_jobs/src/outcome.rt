@@ -1,12 +1,13 @@
-//! What a response reports of a job.
+//! What a response reports of a job, and what fails one that no service answers.
 
 ghost use Rattle.std.specs.Prelude.{◌≡◌, [], IfOk, Some};
 ghost use Rattle.std.specs.Option.{option_map};
 ghost use Rattle.job_runner.specs.Told.{told_of};
-ghost use Rattle.http_jobs.specs.Response.{body_as_warning, failed_with, failure_by, reply_of, told_by, told_in};
+ghost use Rattle.http_jobs.specs.Response.{IsLeftTooOften, body_as_warning, failed_with, failure_by, reply_of, told_by, told_in};
 ghost use Rattle.http_jobs.specs.Response as spec;
 ghost use Rattle.http_jobs.specs.declared.outcome.Failure.TheVariants.{TooLarge};
 
+use crate::fault::Unserved;
 use job_runner::{End, Note, Outcome};
 use std::alloc::{AllocError, Global};
 use thiserror::Error;
@@ -14,7 +15,7 @@ use thiserror::Error;
 /// The warning of a result that may be cut.
 const UNBOUNDED: &[u8] = b"only the end of the connection bounds the body, which may be cut";
 
-/// Why a response fails its job.
+/// Why a job failed.
 #[derive(Clone, Copy, Debug, PartialEq, Eq, Error)]
 pub enum Failure {
     /// Its status, which is none of 200 to 299.
@@ -26,9 +27,12 @@ pub enum Failure {
     /// The result is too large for a packet.
     #[error("the response is too large")]
     TooLarge,
+    /// Services left it unserved too often: so many times in all, and the last time for this reason.
+    #[error("left unserved too often ({0}): {1}")]
+    LeftTooOften(u32, Unserved),
 }
 
-/// What a response comes to.
+/// What a response comes to, or a job without one that failed.
 #[derive(Drop)]
 pub struct Reply {
     /// What its job reports.
@@ -86,6 +90,19 @@ pub fn oversized(alloc: Global) -> Reply
         outcome: failed_job(alloc),
         failure: Some(Failure::TooLarge),
     }
+}
+
+/// What a job comes to that services left unserved too often: so many times in all, and the last time for this reason. It failed, with a
+/// warning that says so. The only error is out of memory.
+pub fn left_too_often(alloc: Global, times: u32, last: Unserved) -> Result<Reply, AllocError>
+    ensures { IfOk result (λ reply. IsLeftTooOften times last (reply_of reply)) }
+{
+    let reason = format!(in alloc; "{last}")?;
+    let warning = format!(in alloc; "left unserved too often ({times}): {reason}")?;
+    Ok(Reply {
+        outcome: failure_with(alloc, warning.into_bytes())?,
+        failure: Some(Failure::LeftTooOften(times, last)),
+    })
 }
 
 /// What a whole response comes to, by its status, its body, and whether only the end of the connection bounds that. The only error is out
