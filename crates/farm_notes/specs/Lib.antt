@@ -1,2 +1,3 @@
 pub mod Evidence
 pub mod Notes
+pub mod Relaxed

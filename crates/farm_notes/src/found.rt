@@ -6,6 +6,7 @@ ghost use Rattle.farm_notes.specs.Notes.{is_of, numbered};
 ghost use Rattle.pool_supervisor.specs.Steps.{IsMadeOf};
 
 use crate::kept_evidence::KeptEvidence;
+use crate::kept_relaxed::KeptRelaxed;
 use farm_page::Shortage;
 use plan_model::{Answer, Certified, FuncSet, Input, Plan, TOP_LEVEL, count_neighbours};
 use pool_settings::Settings;
@@ -26,6 +27,8 @@ pub struct Found {
     pub workers: Vec<u32>,
     /// By machine, how many of its workers are alive.
     pub alive: Vec<u32>,
+    /// The plan that was posted instead if the answer is none.
+    pub relaxed: Option<KeptRelaxed>,
 }
 
 /// How many jobs wait for all functions together.
@@ -41,7 +44,7 @@ fn sum_of(waiting: &[u32]) -> u64
 }
 
 /// How many workers a plan gives each of so many functions.
-fn workers_by_function(
+pub(crate) fn workers_by_function(
     alloc: Global,
     plan: &Plan,
     functions: usize,
@@ -151,6 +154,7 @@ impl Found {
             waiting_jobs: sum_of(input.waiting()),
             workers,
             alive: alive_by_machine(alloc, input)?,
+            relaxed: None,
         })
     }
 
@@ -172,6 +176,7 @@ impl Found {
             waiting_jobs: self.waiting_jobs,
             workers: self.workers,
             alive: self.alive,
+            relaxed: self.relaxed,
         }
     }
 }

@@ -2,21 +2,24 @@
 
 ghost use Rattle.std.specs.Prelude.{◌≡◌, ◌<◌, ◌++◌, [], ◌∷◌, IfOk, None, OnErr, OnOk, length};
 ghost use Rattle.farm_notes.specs.Notes as spec;
+ghost use Rattle.farm_notes.specs.Relaxed.{ShowsARelaxedPlan};
 ghost use Rattle.farm_page.specs.Kept.{last_of};
 ghost use Rattle.pool_supervisor.specs.Rounds as rounds;
-ghost use Rattle.pool_supervisor.specs.Steps.{IsMadeOf};
+ghost use Rattle.pool_supervisor.specs.Steps.{IsLetOffOf, IsMadeOf};
 
 use crate::found::Found;
+use crate::kept_relaxed::KeptRelaxed;
 use crate::tally::FunctionJobs;
 use farm_page::{
-    AttemptView, Attempts, EndView, Evidence, Failures, FarmView, FunctionView, HostView, Outcome,
-    Shortage, Workers,
+    AttemptView, Attempts, EndView, Evidence, Failures, FarmView, FunctionView, HostView,
+    JobsAgain, Outcome, RelaxedPlan, Shortage, Turnover, Workers,
 };
 use job_runner::EndCause;
 use plan_model::{Certified, FuncId, MachineId};
 use pool_settings::Settings;
 use pool_supervisor::{Attempt, Attempted, EndCounts, attempt_words};
 use refusal::Labelled;
+use relaxed_plan::Relaxed;
 use std::alloc::{AllocError, Global};
 use std::sync::{Mutex, Wait};
 
@@ -29,6 +32,10 @@ pub struct Known<'a> {
     pub jobs: &'a [FunctionJobs],
     /// The last jobs that were not completed.
     pub failures: &'a Failures,
+    /// The jobs that come again.
+    pub again: JobsAgain,
+    /// The machines that have no worker for want of files or threads.
+    pub without_room: &'a [MachineId],
 }
 
 /// What is kept.
@@ -42,6 +49,10 @@ struct Kept {
     attempts: Attempts,
     /// Why workers ended.
     ends: EndCounts,
+    /// How many workers ended since the last attempt was told.
+    ended_since: u64,
+    /// How many ended between that attempt and the one before.
+    ended: u64,
 }
 
 /// What the page of a farm is made of, kept from attempt to attempt.
@@ -84,13 +95,22 @@ fn attempt_view(attempt: &Attempt, found: &Option<Found>) -> AttemptView
     }
 }
 
+/// What an attempt without a status came to, for this reason, if this line of it could not be read.
+fn no_status(why: String, line: Option<u32>) -> Result<Outcome, AllocError> {
+    match line {
+        Some(line) => Ok(Outcome::Unreadable { why, line }),
+        None => Ok(Outcome::NoRound(why)),
+    }
+}
+
 /// What an attempt came to, as a page shows it. The only error is out of memory.
 fn outcome_of(alloc: Global, attempt: &Attempt) -> Result<Outcome, AllocError> {
     match attempt {
         Attempt::Backlog { backlog, .. } => Ok(Outcome::Backlog(*backlog)),
         Attempt::Unserved { waiting, .. } => Ok(Outcome::Unserved(*waiting)),
         Attempt::NoPlan { .. } => Ok(Outcome::NoPlan),
-        Attempt::NoLink | Attempt::Status(_) | Attempt::Refused(_) | Attempt::Memory => Ok(
+        Attempt::Status(error) => no_status(attempt_words(alloc, attempt)?, error.line()),
+        Attempt::NoLink | Attempt::Refused(_) | Attempt::Memory => Ok(
             Outcome::NoRound(attempt_words(alloc, attempt)?),
         ),
     }
@@ -112,6 +132,50 @@ fn evidence_shown(alloc: Global, found: &Option<Found>) -> Result<Option<Evidenc
     match found {
         Some(found) => Ok(Some(found.evidence.copy(alloc)?)),
         None => Ok(None),
+    }
+}
+
+/// Whether what was found is in force after an attempt: no later round took its place.
+fn is_in_force(found: &Found, made: &Attempted<'_>) -> bool {
+    found.is_of(made.number) || !is_round(made.attempt)
+}
+
+/// The plan that leaves out least numbers, if one was posted for what was found and is in force. The only error is out of memory.
+fn relaxed_shown(
+    alloc: Global,
+    found: &Option<Found>,
+    made: &Attempted<'_>,
+) -> Result<Option<RelaxedPlan>, AllocError>
+    ensures { IfOk result ShowsARelaxedPlan }
+{
+    let relaxed = match found {
+        Some(found) if is_in_force(found, made) => &found.relaxed,
+        _ => return Ok(None),
+    };
+    match relaxed {
+        Some(relaxed) => Ok(Some(relaxed.copy(alloc)?)),
+        None => Ok(None),
+    }
+}
+
+/// The names of machines of the settings. The only error is out of memory.
+fn machine_names(
+    alloc: Global,
+    settings: &Settings,
+    machines: &[MachineId],
+) -> Result<Vec<String>, AllocError> {
+    let mut names = Vec::new(alloc);
+    for machine in machines {
+        names.push(String::from_str(alloc, settings.machine_name(*machine))?)?;
+    }
+    Ok(names)
+}
+
+/// By function, how many workers a plan that is in force gives it.
+fn planned_workers(found: &Found) -> &[u32] {
+    match &found.relaxed {
+        Some(relaxed) => relaxed.workers(),
+        None => &found.workers,
     }
 }
 
@@ -145,6 +209,8 @@ impl Kept {
             ≡ last_of 600 (self.old.attempts ++ spec.attempt_view made.now.attempt.now self.old.found ∷ [])) }
         ensures kept { OnErr result (self.new.attempts ≡ self.old.attempts) }
     {
+        self.ended = self.ended_since;
+        self.ended_since = 0;
         let drawn = attempt_view(made.attempt, &self.found);
         let found = self.found.take();
         if is_round(made.attempt) {
@@ -161,7 +227,7 @@ impl Kept {
         match &self.last {
             Some(found) if found.is_of(attempt) => (
                 found.waiting.get(place).copied(),
-                found.workers.get(place).copied(),
+                planned_workers(found).get(place).copied(),
             ),
             _ => (None, None),
         }
@@ -262,6 +328,19 @@ impl Kept {
         Ok(ends)
     }
 
+    /// A worker ended for this cause.
+    fn end(&mut self, cause: EndCause) {
+        self.ends.count(cause);
+        self.ended_since = self.ended_since.saturating_add(1);
+    }
+
+    /// What was found has no plan, and this one was posted instead.
+    fn relax(&mut self, relaxed: Option<KeptRelaxed>) {
+        if let Some(found) = &mut self.found {
+            found.relaxed = relaxed;
+        }
+    }
+
     /// What a page shows after an attempt.
     fn view(
         &self,
@@ -271,6 +350,7 @@ impl Kept {
     ) -> Result<FarmView, AllocError>
         ensures evidence { IfOk result (λ view. spec.ShowsEvidence self.now.last view.evidence) }
         ensures answers { IfOk result (λ view. spec.ShowsAShownAnswer view.evidence) }
+        ensures relaxed { IfOk result (λ view. ShowsARelaxedPlan view.relaxed) }
         ensures attempt { IfOk result (λ view. view.attempt ≡ made.now.number) }
         ensures drawn { IfOk result (λ view. view.attempts ≡ self.now.attempts) }
     {
@@ -290,11 +370,19 @@ impl Kept {
                 alive: made.alive,
                 all: settings.slots(),
             },
+            turnover: Turnover {
+                alive_before: made.alive_before,
+                ended: self.ended,
+                most_used: made.most_used,
+            },
+            again: known.again,
+            without_room: machine_names(alloc, settings, known.without_room)?,
             functions: self.functions(alloc, made, known)?,
             hosts: self.hosts(alloc, made, known)?,
             ends: self.ends(alloc)?,
             failures: known.failures.copy()?,
             evidence,
+            relaxed: relaxed_shown(alloc, &self.last, made)?,
             attempts: self.attempts.copy()?,
         })
     }
@@ -309,6 +397,8 @@ impl PageNotes {
                 last: None,
                 attempts: Attempts::new(alloc),
                 ends: EndCounts::none(),
+                ended_since: 0,
+                ended: 0,
             }),
         }
     }
@@ -327,13 +417,28 @@ impl PageNotes {
         self.kept.lock(rt).found = found;
     }
 
-    /// A worker ended for this cause.
-    pub fn ended<R: Wait>(&self, rt: &R, cause: EndCause) {
-        self.kept.lock(rt).ends.count(cause);
+    /// The round of the answer that was found last has no plan, and this plan, which leaves out some least numbers, was posted instead. If
+    /// there is no memory for what a page shows of it, it is not shown. The next round drops it.
+    pub fn relaxed<R: Wait>(
+        &self,
+        rt: &R,
+        alloc: Global,
+        settings: &Settings,
+        relaxed: &Relaxed,
+    )
+        requires of_these { IsLetOffOf settings.now relaxed.now.let_off relaxed.now.certified.input }
+    {
+        let kept = KeptRelaxed::of(alloc, settings, relaxed).ok();
+        self.kept.lock(rt).relax(kept);
     }
 
-    /// What a page shows after an attempt. If it has evidence, that is of an answer that is shown for its input, whole. Its time is left
-    /// open. The only error is out of memory.
+    /// A worker ended for this cause.
+    pub fn ended<R: Wait>(&self, rt: &R, cause: EndCause) {
+        self.kept.lock(rt).end(cause);
+    }
+
+    /// What a page shows after an attempt. If it has evidence, that is of an answer that is shown for its input, whole; and so is a
+    /// plan that leaves out least numbers. Its time is left open. The only error is out of memory.
     pub fn view<R: Wait>(
         &self,
         rt: &R,
@@ -342,6 +447,7 @@ impl PageNotes {
         known: &Known<'_>,
     ) -> Result<FarmView, AllocError>
         ensures answers { IfOk result (λ view. spec.ShowsAShownAnswer view.evidence) }
+        ensures relaxed { IfOk result (λ view. ShowsARelaxedPlan view.relaxed) }
         ensures attempt { IfOk result (λ view. view.attempt ≡ made.now.number) }
     {
         let mut held = self.kept.lock(rt);

@@ -1,5 +1,5 @@
 -- How a farm is, in one sentence.
-use Rattle.std.specs.Prelude.{ℕ, ◌-◌, ◌==◌, ◌^◌, List, ◌++◌, Bool, true, false, ◌&&◌, nat_le, nat_lt, Option, Some, None, String}
+use Rattle.std.specs.Prelude.{ℕ, ◌*◌, ◌-◌, ◌==◌, ◌^◌, List, ◌++◌, Bool, true, false, ◌&&◌, nat_le, nat_lt, not, Option, Some, None, String}
 use Rattle.std.specs.Prelude.{codes, find, if◌then◌else◌, is_none, is_some, length, min, string_bytes, sum_by, take, unwrap_or}
 use Rattle.std.specs.Global.{Global}
 use Rattle.std.specs.Fmt.{decimal}
@@ -11,8 +11,9 @@ use Rattle.farm_page.specs.declared.condition.Condition.TheVariants.{Bad, Watch,
 use Rattle.farm_page.specs.declared.view.FarmView.{FarmView}
 use Rattle.farm_page.specs.declared.view.FunctionView.{FunctionView}
 use Rattle.farm_page.specs.declared.view.HostView.{HostView}
+use Rattle.farm_page.specs.declared.view.JobsAgain.{JobsAgain}
 use Rattle.farm_page.specs.declared.view.Outcome.{Outcome}
-use Rattle.farm_page.specs.declared.view.Outcome.TheVariants.{Backlog, NoPlan, NoRound, Unserved}
+use Rattle.farm_page.specs.declared.view.Outcome.TheVariants.{Backlog, NoPlan, NoRound, Unreadable, Unserved}
 use Rattle.farm_page.specs.declared.view.Shortage.{Shortage}
 use Rattle.farm_page.specs.declared.view.Workers.{Workers}
 
@@ -24,6 +25,7 @@ abbrev pub is_unserved : Outcome → Bool
 is_unserved (Backlog jobs) = false
 is_unserved (Unserved jobs) = true
 is_unserved NoPlan = false
+is_unserved (Unreadable why line) = false
 is_unserved (NoRound why) = false
 
 -- the jobs that wait for a function without workers: none if it has one, or if that is not known
@@ -36,12 +38,23 @@ without_workers f =
 abbrev pub all_without_workers : List FunctionView → ℕ
 all_without_workers functions = min (sum_by without_workers functions) (2 ^ 64 - 1)
 
--- each function with jobs has a worker, each host is reached, and each worker is alive
+-- fewer than half of the workers were alive before the attempt started new ones
+abbrev pub is_thinned : FarmView → Bool
+is_thinned view = nat_lt (2 * view.turnover.alive_before) view.workers.all
+
+abbrev pub comes_again : FarmView → Bool
+comes_again view = nat_lt 0 view.again.times
+
+-- no job comes again, and enough workers stayed
+abbrev pub is_calm : FarmView → Bool
+is_calm view = not (comes_again view) && not (is_thinned view)
+
+-- each function with jobs has a worker, each host is reached, each worker is alive, enough of them stayed, and no job comes again
 abbrev pub is_whole : FarmView → Bool
 is_whole view =
     if is_unserved view.outcome then false
     else if nat_lt 0 (all_without_workers view.functions.items) then false
-    else is_none (unreached view.hosts.items) && nat_le view.workers.all view.workers.alive
+    else is_none (unreached view.hosts.items) && nat_le view.workers.all view.workers.alive && is_calm view
 
 abbrev pub condition_of : FarmView → Condition
 condition_of view = if has_plan view.outcome then (if is_whole view then Well else Watch) else Bad
@@ -52,11 +65,11 @@ condition_of view = if has_plan view.outcome then (if is_whole view then Well el
 abbrev pub names : List (String Global) → List ℕ
 names functions = flat_map (λ function. codes " " ++ string_bytes function) functions
 
--- the first three, and how many more there are
-abbrev pub first_names : List (String Global) → List ℕ
-first_names functions =
-    if nat_le (length functions) 3 then names functions
-    else names (take 3 functions) ++ codes " and " ++ decimal (length functions - 3) ++ codes " more"
+-- the first so many, and how many more there are
+abbrev pub first_names : ℕ → List (String Global) → List ℕ
+first_names named functions =
+    if nat_le (length functions) named then names functions
+    else names (take named functions) ++ codes " and " ++ decimal (length functions - named) ++ codes " more"
 
 -- how many workers are needed, or that no number of those alive will do
 abbrev pub need_words : Option ℕ → ℕ → List ℕ
@@ -66,7 +79,7 @@ need_words None have = codes " the " ++ decimal have ++ codes " workers alive th
 
 abbrev pub shortage_words : Shortage → List ℕ
 shortage_words shortage =
-    codes "for" ++ first_names shortage.functions.items ++ need_words shortage.need shortage.have
+    codes "for" ++ first_names 3 shortage.functions.items ++ need_words shortage.need shortage.have
 
 abbrev pub no_plan_words : Option Shortage → List ℕ
 no_plan_words None = codes "No plan meets the least and greatest numbers of workers"
@@ -81,12 +94,28 @@ unreached_words view host = codes "Host " ++ string_bytes host.name ++ codes " i
 abbrev pub left_words : ℕ → List ℕ
 left_words jobs = decimal jobs ++ codes " jobs wait for functions without workers"
 
+abbrev pub again_words : JobsAgain → List ℕ
+again_words again =
+    codes "A job that no service does comes again: left " ++ decimal again.times ++ codes " times lately, such jobs held now: "
+    ++ decimal again.held
+
+abbrev pub thinned_words : FarmView → List ℕ
+thinned_words view =
+    decimal view.turnover.alive_before ++ codes " of " ++ decimal view.workers.all ++ codes " workers were alive before new ones started"
+
+-- of a farm whose workers are all alive
+abbrev pub all_alive_words : FarmView → ℕ → List ℕ
+all_alive_words view jobs =
+    if comes_again view then again_words view.again
+    else if is_thinned view then thinned_words view
+    else codes "Well: backlog " ++ decimal jobs ++ codes ", as small as it can be"
+
 -- of a farm whose hosts are all reached
 abbrev pub reached_words : FarmView → ℕ → List ℕ
 reached_words view jobs =
     if nat_lt 0 (all_without_workers view.functions.items) then left_words (all_without_workers view.functions.items)
     else if nat_lt view.workers.alive view.workers.all then alive_words view.workers
-    else codes "Well: backlog " ++ decimal jobs ++ codes ", as small as it can be"
+    else all_alive_words view jobs
 
 abbrev pub planned_words : FarmView → ℕ → List ℕ
 planned_words view jobs = option_map_or (unreached_words view) (unreached view.hosts.items) (reached_words view jobs)
@@ -95,6 +124,7 @@ abbrev pub sentence_of : FarmView → Outcome → List ℕ
 sentence_of view (Backlog jobs) = planned_words view jobs
 sentence_of view (Unserved jobs) = decimal jobs ++ codes " jobs wait for a function that workers alive may do and none does"
 sentence_of view NoPlan = no_plan_words view.shortage
+sentence_of view (Unreadable why line) = codes "No round was made: " ++ string_bytes why
 sentence_of view (NoRound why) = codes "No round was made: " ++ string_bytes why
 
 abbrev pub sentence : FarmView → List ℕ

@@ -1,9 +1,10 @@
 -- The texts of the evidence.
-use Rattle.std.specs.Prelude.{ℕ, List, String, ◌++◌, codes, string_bytes}
+use Rattle.std.specs.Prelude.{ℕ, List, [], Option, Some, None, String, ◌++◌, codes, string_bytes}
 use Rattle.std.specs.Global.{Global}
 use Rattle.std.specs.Fmt.{decimal}
 use Rattle.std.specs.List.{flat_map}
 use Rattle.farm_page.specs.declared.view.Evidence.{Evidence}
+use Rattle.farm_page.specs.declared.view.RelaxedPlan.{RelaxedPlan}
 use Rattle.text_pieces.specs.Lines.{ended}
 
 -- each worker after a space
@@ -20,7 +21,13 @@ attempt_text evidence = ended (codes "attempt " ++ decimal evidence.attempt) ++ 
 abbrev pub part : List ℕ → List ℕ → List ℕ
 part title text = ended title ++ text
 
--- the number of the attempt, and what belongs to it: the lost workers, the status text and the report
-abbrev pub evidence_text : Evidence → List ℕ
-evidence_text evidence =
+-- the settings and the report of a plan that leaves out least numbers
+abbrev pub relaxed_text : Option RelaxedPlan → List ℕ
+relaxed_text None = []
+relaxed_text (Some plan) = part (codes "relaxed settings") plan.settings.items ++ part (codes "relaxed report") plan.report.items
+
+-- the number of the attempt, and what belongs to it: the lost workers, the status text, the report, and what is in force in place of a plan
+abbrev pub evidence_text : Evidence → Option RelaxedPlan → List ℕ
+evidence_text evidence relaxed =
     attempt_text evidence ++ part (codes "status") evidence.status.items ++ part (codes "report") evidence.report.items
+    ++ relaxed_text relaxed

@@ -1,5 +1,5 @@
 -- Whether a farm is well, for whoever watches it.
-use Rattle.std.specs.Prelude.{ℕ, ◌*◌, List, ◌++◌, Bool, true, false, not, ◌&&◌, nat_lt, codes, if◌then◌else◌}
+use Rattle.std.specs.Prelude.{ℕ, ◌+◌, ◌*◌, List, ◌++◌, Bool, true, false, not, ◌&&◌, ◌||◌, nat_le, nat_lt, codes, if◌then◌else◌}
 use Rattle.std.specs.Fmt.{decimal}
 use Rattle.farm_page.specs.Condition.{condition_of, sentence}
 use Rattle.farm_page.specs.View.{has_plan}
@@ -24,6 +24,10 @@ is_late moment = not (is_ending moment) && nat_lt (3 * moment.round_ms) moment.a
 
 abbrev pub is_healthy : FarmView → Moment → Bool
 is_healthy view moment = has_plan view.outcome && not (is_late moment) && not (is_ending moment)
+
+-- the farm ends, or its last attempt ended no longer ago than three rounds and a minute
+abbrev pub is_live : Moment → Bool
+is_live moment = is_ending moment || nat_le moment.age_ms (3 * moment.round_ms + 60000)
 
 -- how a farm is at a moment: to be watched if it ends, and bad if its last attempt is late
 abbrev pub condition_at : FarmView → Moment → Condition

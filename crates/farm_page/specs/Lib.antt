@@ -8,6 +8,7 @@ pub mod Markup
 pub mod Measured
 pub mod Metric
 pub mod Metrics
+pub mod Notices
 pub mod Replying
 pub mod Request
 pub mod Rows

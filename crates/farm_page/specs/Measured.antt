@@ -1,5 +1,6 @@
 -- What is measured of a farm, of a function and of a host.
-use Rattle.std.specs.Prelude.{ℕ, Bool, Option, Some, None, if◌then◌else◌, is_none, option_map}
+use Rattle.std.specs.Prelude.{ℕ, Bool, Option, Some, None, if◌then◌else◌, is_none, length, option_map}
+use Rattle.std.specs.Option.{option_map_or}
 use Rattle.farm_page.specs.Health.{is_ending, is_late}
 use Rattle.farm_page.specs.View.{has_plan}
 use Rattle.farm_page.specs.declared.health.Moment.{Moment}
@@ -13,7 +14,7 @@ use Rattle.farm_page.specs.declared.view.FarmView.{FarmView}
 use Rattle.farm_page.specs.declared.view.FunctionView.{FunctionView}
 use Rattle.farm_page.specs.declared.view.HostView.{HostView}
 use Rattle.farm_page.specs.declared.view.Outcome.{Outcome}
-use Rattle.farm_page.specs.declared.view.Outcome.TheVariants.{Backlog, NoPlan, NoRound, Unserved}
+use Rattle.farm_page.specs.declared.view.Outcome.TheVariants.{Backlog, NoPlan, NoRound, Unreadable, Unserved}
 
 abbrev pub number : Bool → ℕ
 number is = if is then 1 else 0
@@ -23,6 +24,7 @@ abbrev pub backlog_of : Outcome → Option ℕ
 backlog_of (Backlog jobs) = Some jobs
 backlog_of (Unserved jobs) = None
 backlog_of NoPlan = None
+backlog_of (Unreadable why line) = None
 backlog_of (NoRound why) = None
 
 -- how many jobs wait for a function that workers alive may do and none does: for the one that has the most
@@ -30,7 +32,12 @@ abbrev pub unserved_of : Outcome → Option ℕ
 unserved_of (Backlog jobs) = Some 0
 unserved_of (Unserved jobs) = Some jobs
 unserved_of NoPlan = None
+unserved_of (Unreadable why line) = None
 unserved_of (NoRound why) = None
+
+-- how many functions a plan in force leaves out of account
+abbrev pub let_off : FarmView → ℕ
+let_off view = option_map_or (λ plan. length plan.let_off.items) view.relaxed 0
 
 abbrev pub farm_value : FarmView → Moment → FarmNumber → Option ℕ
 farm_value view moment farm.Attempts = Some view.attempt
@@ -40,7 +47,12 @@ farm_value view moment farm.Unserved = unserved_of view.outcome
 farm_value view moment farm.IsLate = Some (number (is_late moment))
 farm_value view moment farm.IsEnding = Some (number (is_ending moment))
 farm_value view moment farm.AliveWorkers = Some view.workers.alive
+farm_value view moment farm.AliveBefore = Some view.turnover.alive_before
 farm_value view moment farm.Workers = Some view.workers.all
+farm_value view moment farm.SlotWorkers = Some view.turnover.most_used
+farm_value view moment farm.AgainTimes = Some view.again.times
+farm_value view moment farm.HeldConnections = Some view.again.held
+farm_value view moment farm.LetOff = Some (let_off view)
 
 abbrev pub function_value : FunctionView → FunctionNumber → Option ℕ
 function_value f function.Waiting = f.waiting

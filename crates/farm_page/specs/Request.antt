@@ -58,7 +58,10 @@ place_at path =
     else if bytes_eq path (codes "/report") then Some place.Report
     else if bytes_eq path (codes "/status.txt") then Some place.Status
     else if bytes_eq path (codes "/lost") then Some place.Lost
+    else if bytes_eq path (codes "/relaxed/settings") then Some place.RelaxedSettings
+    else if bytes_eq path (codes "/relaxed/report") then Some place.RelaxedReport
     else if bytes_eq path (codes "/health") then Some place.Health
+    else if bytes_eq path (codes "/live") then Some place.Live
     else if bytes_eq path (codes "/drain") then Some place.Drain
     else None
 
@@ -81,7 +84,10 @@ is_drain place.Evidence = false
 is_drain place.Report = false
 is_drain place.Status = false
 is_drain place.Lost = false
+is_drain place.RelaxedSettings = false
+is_drain place.RelaxedReport = false
 is_drain place.Health = false
+is_drain place.Live = false
 is_drain place.Drain = true
 
 -- a drain is asked for with its header, from this machine

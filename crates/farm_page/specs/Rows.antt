@@ -1,12 +1,14 @@
 -- The rows of a page's tables.
-use Rattle.std.specs.Prelude.{ℕ, ◌*◌, ◌/◌, ◌==◌, List, [], ◌++◌, Option, None, min, nat_lt}
+use Rattle.std.specs.Prelude.{ℕ, ◌*◌, ◌/◌, ◌==◌, Bool, List, [], ◌++◌, Option, None, min, nat_lt}
 use Rattle.std.specs.Prelude.{codes, if◌then◌else◌, option_map, string_bytes}
 use Rattle.std.specs.Fmt.{decimal}
 use Rattle.std.specs.Int.{div_ceil}
 use Rattle.std.specs.List.{flat_map}
 use Rattle.std.specs.Option.{option_map_or}
+use Rattle.farm_page.specs.Condition.{is_thinned}
 use Rattle.farm_page.specs.Escaping.{page_text}
 use Rattle.farm_page.specs.Measured.{function_value, host_value}
+use Rattle.farm_page.specs.Notices.{is_worn}
 use Rattle.farm_page.specs.declared.cells.Gap.{Gap}
 use Rattle.farm_page.specs.declared.cells.Gap.TheVariants.{Any, Unknown}
 use Rattle.farm_page.specs.declared.cells.Mark.{Mark}
@@ -17,6 +19,7 @@ use Rattle.farm_page.specs.declared.view.EndView.{EndView}
 use Rattle.farm_page.specs.declared.view.FailureEnd.{FailureEnd}
 use Rattle.farm_page.specs.declared.view.FailureEnd.TheVariants.{Failed, Lost, Said}
 use Rattle.farm_page.specs.declared.view.FailureView.{FailureView}
+use Rattle.farm_page.specs.declared.view.FarmView.{FarmView}
 use Rattle.farm_page.specs.declared.view.FunctionView.{FunctionView}
 use Rattle.farm_page.specs.declared.view.HostView.{HostView}
 use Rattle.farm_page.specs.declared.view.Workers.{Workers}
@@ -111,6 +114,17 @@ abbrev pub host_row : HostView → List ℕ
 host_row h =
     row_name (string_bytes h.name) ++ cell_if (host_value h host.Alive) Unknown ++ cell Plain h.all ++ bar_if h.alive h.all h.all
     ++ reached_cell h ++ codes "</tr>\n"
+
+-- a number that is to be looked at
+abbrev pub mark_of : Bool → Mark
+mark_of is_odd = if is_odd then Warn else Plain
+
+-- all workers: those alive before new ones started, those alive, those of the settings, how many ended, and the most of one slot
+abbrev pub workers_row : FarmView → List ℕ
+workers_row view =
+    row_name (codes "all") ++ cell (mark_of (is_thinned view)) view.turnover.alive_before ++ cell Plain view.workers.alive
+    ++ cell Plain view.workers.all ++ cell Plain view.turnover.ended
+    ++ cell (mark_of (is_worn view.turnover.most_used)) view.turnover.most_used ++ codes "</tr>\n"
 
 -- a cause for which no worker ended has no row
 abbrev pub end_row : EndView → List ℕ

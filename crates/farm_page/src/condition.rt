@@ -4,7 +4,7 @@ ghost use Rattle.std.specs.Prelude.{◌≡◌, ◌++◌, IfOk, OnOk, string_byte
 ghost use Rattle.std.specs.Option.{option_copied};
 ghost use Rattle.farm_page.specs.Condition as spec;
 
-use crate::view::{FarmView, FunctionView, HostView, Outcome, Shortage, Workers};
+use crate::view::{FarmView, FunctionView, HostView, JobsAgain, Outcome, Shortage, Workers};
 use std::alloc::{AllocError, Global};
 use std::fmt::Write;
 
@@ -14,7 +14,8 @@ const NAMED: usize = 3;
 /// How a farm is.
 #[derive(Clone, Copy, Debug, PartialEq, Eq)]
 pub enum Condition {
-    /// It has a plan, all its hosts are reached, all its workers are alive, and each function with jobs has a worker.
+    /// It has a plan, all its hosts are reached, all its workers are alive, at least half of them were before the attempt started new ones,
+    /// each function with jobs has a worker, and no job comes again.
     Well,
     /// It has a plan, but not all that the settings have; or it ends.
     Watch,
@@ -50,6 +51,27 @@ fn all_without_workers(functions: &[FunctionView]) -> u64
     jobs
 }
 
+/// Whether fewer than half of the workers were alive before the attempt started new ones.
+pub fn is_thinned(view: &FarmView) -> bool
+    ensures { result ≡ spec.is_thinned view.now }
+{
+    2 * u64::from(view.turnover.alive_before) < u64::from(view.workers.all)
+}
+
+/// Whether a job comes again.
+fn comes_again(view: &FarmView) -> bool
+    ensures { result ≡ spec.comes_again view.now }
+{
+    view.again.times > 0
+}
+
+/// Whether workers stay, and jobs are done, as in a farm that is well.
+fn is_calm(view: &FarmView) -> bool
+    ensures { result ≡ spec.is_calm view.now }
+{
+    !comes_again(view) && !is_thinned(view)
+}
+
 /// Whether a farm has workers, hosts and jobs as a farm that is well has them.
 fn is_whole(view: &FarmView) -> bool
     ensures { result ≡ spec.is_whole view.now }
@@ -60,7 +82,7 @@ fn is_whole(view: &FarmView) -> bool
     if all_without_workers(&view.functions) > 0 {
         return false;
     }
-    unreached(&view.hosts).is_none() && view.workers.alive >= view.workers.all
+    unreached(&view.hosts).is_none() && view.workers.alive >= view.workers.all && is_calm(view)
 }
 
 /// How a farm is.
@@ -87,15 +109,15 @@ fn push_names(out: &mut String, functions: &[String]) -> Result<(), AllocError>
     Ok(())
 }
 
-/// Adds the names of the first functions, and how many more there are.
-fn push_first_names(out: &mut String, functions: &[String]) -> Result<(), AllocError>
-    ensures { OnOk result (string_bytes out.new ≡ string_bytes out.old ++ spec.first_names functions.now) }
+/// Adds so many of the first names, and how many more there are.
+pub fn push_first_names(out: &mut String, named: usize, names: &[String]) -> Result<(), AllocError>
+    ensures { OnOk result (string_bytes out.new ≡ string_bytes out.old ++ spec.first_names named names.now) }
 {
-    if functions.len() <= NAMED {
-        return push_names(out, functions);
+    if names.len() <= named {
+        return push_names(out, names);
     }
-    let more = functions.len() - NAMED;
-    push_names(out, &functions[..NAMED])?;
+    let more = names.len() - named;
+    push_names(out, &names[..named])?;
     write!(out, " and {more} more")
 }
 
@@ -120,7 +142,7 @@ pub fn shortage_words(alloc: Global, shortage: &Shortage) -> Result<String, Allo
     ensures { IfOk result (λ words. string_bytes words ≡ spec.shortage_words shortage.now) }
 {
     let mut out = String::from_str(alloc, "for")?;
-    push_first_names(&mut out, &shortage.functions)?;
+    push_first_names(&mut out, NAMED, &shortage.functions)?;
     push_need(&mut out, shortage.need, shortage.have)?;
     Ok(out)
 }
@@ -170,6 +192,37 @@ fn few_words(alloc: Global, workers: Workers) -> Result<String, AllocError>
     Ok(out)
 }
 
+/// That a job comes again.
+fn again_words(alloc: Global, again: JobsAgain) -> Result<String, AllocError>
+    ensures { IfOk result (λ words. string_bytes words ≡ spec.again_words again) }
+{
+    let times = again.times;
+    let held = again.held;
+    format!(in alloc; "A job that no service does comes again: left {times} times lately, such jobs held now: {held}")
+}
+
+/// That few workers were alive before the attempt.
+fn thinned_words(alloc: Global, view: &FarmView) -> Result<String, AllocError>
+    ensures { IfOk result (λ words. string_bytes words ≡ spec.thinned_words view.now) }
+{
+    let before = view.turnover.alive_before;
+    let all = view.workers.all;
+    format!(in alloc; "{before} of {all} workers were alive before new ones started")
+}
+
+/// How a farm is whose workers are all alive.
+fn alive_words(alloc: Global, view: &FarmView, jobs: u64) -> Result<String, AllocError>
+    ensures { IfOk result (λ words. string_bytes words ≡ spec.all_alive_words view.now jobs) }
+{
+    if comes_again(view) {
+        return again_words(alloc, view.again);
+    }
+    if is_thinned(view) {
+        return thinned_words(alloc, view);
+    }
+    format!(in alloc; "Well: backlog {jobs}, as small as it can be")
+}
+
 /// How a farm is whose hosts are all reached.
 fn reached_words(alloc: Global, view: &FarmView, jobs: u64) -> Result<String, AllocError>
     ensures { IfOk result (λ words. string_bytes words ≡ spec.reached_words view.now jobs) }
@@ -181,7 +234,7 @@ fn reached_words(alloc: Global, view: &FarmView, jobs: u64) -> Result<String, Al
     if view.workers.alive < view.workers.all {
         return few_words(alloc, view.workers);
     }
-    format!(in alloc; "Well: backlog {jobs}, as small as it can be")
+    alive_words(alloc, view, jobs)
 }
 
 /// How a farm with a backlog is.
@@ -206,6 +259,8 @@ pub fn sentence(alloc: Global, view: &FarmView) -> Result<String, AllocError>
             )
         }
         Outcome::NoPlan => no_plan_words(alloc, &view.shortage),
-        Outcome::NoRound(why) => format!(in alloc; "No round was made: {why}"),
+        Outcome::Unreadable { why, .. } | Outcome::NoRound(why) => {
+            format!(in alloc; "No round was made: {why}")
+        }
     }
 }

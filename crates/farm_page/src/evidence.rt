@@ -3,7 +3,7 @@
 ghost use Rattle.std.specs.Prelude.{◌≡◌, ◌++◌, IfOk, OnOk};
 ghost use Rattle.farm_page.specs.Evidence as spec;
 
-use crate::view::Evidence;
+use crate::view::{Evidence, RelaxedPlan};
 use crate::writing::{put_bytes, put_number, put_text};
 use std::alloc::{AllocError, Global};
 
@@ -55,7 +55,19 @@ fn put_part(out: &mut Vec<u8>, title: &str, text: &[u8]) -> Result<(), AllocErro
     put_bytes(out, text)
 }
 
-/// All that a plan can be checked with, beside the settings, in one text. The only error is out of memory.
+/// Adds a plan that is in force in place of one that meets all least numbers, if there is one.
+fn put_relaxed(out: &mut Vec<u8>, relaxed: &Option<RelaxedPlan>) -> Result<(), AllocError>
+    ensures { OnOk result (out.new.items ≡ out.old.items ++ spec.relaxed_text relaxed.now) }
+{
+    let Some(plan) = relaxed else {
+        return Ok(());
+    };
+    put_part(out, "relaxed settings", &plan.settings)?;
+    put_part(out, "relaxed report", &plan.report)
+}
+
+/// All that a plan can be checked with, beside the settings, in one text. If no plan meets all least numbers, and one that leaves some out
+/// is in force, it has that too, with settings that leave them out. The only error is out of memory.
 ///
 /// ```text
 /// attempt 17
@@ -64,13 +76,22 @@ fn put_part(out: &mut Vec<u8>, title: &str, text: &[u8]) -> Result<(), AllocErro
 /// ..                        the status text, to its line `.`
 /// report
 /// ..                        the report, to its line `end`
+/// relaxed settings
+/// ..                        settings in which some least numbers are 0
+/// relaxed report
+/// ..                        the report of the plan in force, to its line `end`
 /// ```
-pub fn evidence_text(alloc: Global, evidence: &Evidence) -> Result<Vec<u8>, AllocError>
-    ensures { IfOk result (λ text. text.items ≡ spec.evidence_text evidence.now) }
+pub fn evidence_text(
+    alloc: Global,
+    evidence: &Evidence,
+    relaxed: &Option<RelaxedPlan>,
+) -> Result<Vec<u8>, AllocError>
+    ensures { IfOk result (λ text. text.items ≡ spec.evidence_text evidence.now relaxed.now) }
 {
     let mut out = Vec::new(alloc);
     put_attempt(&mut out, evidence)?;
     put_part(&mut out, "status", &evidence.status)?;
     put_part(&mut out, "report", &evidence.report)?;
+    put_relaxed(&mut out, relaxed)?;
     Ok(out)
 }

@@ -8,6 +8,9 @@ use crate::view::FarmView;
 use std::alloc::{AllocError, Global};
 use std::fmt::Write;
 
+/// For how many milliseconds an attempt may be late before the farm counts as stuck.
+const GRACE_MS: u64 = 60_000;
+
 /// Whether a farm goes on.
 #[derive(Clone, Copy, Debug, PartialEq, Eq)]
 pub enum FarmPhase {
@@ -49,6 +52,14 @@ pub fn is_healthy(view: &FarmView, moment: Moment) -> bool
     ensures { result ≡ spec.is_healthy view.now moment }
 {
     view.outcome.has_plan() && !moment.is_late() && !moment.is_ending()
+}
+
+/// Whether the farm makes attempts, or ends: its last attempt ended no longer ago than three rounds and a minute. A job server that is
+/// silent makes attempts late, and a restart does not mend it: a minute is longer than it can keep one.
+pub fn is_live(moment: Moment) -> bool
+    ensures { result ≡ spec.is_live moment }
+{
+    moment.is_ending() || moment.age_ms <= 3 * u64::from(moment.round_ms) + GRACE_MS
 }
 
 /// How a farm is at a moment: to be watched if it ends, and bad if its last attempt is late.

@@ -9,7 +9,9 @@
 //! | `GET /metrics` | the metrics, in the text format of Prometheus |
 //! | `GET /evidence` | the report, the status text and the lost workers of one attempt, in one text |
 //! | `GET /report`, `/status.txt`, `/lost` | its parts |
+//! | `GET /relaxed/settings`, `/relaxed/report` | its parts if no plan meets all least numbers, and one that leaves some out is in force |
 //! | `GET /health` | 200 if the farm goes on and its last attempt led to a plan, no more than three rounds ago, else 503; and how it is |
+//! | `GET /live` | 200 if the farm ends, or its last attempt ended no more than three rounds and a minute ago, else 503; and how it is |
 //! | `POST /drain` | the end of the farm, if it comes from this machine with the header `poolman: drain` |
 //!
 //! HEAD has the headers of GET. A request for another host gets 403, another path 404, another method 405.
@@ -28,6 +30,7 @@ mod markup;
 mod measured;
 mod metric;
 mod metrics;
+mod notices;
 mod page;
 mod replying;
 mod request;
@@ -43,7 +46,7 @@ pub use condition::{Condition, condition_of, sentence, shortage_words};
 pub use evidence::{evidence_text, lost_text};
 pub use failures::Failures;
 pub use headers::{Header, headers_of};
-pub use health::{FarmPhase, Moment, condition_at, health_text, is_healthy, sentence_at};
+pub use health::{FarmPhase, Moment, condition_at, health_text, is_healthy, is_live, sentence_at};
 pub use markup::{Markup, escaped};
 pub use measured::{FarmNumber, FunctionNumber, HostNumber};
 pub use metric::{METRICS, Metric, MetricKind, Row, Value};
@@ -54,5 +57,5 @@ pub use request::{Asked, Method, Place, Refusal, Site, place_asked};
 pub use style::POLICY;
 pub use view::{
     AttemptView, EndView, Evidence, FailureEnd, FailureView, FarmView, FunctionView, HostView,
-    JobEnds, Outcome, Shortage, Workers,
+    JobEnds, JobsAgain, Outcome, RelaxedPlan, Shortage, Turnover, Workers,
 };

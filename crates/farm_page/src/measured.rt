@@ -23,8 +23,18 @@ pub enum FarmNumber {
     IsEnding,
     /// Workers alive.
     AliveWorkers,
+    /// Workers that were alive before the last attempt started new ones.
+    AliveBefore,
     /// Workers of the settings.
     Workers,
+    /// The most workers that one slot has had.
+    SlotWorkers,
+    /// How often the job that was left most often was left lately.
+    AgainTimes,
+    /// Connections that are held with a job that comes again.
+    HeldConnections,
+    /// Functions whose least numbers are left out.
+    LetOff,
 }
 
 /// A number of a function.
@@ -59,6 +69,16 @@ pub enum HostNumber {
     Workers,
 }
 
+/// How many functions a plan in force leaves out of account.
+fn let_off(view: &FarmView) -> u64
+    ensures { result ≡ spec.let_off view.now }
+{
+    match &view.relaxed {
+        Some(plan) => plan.let_off.len() as u64,
+        None => 0,
+    }
+}
+
 /// A number of the farm at a moment. None if it has no value now.
 pub fn farm_value(view: &FarmView, moment: Moment, number: FarmNumber) -> Option<u64>
     ensures { result ≡ spec.farm_value view.now moment number }
@@ -72,7 +92,12 @@ pub fn farm_value(view: &FarmView, moment: Moment, number: FarmNumber) -> Option
         (FarmNumber::IsLate, _) => Some(u64::from(moment.is_late())),
         (FarmNumber::IsEnding, _) => Some(u64::from(moment.is_ending())),
         (FarmNumber::AliveWorkers, _) => Some(u64::from(view.workers.alive)),
+        (FarmNumber::AliveBefore, _) => Some(u64::from(view.turnover.alive_before)),
         (FarmNumber::Workers, _) => Some(u64::from(view.workers.all)),
+        (FarmNumber::SlotWorkers, _) => Some(u64::from(view.turnover.most_used)),
+        (FarmNumber::AgainTimes, _) => Some(u64::from(view.again.times)),
+        (FarmNumber::HeldConnections, _) => Some(u64::from(view.again.held)),
+        (FarmNumber::LetOff, _) => Some(let_off(view)),
         _ => None,
     }
 }

@@ -70,7 +70,7 @@ pub struct Row<T> {
 pub type Metric = Row<&'static str>;
 
 /// All metrics, in the order in which they are told.
-pub static METRICS: [Metric; 20] = [
+pub static METRICS: [Metric; 25] = [
     Row {
         name: "poolman_attempts_total",
         kind: MetricKind::Counter,
@@ -114,10 +114,40 @@ pub static METRICS: [Metric; 20] = [
         help: "Workers alive.",
     },
     Row {
+        name: "poolman_alive_before_workers",
+        kind: MetricKind::Gauge,
+        value: Value::Farm(FarmNumber::AliveBefore),
+        help: "Workers that were alive before the last attempt started new ones.",
+    },
+    Row {
         name: "poolman_workers",
         kind: MetricKind::Gauge,
         value: Value::Farm(FarmNumber::Workers),
         help: "Workers of the settings.",
+    },
+    Row {
+        name: "poolman_slot_workers",
+        kind: MetricKind::Gauge,
+        value: Value::Farm(FarmNumber::SlotWorkers),
+        help: "Workers that the most used slot has had, of 262143.",
+    },
+    Row {
+        name: "poolman_again_times",
+        kind: MetricKind::Gauge,
+        value: Value::Farm(FarmNumber::AgainTimes),
+        help: "How often the job that was left most often was left lately, 0 if none comes again.",
+    },
+    Row {
+        name: "poolman_held_connections",
+        kind: MetricKind::Gauge,
+        value: Value::Farm(FarmNumber::HeldConnections),
+        help: "Connections of workers that hold a job that comes again.",
+    },
+    Row {
+        name: "poolman_let_off_functions",
+        kind: MetricKind::Gauge,
+        value: Value::Farm(FarmNumber::LetOff),
+        help: "Functions short of workers, whose least numbers the plan in force leaves out.",
     },
     Row {
         name: "poolman_function_waiting_jobs",

@@ -3,14 +3,18 @@
 ghost use Rattle.std.specs.Prelude.{◌≡◌, ◌++◌, IfOk, OnOk};
 ghost use Rattle.farm_page.specs.Health.{condition_at, sentence_at};
 ghost use Rattle.farm_page.specs.Markup.{IsPageOf, opening};
+ghost use Rattle.farm_page.specs.Notices.{notices};
+ghost use Rattle.farm_page.specs.Rows.{workers_row};
 ghost use Rattle.farm_page.specs.Sections.{Holds, body_tag, end_rows, failures_part, function_rows, headline, host_rows, server_words};
 
 use crate::condition::{Condition, shortage_words};
 use crate::drawing::drawings;
 use crate::health::{Moment, condition_at, sentence_at};
 use crate::markup::Markup;
+use crate::notices::notices_of;
 use crate::sections::{
     Share, ends_section, failures_section, functions_section, headline, hosts_section,
+    workers_section,
 };
 use crate::style::{DAY, DRAWINGS, FRAME, NIGHT, TABLES};
 use crate::view::FarmView;
@@ -130,21 +134,24 @@ fn state(alloc: Global, view: &FarmView, refresh: Refresh) -> Result<Markup, All
 const FOOT: &str =
     "</main><footer><p>Do not trust this page: check the plan yourself with <a href=\"/evidence\">its evidence</a> \
 and <b>poolman check</b>.</p><nav><a href=\"/report\">report</a><a href=\"/status.txt\">status text</a>\
-<a href=\"/lost\">lost workers</a><a href=\"/metrics\">metrics</a><a href=\"/health\">health</a></nav></footer>\n</body></html>\n";
+<a href=\"/lost\">lost workers</a><a href=\"/metrics\">metrics</a><a href=\"/health\">health</a><a href=\"/live\">live</a></nav></footer>\n</body></html>\n";
 
 /// The tables of a page. The only error is out of memory.
 fn tables(alloc: Global, view: &FarmView) -> Result<Markup, AllocError>
     ensures busy { IfOk result (λ part. Holds part (function_rows Share.Busy view.now.workers.all view.now.functions.items)) }
     ensures quiet { IfOk result (λ part. Holds part (function_rows Share.Quiet view.now.workers.all view.now.functions.items)) }
     ensures hosts { IfOk result (λ part. Holds part (host_rows view.now.hosts.items)) }
+    ensures workers { IfOk result (λ part. Holds part (workers_row view.now)) }
     ensures ends { IfOk result (λ part. Holds part (end_rows view.now.ends.items)) }
     ensures failures { IfOk result (λ part. Holds part (failures_part view.now.failures)) }
 {
     let mut out = functions_section(alloc, view)?;
     let hosts = hosts_section(alloc, view)?;
+    let workers = workers_section(alloc, view)?;
     let ends = ends_section(alloc, view)?;
     let failures = failures_section(alloc, view)?;
     out.put(&hosts)?;
+    out.put(&workers)?;
     out.put(&ends)?;
     out.put(&failures)?;
     Ok(out)
@@ -161,17 +168,21 @@ fn rest_of(
     ensures sentence { IfOk result (λ rest. Holds rest (headline (sentence_at view.now moment))) }
     ensures busy { IfOk result (λ rest. Holds rest (function_rows Share.Busy view.now.workers.all view.now.functions.items)) }
     ensures quiet { IfOk result (λ rest. Holds rest (function_rows Share.Quiet view.now.workers.all view.now.functions.items)) }
+    ensures notices { IfOk result (λ rest. Holds rest (notices view.now)) }
     ensures hosts { IfOk result (λ rest. Holds rest (host_rows view.now.hosts.items)) }
+    ensures workers { IfOk result (λ rest. Holds rest (workers_row view.now)) }
     ensures ends { IfOk result (λ rest. Holds rest (end_rows view.now.ends.items)) }
     ensures failures { IfOk result (λ rest. Holds rest (failures_part view.now.failures)) }
 {
     let words = sentence_at(alloc, view, moment)?;
     let mut out = head(alloc, view, moment, words.as_str())?;
     let headline = headline(alloc, words.as_str())?;
+    let notices = notices_of(alloc, view)?;
     let state = state(alloc, view, refresh)?;
     let drawing = drawings(alloc, &view.attempts)?;
     let tables = tables(alloc, view)?;
     out.put(&headline)?;
+    out.put(&notices)?;
     out.put(&state)?;
     out.put(&drawing)?;
     out.put(&tables)?;
@@ -179,9 +190,9 @@ fn rest_of(
     Ok(out)
 }
 
-/// The page of a farm at a moment, in HTML: how the farm is then in one sentence, what shows it, the backlogs and the waiting jobs of the
-/// last attempts as two drawings, and the tables of the functions, the hosts, the causes for which workers ended, and the last jobs that
-/// were not completed. It has no script, and no file from elsewhere. Whatever names it shows, each `<` in it begins a tag of the program's
+/// The page of a farm at a moment, in HTML: how the farm is then in one sentence, what is to be done, what shows it, the backlogs and the
+/// waiting jobs of the last attempts as two drawings, and the tables of the functions, the hosts, all workers, the causes for which workers
+/// ended, and the last jobs that were not completed. It has no script, and no file from elsewhere. Whatever names it shows, each `<` in it begins a tag of the program's
 /// own. The only error is out of memory.
 pub fn page_text(
     alloc: Global,
@@ -194,7 +205,9 @@ pub fn page_text(
     ensures sentence { IfOk result (λ page. Holds page.items (headline (sentence_at view.now moment))) }
     ensures busy { IfOk result (λ page. Holds page.items (function_rows Share.Busy view.now.workers.all view.now.functions.items)) }
     ensures quiet { IfOk result (λ page. Holds page.items (function_rows Share.Quiet view.now.workers.all view.now.functions.items)) }
+    ensures notices { IfOk result (λ page. Holds page.items (notices view.now)) }
     ensures hosts { IfOk result (λ page. Holds page.items (host_rows view.now.hosts.items)) }
+    ensures workers { IfOk result (λ page. Holds page.items (workers_row view.now)) }
     ensures ends { IfOk result (λ page. Holds page.items (end_rows view.now.ends.items)) }
     ensures failures { IfOk result (λ page. Holds page.items (failures_part view.now.failures)) }
 {

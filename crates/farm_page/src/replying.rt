@@ -6,11 +6,11 @@ ghost use Rattle.farm_page.specs.Replying as spec;
 
 use crate::answer::{Allowed, Answer, Content, Status};
 use crate::evidence::{evidence_text, lost_text};
-use crate::health::{Moment, health_text, is_healthy};
+use crate::health::{Moment, health_text, is_healthy, is_live};
 use crate::metrics::metrics_text;
 use crate::page::{Refresh, page_text};
 use crate::request::{Asked, Place, Refusal, Site, place_asked};
-use crate::view::{Evidence, FarmView};
+use crate::view::{Evidence, FarmView, RelaxedPlan};
 use std::alloc::{AllocError, Global};
 
 /// What a request is answered.
@@ -88,11 +88,16 @@ enum Part {
 }
 
 /// The text of a part of the evidence.
-fn part_text(alloc: Global, evidence: &Evidence, part: Part) -> Result<Vec<u8>, AllocError>
-    ensures { IfOk result (λ text. text.items ≡ spec.part_text part evidence.now) }
+fn part_text(
+    alloc: Global,
+    evidence: &Evidence,
+    relaxed: &Option<RelaxedPlan>,
+    part: Part,
+) -> Result<Vec<u8>, AllocError>
+    ensures { IfOk result (λ text. text.items ≡ spec.part_text part evidence.now relaxed.now) }
 {
     match part {
-        Part::Whole => evidence_text(alloc, evidence),
+        Part::Whole => evidence_text(alloc, evidence, relaxed),
         Part::Report => Vec::from_slice(alloc, &evidence.report),
         Part::Status => Vec::from_slice(alloc, &evidence.status),
         Part::Lost => lost_text(alloc, evidence),
@@ -100,10 +105,10 @@ fn part_text(alloc: Global, evidence: &Evidence, part: Part) -> Result<Vec<u8>, 
 }
 
 /// The answer of a part of the evidence, with the number of its attempt.
-fn part_answer(alloc: Global, evidence: &Option<Evidence>, part: Part) -> Result<Answer, AllocError>
-    ensures { IfOk result (λ answer. answer ≡ spec.part_answer part evidence.now) }
+fn part_answer(alloc: Global, farm: &FarmView, part: Part) -> Result<Answer, AllocError>
+    ensures { IfOk result (λ answer. answer ≡ spec.part_answer part farm.now.evidence farm.now.relaxed) }
 {
-    let Some(evidence) = evidence else {
+    let Some(evidence) = &farm.evidence else {
         return words(alloc, Status::Unavailable, "503: there was no round yet\n");
     };
     Ok(Answer {
@@ -111,7 +116,44 @@ fn part_answer(alloc: Global, evidence: &Option<Evidence>, part: Part) -> Result
         content: Content::Text,
         attempt: Some(evidence.attempt),
         allowed: None,
-        body: part_text(alloc, evidence, part)?,
+        body: part_text(alloc, evidence, &farm.relaxed, part)?,
+    })
+}
+
+/// A part of the plan that is in force in place of one that meets all least numbers.
+#[derive(Clone, Copy)]
+enum RelaxedPart {
+    Settings,
+    Report,
+}
+
+/// The text of such a part.
+fn relaxed_text(
+    alloc: Global,
+    plan: &RelaxedPlan,
+    part: RelaxedPart,
+) -> Result<Vec<u8>, AllocError>
+    ensures { IfOk result (λ text. text.items ≡ spec.relaxed_part part plan.now) }
+{
+    match part {
+        RelaxedPart::Settings => Vec::from_slice(alloc, &plan.settings),
+        RelaxedPart::Report => Vec::from_slice(alloc, &plan.report),
+    }
+}
+
+/// The answer of such a part, with the number of the attempt.
+fn relaxed_answer(alloc: Global, farm: &FarmView, part: RelaxedPart) -> Result<Answer, AllocError>
+    ensures { IfOk result (λ answer. answer ≡ spec.relaxed_answer part farm.now.evidence farm.now.relaxed) }
+{
+    let (Some(evidence), Some(plan)) = (&farm.evidence, &farm.relaxed) else {
+        return words(alloc, Status::Unavailable, "503: no least numbers are left out\n");
+    };
+    Ok(Answer {
+        status: Status::Ok,
+        content: Content::Text,
+        attempt: Some(evidence.attempt),
+        allowed: None,
+        body: relaxed_text(alloc, plan, part)?,
     })
 }
 
@@ -141,17 +183,31 @@ fn metrics_answer(alloc: Global, seen: &Seen<'_>) -> Result<Answer, AllocError>
     })
 }
 
-/// The answer of health.
-fn health_answer(alloc: Global, seen: &Seen<'_>) -> Result<Answer, AllocError>
-    ensures { IfOk result (λ answer. answer ≡ spec.health_answer seen.now) }
+/// An answer that says how the farm is, with 200 if it is as it was asked, and else 503.
+fn state_answer(alloc: Global, seen: &Seen<'_>, is_so: bool) -> Result<Answer, AllocError>
+    ensures { IfOk result (λ answer. answer ≡ spec.state_answer seen.now is_so) }
 {
-    let status = if is_healthy(seen.farm, seen.moment) {
+    let status = if is_so {
         Status::Ok
     } else {
         Status::Unavailable
     };
     let line = health_text(alloc, seen.farm, seen.moment)?;
     words(alloc, status, line.as_str())
+}
+
+/// The answer of health.
+fn health_answer(alloc: Global, seen: &Seen<'_>) -> Result<Answer, AllocError>
+    ensures { IfOk result (λ answer. answer ≡ spec.health_answer seen.now) }
+{
+    state_answer(alloc, seen, is_healthy(seen.farm, seen.moment))
+}
+
+/// The answer of whether the farm makes attempts.
+fn live_answer(alloc: Global, seen: &Seen<'_>) -> Result<Answer, AllocError>
+    ensures { IfOk result (λ answer. answer ≡ spec.live_answer seen.now) }
+{
+    state_answer(alloc, seen, is_live(seen.moment))
 }
 
 /// What is answered for a place.
@@ -163,16 +219,19 @@ fn reply_at(
 ) -> Result<Reply, AllocError>
     ensures { IfOk result (λ reply. spec.RepliesAt seen.now refresh place reply) }
 {
-    let evidence = &seen.farm.evidence;
+    let farm = seen.farm;
     let answer = match place {
         Place::Drain => return Ok(Reply::Drain),
         Place::Page => page_answer(alloc, seen, refresh)?,
         Place::Metrics => metrics_answer(alloc, seen)?,
-        Place::Evidence => part_answer(alloc, evidence, Part::Whole)?,
-        Place::Report => part_answer(alloc, evidence, Part::Report)?,
-        Place::Status => part_answer(alloc, evidence, Part::Status)?,
-        Place::Lost => part_answer(alloc, evidence, Part::Lost)?,
+        Place::Evidence => part_answer(alloc, farm, Part::Whole)?,
+        Place::Report => part_answer(alloc, farm, Part::Report)?,
+        Place::Status => part_answer(alloc, farm, Part::Status)?,
+        Place::Lost => part_answer(alloc, farm, Part::Lost)?,
+        Place::RelaxedSettings => relaxed_answer(alloc, farm, RelaxedPart::Settings)?,
+        Place::RelaxedReport => relaxed_answer(alloc, farm, RelaxedPart::Report)?,
         Place::Health => health_answer(alloc, seen)?,
+        Place::Live => live_answer(alloc, seen)?,
     };
     Ok(Reply::Told(answer))
 }

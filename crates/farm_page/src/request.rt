@@ -64,8 +64,14 @@ pub enum Place {
     Status,
     /// The workers that were not alive.
     Lost,
+    /// The settings of the plan that is in force in place of one that meets all least numbers.
+    RelaxedSettings,
+    /// The report of that plan.
+    RelaxedReport,
     /// Whether the farm is well.
     Health,
+    /// Whether the farm makes attempts.
+    Live,
     /// The end of the farm.
     Drain,
 }
@@ -162,8 +168,14 @@ fn place_at(path: &[u8]) -> Option<Place>
         Some(Place::Status)
     } else if path == b"/lost".as_slice() {
         Some(Place::Lost)
+    } else if path == b"/relaxed/settings".as_slice() {
+        Some(Place::RelaxedSettings)
+    } else if path == b"/relaxed/report".as_slice() {
+        Some(Place::RelaxedReport)
     } else if path == b"/health".as_slice() {
         Some(Place::Health)
+    } else if path == b"/live".as_slice() {
+        Some(Place::Live)
     } else if path == b"/drain".as_slice() {
         Some(Place::Drain)
     } else {

@@ -6,9 +6,13 @@ ghost use Rattle.farm_page.specs.Rows as spec;
 use crate::cells::{
     Gap, Mark, put_bar_if, put_cell, put_cell_if, put_fault_cell, put_gap, put_row_name, put_words,
 };
+use crate::condition::is_thinned;
 use crate::markup::Markup;
 use crate::measured::{FunctionNumber, HostNumber, function_value, host_value};
-use crate::view::{EndView, FailureEnd, FailureView, FunctionView, HostView};
+use crate::notices::is_worn;
+use crate::view::{
+    EndView, FailureEnd, FailureView, FarmView, FunctionView, HostView,
+};
 use std::alloc::AllocError;
 
 /// How the number of a function's workers is shown: it is wrong below the least number.
@@ -139,6 +143,27 @@ pub fn put_failure(out: &mut Markup, failure: &FailureView) -> Result<(), AllocE
     put_words(out, "", failure.function.as_str())?;
     put_words(out, "", failure.worker.as_str())?;
     put_failure_end(out, &failure.end)?;
+    out.put_tags("</tr>\n")
+}
+
+/// How a number is shown that is to be looked at, or is as it should be.
+fn mark_of(is_odd: bool) -> Mark
+    ensures { result ≡ spec.mark_of is_odd }
+{
+    if is_odd { Mark::Warn } else { Mark::Plain }
+}
+
+/// Adds the row of all workers of a farm: how they come and go.
+pub fn put_all_workers(out: &mut Markup, view: &FarmView) -> Result<(), AllocError>
+    ensures { OnOk result (out.new ≡ out.old ++ spec.workers_row view.now) }
+{
+    let turnover = view.turnover;
+    put_row_name(out, "all")?;
+    put_cell(out, mark_of(is_thinned(view)), u64::from(turnover.alive_before))?;
+    put_cell(out, Mark::Plain, u64::from(view.workers.alive))?;
+    put_cell(out, Mark::Plain, u64::from(view.workers.all))?;
+    put_cell(out, Mark::Plain, turnover.ended)?;
+    put_cell(out, mark_of(is_worn(turnover.most_used)), u64::from(turnover.most_used))?;
     out.put_tags("</tr>\n")
 }
 

@@ -1,11 +1,11 @@
 //! The parts of a page that say what the farm is: its sentence, and its tables.
 
 ghost use Rattle.std.specs.Prelude.{◌≡◌, ◌++◌, IfOk, OnOk};
-ghost use Rattle.farm_page.specs.Rows.{failure_rows};
+ghost use Rattle.farm_page.specs.Rows.{failure_rows, workers_row};
 ghost use Rattle.farm_page.specs.Sections as spec;
 
 use crate::markup::Markup;
-use crate::rows::{put_end, put_failure, put_function, put_host};
+use crate::rows::{put_all_workers, put_end, put_failure, put_function, put_host};
 use crate::view::{EndView, FailureView, FarmView, FunctionView, HostView, JobEnds};
 use std::alloc::{AllocError, Global};
 
@@ -161,6 +161,12 @@ const HOSTS: &str = "<section><h2>Hosts</h2><div class=\"wide\"><table><thead><t
 <th class=\"words\" scope=\"col\">host</th><th scope=\"col\">workers alive</th><th scope=\"col\">workers</th>\
 <th scope=\"col\">share alive</th><th class=\"words\" scope=\"col\">service</th></tr></thead><tbody>\n";
 
+/// The head of the table of all workers.
+const WORKERS: &str = "<section><h2>Workers</h2><div class=\"wide\"><table><thead><tr>\
+<th class=\"words\" scope=\"col\">workers</th><th scope=\"col\">alive before new ones</th><th scope=\"col\">alive</th>\
+<th scope=\"col\">in the settings</th><th scope=\"col\">ended since the attempt before</th>\
+<th scope=\"col\">most of one slot, of 262143</th></tr></thead><tbody>\n";
+
 /// The head of the table of causes.
 const ENDS: &str = "<section><h2>Workers that ended</h2><div class=\"wide\"><table><thead><tr>\
 <th class=\"words\" scope=\"col\">cause</th><th scope=\"col\">workers</th></tr></thead><tbody>\n";
@@ -203,6 +209,19 @@ pub fn hosts_section(alloc: Global, view: &FarmView) -> Result<Markup, AllocErro
     let mut out = Markup::new(alloc);
     out.put_tags(HOSTS)?;
     out.put(&rows)?;
+    out.put_tags(END)?;
+    Ok(out)
+}
+
+/// The table of all workers. The only error is out of memory.
+pub fn workers_section(alloc: Global, view: &FarmView) -> Result<Markup, AllocError>
+    ensures { IfOk result (λ part. spec.Holds part (workers_row view.now)) }
+{
+    let mut row = Markup::new(alloc);
+    put_all_workers(&mut row, view)?;
+    let mut out = Markup::new(alloc);
+    out.put_tags(WORKERS)?;
+    out.put(&row)?;
     out.put_tags(END)?;
     Ok(out)
 }

@@ -15,7 +15,14 @@ pub enum Outcome {
     Unserved(u64),
     /// No plan meets the least and greatest numbers of workers.
     NoPlan,
-    /// No round was made. The words say why, as the line of the attempt does.
+    /// No round was made, since a line of the job server's status text cannot be read.
+    Unreadable {
+        /// Why, as the line of the attempt says it.
+        why: String,
+        /// The number of that line, from 1.
+        line: u32,
+    },
+    /// No round was made, for another reason. The words say why, as the line of the attempt does.
     NoRound(String),
 }
 
@@ -45,6 +52,26 @@ pub struct Workers {
     pub alive: u32,
     /// Those of the settings.
     pub all: u32,
+}
+
+/// How workers come and go.
+#[derive(Clone, Copy)]
+pub struct Turnover {
+    /// Workers that were alive when the attempt began, before it started new ones.
+    pub alive_before: u32,
+    /// Workers that ended since the attempt before.
+    pub ended: u64,
+    /// The most workers that one slot has had so far.
+    pub most_used: u32,
+}
+
+/// Jobs that services leave, and that come again.
+#[derive(Clone, Copy, Debug, PartialEq, Eq)]
+pub struct JobsAgain {
+    /// How often the job that was left most often was left lately. 0 if none came again.
+    pub times: u32,
+    /// How many workers' connections are held with such a job now.
+    pub held: u32,
 }
 
 /// What became of the jobs of a function since the farm began.
@@ -138,6 +165,18 @@ pub struct Shortage {
     pub have: u64,
 }
 
+/// A plan that is in force though no plan meets all least numbers: it leaves out those of functions that are short of workers.
+#[derive(Drop)]
+pub struct RelaxedPlan {
+    /// The names of these functions.
+    pub let_off: Vec<String>,
+    /// A settings file in which their least numbers are 0. With it, and with the status text and the lost workers of the evidence, the
+    /// report can be checked.
+    pub settings: Vec<u8>,
+    /// The report of the plan, whole.
+    pub report: Vec<u8>,
+}
+
 /// All that a plan can be checked with, beside the settings. Its parts are of one attempt.
 #[derive(Drop)]
 pub struct Evidence {
@@ -166,6 +205,12 @@ pub struct FarmView {
     pub shortage: Option<Shortage>,
     /// The workers of the farm.
     pub workers: Workers,
+    /// How they come and go.
+    pub turnover: Turnover,
+    /// The jobs that come again.
+    pub again: JobsAgain,
+    /// The names of the machines that have no worker for want of files or threads.
+    pub without_room: Vec<String>,
     /// The functions, in the order of the settings.
     pub functions: Vec<FunctionView>,
     /// The hosts, in the order of the settings.
@@ -176,6 +221,8 @@ pub struct FarmView {
     pub failures: Failures,
     /// The evidence of the last attempt that had any.
     pub evidence: Option<Evidence>,
+    /// The plan of that attempt that is in force in place of one that meets all least numbers, if there is none of these.
+    pub relaxed: Option<RelaxedPlan>,
     /// The last attempts, this one last.
     pub attempts: Attempts,
 }

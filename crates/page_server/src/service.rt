@@ -12,8 +12,8 @@ use crate::places::Ticket;
 use crate::shared_page::{PageTimes, SharedPage};
 use bytes::{BufMut, Bytes};
 use farm_page::{
-    Asked, Attempts, Failures, FarmPhase, FarmView, Moment, Outcome, Reply, Seen, Site, Workers,
-    reply_to,
+    Asked, Attempts, Failures, FarmPhase, FarmView, JobsAgain, Moment, Outcome, Reply, Seen, Site,
+    Turnover, Workers, reply_to,
 };
 use http::{Request, StatusCode};
 use http_server::{Response, Service};
@@ -52,11 +52,19 @@ fn before_attempts(alloc: Global) -> Result<FarmView, AllocError> {
         outcome: Outcome::NoRound(String::from_str(alloc, "no attempt yet")?),
         shortage: None,
         workers: Workers { alive: 0, all: 0 },
+        turnover: Turnover {
+            alive_before: 0,
+            ended: 0,
+            most_used: 0,
+        },
+        again: JobsAgain { times: 0, held: 0 },
+        without_room: Vec::new(alloc),
         functions: Vec::new(alloc),
         hosts: Vec::new(alloc),
         ends: Vec::new(alloc),
         failures: Failures::new(alloc),
         evidence: None,
+        relaxed: None,
         attempts: Attempts::new(alloc),
     })
 }

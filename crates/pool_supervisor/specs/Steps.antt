@@ -11,6 +11,7 @@ use Rattle.worker_state.specs.Slots.{last_generation}
 use Rattle.worker_state.specs.declared.slot.WorkerName.{WorkerName}
 use Rattle.pool_settings.specs.Planning.{instance_of}
 use Rattle.pool_settings.specs.Settings.{Settings}
+use Rattle.relaxed_plan.specs.Relaxed.{let_off_of}
 use Rattle.pool_core.specs.Machine.{State, slot_in}
 use Rattle.pool_core.specs.Book.{Book, IsInputOf, expire_refusal, grab_refusal, ran_of}
 use Rattle.pool_core.specs.Calls.{EndsChapter, Grabs}
@@ -58,6 +59,11 @@ most_forgotten = 1024
 -- The input is one of these settings.
 abbrev pub IsMadeOf : Settings → Instance → Type 0
 IsMadeOf settings input = (live : List Bool) × (waiting : List ℕ) × (input ≡ instance_of settings live waiting)
+
+-- The input is one of these settings, but the least numbers of these functions are 0.
+abbrev pub IsLetOffOf : Settings → List ℕ → Instance → Type 0
+IsLetOffOf settings let_off input =
+    (live : List Bool) × (waiting : List ℕ) × (input ≡ let_off_of (instance_of settings live waiting) let_off)
 
 -- What was viewed of a pool of these settings, in a state that a history leads to: its input, and the plan before it.
 abbrev pub IsViewOf : Settings → Instance × Option (List (ℕ × Option ℕ)) → Type 0

@@ -359,8 +359,8 @@ impl<
             settings: site.run.settings,
             number,
             attempt: &attempt,
-            alive: site.alive(),
             alive_before,
+            alive: site.alive(),
             most_used: site.most_used(),
             longest: self.longest,
         });

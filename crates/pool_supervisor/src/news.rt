@@ -1,7 +1,7 @@
 //! What is reported of a run while it goes on.
 ghost use Rattle.std.specs.Prelude.{◌<◌};
 ghost use Rattle.pool_settings.specs.Slots.{slots};
-ghost use Rattle.pool_supervisor.specs.Steps.{IsMadeOf};
+ghost use Rattle.pool_supervisor.specs.Steps.{IsLetOffOf, IsMadeOf};
 
 use crate::attempt::Attempt;
 use crate::queue::Queue;
@@ -22,10 +22,10 @@ pub struct Attempted<'a> {
     pub number: u32,
     /// What it came to.
     pub attempt: &'a Attempt,
-    /// How many workers are alive after it.
-    pub alive: u32,
     /// How many workers were alive when the attempt began, before it started new ones.
     pub alive_before: u32,
+    /// How many workers are alive after it.
+    pub alive: u32,
     /// The most workers that one slot has had so far.
     pub most_used: u32,
     /// The longest queue per worker under the attempt's plan. None if it led to no plan, or if no job waits.
@@ -69,7 +69,9 @@ pub trait Progress {
 
     /// The last answer that was found says that there is no plan, and this relaxed plan was found. Its orders are posted if the pool takes
     /// the answer.
-    fn relaxed(&self, _settings: &Settings, _relaxed: &Relaxed) {}
+    fn relaxed(&self, _settings: &Settings, _relaxed: &Relaxed)
+        requires of_these { IsLetOffOf _settings.now _relaxed.now.let_off _relaxed.now.certified.input }
+    {}
 
     /// An attempt was made.
     fn attempted(&self, made: &Attempted<'_>);

@@ -11,7 +11,7 @@ use crate::last_jobs::AnsweredJob;
 use crate::page_door::PageDoor;
 use farm_hosts::{BeforeJob, lets_go_on, said_of_host};
 use farm_notes::{Known, PageNotes};
-use farm_page::FarmView;
+use farm_page::{FarmView, JobsAgain};
 use http_jobs::try_dial;
 use job_runner::Readiness;
 use plan_model::{Certified, MachineId, SlotId};
@@ -19,6 +19,7 @@ use pool_core::{JoinError, totals_line};
 use pool_settings::Settings;
 use pool_supervisor::{Attempt, Attempted, EndedWorker, JoinedWorker, Progress, RunEnd, Watch};
 use refusal::Labelled;
+use relaxed_plan::Relaxed;
 use run_command::{attempt_told, end_notes, gave_no_status};
 use std::alloc::{AllocError, Global};
 use std::sync::{Mutex, Wait};
@@ -142,6 +143,8 @@ impl<'e, H: Wait> Reporting<'e, H> {
             unreached: &unreached,
             jobs: &jobs,
             failures: &failures,
+            again: JobsAgain { times: 0, held: 0 },
+            without_room: &[],
         };
         notes.view(self, self.alloc, made, &known).ok()
     }
@@ -292,6 +295,12 @@ impl<'e, H: FarmHost> Progress for Reporting<'e, H> {
     fn planned(&self, settings: &Settings, certified: &Certified) {
         if let Some(notes) = &self.notes {
             notes.planned(self, self.alloc, settings, certified);
+        }
+    }
+
+    fn relaxed(&self, settings: &Settings, relaxed: &Relaxed) {
+        if let Some(notes) = &self.notes {
+            notes.relaxed(self, self.alloc, settings, relaxed);
         }
     }
 

@@ -1,6 +1,6 @@
 use Rattle.std.proofs.Common.{List, [], ℕ, ◌++◌}
 use Rattle.std.specs.Prelude.{codes}
-use Rattle.farm_page.specs.Evidence.{attempt_text, part}
+use Rattle.farm_page.specs.Evidence.{attempt_text, part, relaxed_text}
 use Rattle.farm_page.proofs.Walks.{after_known}
 use Rattle.farm_page.proofs.evidence.evidence_text.Goals as goal
 
@@ -11,5 +11,7 @@ returns c =
     let status : List ℕ = part (codes "status") evidence.status.items in
     let one = after_known c.new-out.result.items c.put_attempt.new.out.items [] attempt c.new-out.ensures.items c.in_ok-put_attempt.ensures in
     let two = after_known c.put_attempt.new.out.items c.put_part.new.out.items attempt status one (rw c.deref.ensures.value at c.in_ok-put_part.ensures) in
-    after_known c.put_part.new.out.items c.put_part-2.new.out.items (attempt ++ status) (part (codes "report") evidence.report.items) two
-    (rw c.deref-2.ensures.value at c.in_ok-put_part-2.ensures)
+    let report : List ℕ = part (codes "report") evidence.report.items in
+    let three = after_known c.put_part.new.out.items c.put_part-2.new.out.items (attempt ++ status) report two (rw c.deref-2.ensures.value at c.in_ok-put_part-2.ensures) in
+    after_known c.put_part-2.new.out.items c.put_relaxed.new.out.items (attempt ++ status ++ report) (relaxed_text c.args.relaxed.now) three
+    c.in_ok-put_relaxed.ensures

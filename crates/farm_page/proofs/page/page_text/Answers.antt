@@ -1,6 +1,8 @@
 use Rattle.std.proofs.Common.{◌∙◌, ◌++◌, List, ℕ, ap}
 use Rattle.farm_page.specs.Health.{condition_at, sentence_at}
 use Rattle.farm_page.specs.Markup.{opening}
+use Rattle.farm_page.specs.Notices.{notices}
+use Rattle.farm_page.specs.Rows.{workers_row}
 use Rattle.farm_page.specs.Sections.{body_tag, end_rows, failures_part, function_rows, headline, host_rows}
 use Rattle.farm_page.specs.declared.sections.Share.TheVariants.{Busy, Quiet}
 use Rattle.farm_page.proofs.Held.{holds_in}
@@ -59,3 +61,15 @@ returns-clause-failures c =
     let begun : List ℕ = c.put_opening.new.out.items in
     let added = c.in_ok-put_bytes.ensures ∙ ap (λ t. begun ++ t) (c.as_slice.ensures.value ∙ c.into_bytes-rest.ensures.all) in
     holds_in begun c.in_ok-rest_of.field-0 (failures_part c.args.view.now.failures) c.put_bytes.new.out.items c.in_ok-rest_of.ensures.failures added
+
+pub returns-clause-notices : goal.returns-clause-notices
+returns-clause-notices c =
+    let begun : List ℕ = c.put_opening.new.out.items in
+    let added = c.in_ok-put_bytes.ensures ∙ ap (λ t. begun ++ t) (c.as_slice.ensures.value ∙ c.into_bytes-rest.ensures.all) in
+    holds_in begun c.in_ok-rest_of.field-0 (notices c.args.view.now) c.put_bytes.new.out.items c.in_ok-rest_of.ensures.notices added
+
+pub returns-clause-workers : goal.returns-clause-workers
+returns-clause-workers c =
+    let begun : List ℕ = c.put_opening.new.out.items in
+    let added = c.in_ok-put_bytes.ensures ∙ ap (λ t. begun ++ t) (c.as_slice.ensures.value ∙ c.into_bytes-rest.ensures.all) in
+    holds_in begun c.in_ok-rest_of.field-0 (workers_row c.args.view.now) c.put_bytes.new.out.items c.in_ok-rest_of.ensures.workers added

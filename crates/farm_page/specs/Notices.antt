@@ -1,0 +1,90 @@
+-- What a page says of a farm below its sentence, with what to do.
+use Rattle.std.specs.Prelude.{ℕ, ◌*◌, ◌==◌, List, [], ◌∷◌, ◌++◌, Bool, nat_lt, Option, Some, None, String}
+use Rattle.std.specs.Prelude.{codes, if◌then◌else◌}
+use Rattle.std.specs.Global.{Global}
+use Rattle.std.specs.Fmt.{decimal}
+use Rattle.std.specs.Option.{option_map_or}
+use Rattle.farm_page.specs.Condition.{first_names}
+use Rattle.farm_page.specs.Escaping.{page_text}
+use Rattle.farm_page.specs.declared.view.FarmView.{FarmView}
+use Rattle.farm_page.specs.declared.view.JobsAgain.{JobsAgain}
+use Rattle.farm_page.specs.declared.view.Outcome.{Outcome}
+use Rattle.farm_page.specs.declared.view.Outcome.TheVariants.{Backlog, NoPlan, NoRound, Unreadable, Unserved}
+use Rattle.farm_page.specs.declared.view.RelaxedPlan.{RelaxedPlan}
+
+-- ---- a line of the status text cannot be read
+
+abbrev pub unreadable_words : ℕ → List ℕ
+unreadable_words line =
+    codes "Line " ++ decimal line
+    ++ codes " of the job server's status text cannot be read, so no plan is made, and workers keep doing what they did last. Any "
+    ++ codes "client can cause it, by a job of a function whose name has a line feed or is too long. Remove it with gearadmin "
+    ++ codes "--drop-function NAME; if its name has a line feed, start the job server again."
+
+abbrev pub unreadable_notice : Outcome → Option (List ℕ)
+unreadable_notice (Backlog jobs) = None
+unreadable_notice (Unserved jobs) = None
+unreadable_notice NoPlan = None
+unreadable_notice (Unreadable why line) = Some (unreadable_words line)
+unreadable_notice (NoRound why) = None
+
+-- ---- a plan that leaves out least numbers is in force
+
+abbrev pub let_off_words : List (String Global) → List ℕ
+let_off_words names =
+    codes "Short of workers, so that until more are alive the plan leaves out their least numbers:" ++ first_names 24 names
+    ++ codes ". The other functions have the workers that they are to have."
+
+abbrev pub let_off_notice : Option RelaxedPlan → Option (List ℕ)
+let_off_notice None = None
+let_off_notice (Some plan) = Some (let_off_words plan.let_off.items)
+
+-- ---- a job comes again
+
+abbrev pub again_words : JobsAgain → List ℕ
+again_words again =
+    codes "A job that no service does comes again: it was left " ++ decimal again.times
+    ++ codes " times lately. Connections that hold such jobs: " ++ decimal again.held
+    ++ codes ". The lines lost name the job. Mend its service, or set functions.F.retries in the services file: a job that is left more "
+    ++ codes "often is answered as failed."
+
+abbrev pub again_notice : JobsAgain → Option (List ℕ)
+again_notice again = if again.times == 0 then None else Some (again_words again)
+
+-- ---- machines have no workers for want of files or threads
+
+abbrev pub room_words : List (String Global) → List ℕ
+room_words names =
+    codes "Without workers for want of files or threads:" ++ first_names 24 names
+    ++ codes ". Raise ulimit -n, ulimit -u or TasksMax, and start the farm again."
+
+abbrev pub room_notice : List (String Global) → Option (List ℕ)
+room_notice [] = None
+room_notice (first ∷ rest) = Some (room_words (first ∷ rest))
+
+-- ---- a slot has had most of its workers
+
+-- more than half of those that it can have
+abbrev pub is_worn : ℕ → Bool
+is_worn most_used = nat_lt 262143 (2 * most_used)
+
+abbrev pub worn_words : ℕ → List ℕ
+worn_words most_used =
+    codes "A slot has had " ++ decimal most_used
+    ++ codes " workers, and the farm ends with status 6 once one has had 262143. Start it again before, at a time that suits you."
+
+abbrev pub worn_notice : ℕ → Option (List ℕ)
+worn_notice most_used = if is_worn most_used then Some (worn_words most_used) else None
+
+-- ---- all together
+
+abbrev pub paragraph : List ℕ → List ℕ
+paragraph words = codes "<p>" ++ page_text words ++ codes "</p>\n"
+
+abbrev pub notice : Option (List ℕ) → List ℕ
+notice words = option_map_or paragraph words []
+
+abbrev pub notices : FarmView → List ℕ
+notices view =
+    notice (unreadable_notice view.outcome) ++ notice (let_off_notice view.relaxed) ++ notice (again_notice view.again)
+    ++ notice (room_notice view.without_room.items) ++ notice (worn_notice view.turnover.most_used)
