@@ -99,15 +99,14 @@ again_words again =
     codes "A job that no service does comes again: left " ++ decimal again.times ++ codes " times lately, such jobs held now: "
     ++ decimal again.held
 
-abbrev pub thinned_words : FarmView → List ℕ
-thinned_words view =
-    decimal view.turnover.alive_before ++ codes " of " ++ decimal view.workers.all ++ codes " workers were alive before new ones started"
+abbrev pub thinned_words : ℕ → ℕ → List ℕ
+thinned_words before all = decimal before ++ codes " of " ++ decimal all ++ codes " workers were alive before new ones started"
 
 -- of a farm whose workers are all alive
 abbrev pub all_alive_words : FarmView → ℕ → List ℕ
 all_alive_words view jobs =
     if comes_again view then again_words view.again
-    else if is_thinned view then thinned_words view
+    else if is_thinned view then thinned_words view.turnover.alive_before view.workers.all
     else codes "Well: backlog " ++ decimal jobs ++ codes ", as small as it can be"
 
 -- of a farm whose hosts are all reached

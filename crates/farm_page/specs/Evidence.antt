@@ -22,9 +22,12 @@ abbrev pub part : List ℕ → List ℕ → List ℕ
 part title text = ended title ++ text
 
 -- the settings and the report of a plan that leaves out least numbers
+abbrev pub plan_text : RelaxedPlan → List ℕ
+plan_text plan = part (codes "relaxed settings") plan.settings.items ++ part (codes "relaxed report") plan.report.items
+
 abbrev pub relaxed_text : Option RelaxedPlan → List ℕ
 relaxed_text None = []
-relaxed_text (Some plan) = part (codes "relaxed settings") plan.settings.items ++ part (codes "relaxed report") plan.report.items
+relaxed_text (Some plan) = plan_text plan
 
 -- the number of the attempt, and what belongs to it: the lost workers, the status text, the report, and what is in force in place of a plan
 abbrev pub evidence_text : Evidence → Option RelaxedPlan → List ℕ

@@ -14,12 +14,14 @@ use Rattle.farm_page.specs.declared.view.RelaxedPlan.{RelaxedPlan}
 
 -- ---- a line of the status text cannot be read
 
+abbrev pub line_words : ℕ → List ℕ
+line_words line = codes "Line " ++ decimal line ++ codes " of the job server's status text cannot be read, so no plan is made"
+
 abbrev pub unreadable_words : ℕ → List ℕ
 unreadable_words line =
-    codes "Line " ++ decimal line
-    ++ codes " of the job server's status text cannot be read, so no plan is made, and workers keep doing what they did last. Any "
-    ++ codes "client can cause it, by a job of a function whose name has a line feed or is too long. Remove it with gearadmin "
-    ++ codes "--drop-function NAME; if its name has a line feed, start the job server again."
+    line_words line
+    ++ codes ", and workers keep doing what they did last. Any client can cause it, by a job of a function whose name has a line "
+    ++ codes "feed or is too long. Remove it with gearadmin --drop-function NAME; with a line feed, start the job server again."
 
 abbrev pub unreadable_notice : Outcome → Option (List ℕ)
 unreadable_notice (Backlog jobs) = None
@@ -41,12 +43,16 @@ let_off_notice (Some plan) = Some (let_off_words plan.let_off.items)
 
 -- ---- a job comes again
 
-abbrev pub again_words : JobsAgain → List ℕ
-again_words again =
+abbrev pub left_words : JobsAgain → List ℕ
+left_words again =
     codes "A job that no service does comes again: it was left " ++ decimal again.times
     ++ codes " times lately. Connections that hold such jobs: " ++ decimal again.held
-    ++ codes ". The lines lost name the job. Mend its service, or set functions.F.retries in the services file: a job that is left more "
-    ++ codes "often is answered as failed."
+
+abbrev pub again_words : JobsAgain → List ℕ
+again_words again =
+    left_words again
+    ++ codes ". The lines lost name the job. Mend its service, or set functions.F.retries in the services file: "
+    ++ codes "a job that is left more often is answered as failed."
 
 abbrev pub again_notice : JobsAgain → Option (List ℕ)
 again_notice again = if again.times == 0 then None else Some (again_words again)
@@ -68,10 +74,13 @@ room_notice (first ∷ rest) = Some (room_words (first ∷ rest))
 abbrev pub is_worn : ℕ → Bool
 is_worn most_used = nat_lt 262143 (2 * most_used)
 
+abbrev pub used_words : ℕ → List ℕ
+used_words most_used = codes "A slot has had " ++ decimal most_used ++ codes " workers"
+
 abbrev pub worn_words : ℕ → List ℕ
 worn_words most_used =
-    codes "A slot has had " ++ decimal most_used
-    ++ codes " workers, and the farm ends with status 6 once one has had 262143. Start it again before, at a time that suits you."
+    used_words most_used
+    ++ codes ", and the farm ends with status 6 once one has had 262143. Start it again before, at a time that suits you."
 
 abbrev pub worn_notice : ℕ → Option (List ℕ)
 worn_notice most_used = if is_worn most_used then Some (worn_words most_used) else None

@@ -119,12 +119,23 @@ host_row h =
 abbrev pub mark_of : Bool → Mark
 mark_of is_odd = if is_odd then Warn else Plain
 
--- all workers: those alive before new ones started, those alive, those of the settings, how many ended, and the most of one slot
+-- the workers that were alive before new ones started, to be looked at if they were fewer than half
+abbrev pub before_cell : FarmView → List ℕ
+before_cell view = cell (mark_of (is_thinned view)) view.turnover.alive_before
+
+-- the workers that a slot has had, to be looked at if they are more than half of those that it can have
+abbrev pub used_cell : ℕ → List ℕ
+used_cell most_used = cell (mark_of (is_worn most_used)) most_used
+
+-- those alive before new ones started, those alive, those of the settings, how many ended, and the most of one slot
+abbrev pub turnover_cells : FarmView → List ℕ
+turnover_cells view =
+    before_cell view ++ cell Plain view.workers.alive ++ cell Plain view.workers.all ++ cell Plain view.turnover.ended
+    ++ used_cell view.turnover.most_used
+
+-- the row of all workers
 abbrev pub workers_row : FarmView → List ℕ
-workers_row view =
-    row_name (codes "all") ++ cell (mark_of (is_thinned view)) view.turnover.alive_before ++ cell Plain view.workers.alive
-    ++ cell Plain view.workers.all ++ cell Plain view.turnover.ended
-    ++ cell (mark_of (is_worn view.turnover.most_used)) view.turnover.most_used ++ codes "</tr>\n"
+workers_row view = row_name (codes "all") ++ turnover_cells view ++ codes "</tr>\n"
 
 -- a cause for which no worker ended has no row
 abbrev pub end_row : EndView → List ℕ

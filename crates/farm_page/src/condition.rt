@@ -192,22 +192,44 @@ fn few_words(alloc: Global, workers: Workers) -> Result<String, AllocError>
     Ok(out)
 }
 
+/// Adds that a job comes again.
+fn push_again(out: &mut String, again: JobsAgain) -> Result<(), AllocError>
+    ensures { OnOk result (string_bytes out.new ≡ string_bytes out.old ++ spec.again_words again) }
+{
+    let times = again.times;
+    let held = again.held;
+    write!(
+        out,
+        "A job that no service does comes again: left {times} times lately, such jobs held now: {held}"
+    )
+}
+
 /// That a job comes again.
 fn again_words(alloc: Global, again: JobsAgain) -> Result<String, AllocError>
     ensures { IfOk result (λ words. string_bytes words ≡ spec.again_words again) }
 {
-    let times = again.times;
-    let held = again.held;
-    format!(in alloc; "A job that no service does comes again: left {times} times lately, such jobs held now: {held}")
+    let mut out = String::new(alloc);
+    push_again(&mut out, again)?;
+    Ok(out)
+}
+
+/// Adds that so many of all workers were alive before the attempt.
+fn push_thinned(out: &mut String, before: u32, all: u32) -> Result<(), AllocError>
+    ensures { OnOk result (string_bytes out.new ≡ string_bytes out.old ++ spec.thinned_words before all) }
+{
+    write!(
+        out,
+        "{before} of {all} workers were alive before new ones started"
+    )
 }
 
 /// That few workers were alive before the attempt.
-fn thinned_words(alloc: Global, view: &FarmView) -> Result<String, AllocError>
-    ensures { IfOk result (λ words. string_bytes words ≡ spec.thinned_words view.now) }
+fn thinned_words(alloc: Global, before: u32, all: u32) -> Result<String, AllocError>
+    ensures { IfOk result (λ words. string_bytes words ≡ spec.thinned_words before all) }
 {
-    let before = view.turnover.alive_before;
-    let all = view.workers.all;
-    format!(in alloc; "{before} of {all} workers were alive before new ones started")
+    let mut out = String::new(alloc);
+    push_thinned(&mut out, before, all)?;
+    Ok(out)
 }
 
 /// How a farm is whose workers are all alive.
@@ -218,7 +240,7 @@ fn alive_words(alloc: Global, view: &FarmView, jobs: u64) -> Result<String, Allo
         return again_words(alloc, view.again);
     }
     if is_thinned(view) {
-        return thinned_words(alloc, view);
+        return thinned_words(alloc, view.turnover.alive_before, view.workers.all);
     }
     format!(in alloc; "Well: backlog {jobs}, as small as it can be")
 }

@@ -55,15 +55,23 @@ fn put_part(out: &mut Vec<u8>, title: &str, text: &[u8]) -> Result<(), AllocErro
     put_bytes(out, text)
 }
 
+/// Adds the settings and the report of a plan that leaves out least numbers.
+fn put_plan(out: &mut Vec<u8>, plan: &RelaxedPlan) -> Result<(), AllocError>
+    ensures { OnOk result (out.new.items ≡ out.old.items ++ spec.plan_text plan.now) }
+{
+    put_part(out, "relaxed settings", &plan.settings)?;
+    put_part(out, "relaxed report", &plan.report)?;
+    Ok(())
+}
+
 /// Adds a plan that is in force in place of one that meets all least numbers, if there is one.
 fn put_relaxed(out: &mut Vec<u8>, relaxed: &Option<RelaxedPlan>) -> Result<(), AllocError>
     ensures { OnOk result (out.new.items ≡ out.old.items ++ spec.relaxed_text relaxed.now) }
 {
-    let Some(plan) = relaxed else {
-        return Ok(());
-    };
-    put_part(out, "relaxed settings", &plan.settings)?;
-    put_part(out, "relaxed report", &plan.report)
+    match relaxed {
+        Some(plan) => put_plan(out, plan),
+        None => Ok(()),
+    }
 }
 
 /// All that a plan can be checked with, beside the settings, in one text. If no plan meets all least numbers, and one that leaves some out

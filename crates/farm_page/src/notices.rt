@@ -5,7 +5,7 @@ ghost use Rattle.farm_page.specs.Notices as spec;
 
 use crate::condition::push_first_names;
 use crate::markup::Markup;
-use crate::view::{FarmView, Outcome};
+use crate::view::{FarmView, JobsAgain, Outcome};
 use std::alloc::{AllocError, Global};
 use std::fmt::Write;
 
@@ -22,15 +22,29 @@ pub fn is_worn(most_used: u32) -> bool
     2 * u64::from(most_used) > u64::from(SLOT_WORKERS)
 }
 
-/// That a line of the status text cannot be read.
+/// Adds that a line of the status text cannot be read.
+fn push_unreadable(out: &mut String, line: u32) -> Result<(), AllocError>
+    ensures { OnOk result (string_bytes out.new ≡ string_bytes out.old ++ spec.line_words line) }
+{
+    write!(
+        out,
+        "Line {line} of the job server's status text cannot be read, so no plan is made"
+    )
+}
+
+/// That a line of the status text cannot be read, and what to do.
 fn unreadable_words(alloc: Global, line: u32) -> Result<String, AllocError>
     ensures { IfOk result (λ words. string_bytes words ≡ spec.unreadable_words line) }
 {
-    format!(in alloc;
-        "Line {line} of the job server's status text cannot be read, so no plan is made, and workers keep doing what they did last. Any \
-        client can cause it, by a job of a function whose name has a line feed or is too long. Remove it with gearadmin --drop-function \
-        NAME; if its name has a line feed, start the job server again."
-    )
+    let mut out = String::new(alloc);
+    push_unreadable(&mut out, line)?;
+    out.push_str(
+        ", and workers keep doing what they did last. Any client can cause it, by a job of a function whose name has a line ",
+    )?;
+    out.push_str(
+        "feed or is too long. Remove it with gearadmin --drop-function NAME; with a line feed, start the job server again.",
+    )?;
+    Ok(out)
 }
 
 /// What a page says if a line of the status text cannot be read.
@@ -66,20 +80,37 @@ fn let_off_notice(alloc: Global, view: &FarmView) -> Result<Option<String>, Allo
     }
 }
 
-/// What a page says of jobs that come again, if any do.
-fn again_notice(alloc: Global, view: &FarmView) -> Result<Option<String>, AllocError>
-    ensures { IfOk result (λ words. option_map string_bytes words ≡ spec.again_notice view.now.again) }
+/// Adds that a job comes again.
+fn push_again(out: &mut String, again: JobsAgain) -> Result<(), AllocError>
+    ensures { OnOk result (string_bytes out.new ≡ string_bytes out.old ++ spec.left_words again) }
 {
-    let times = view.again.times;
-    let held = view.again.held;
-    if times == 0 {
+    let times = again.times;
+    let held = again.held;
+    write!(
+        out,
+        "A job that no service does comes again: it was left {times} times lately. Connections that hold such jobs: {held}"
+    )
+}
+
+/// That a job comes again, and what to do.
+fn again_words(alloc: Global, again: JobsAgain) -> Result<String, AllocError>
+    ensures { IfOk result (λ words. string_bytes words ≡ spec.again_words again) }
+{
+    let mut out = String::new(alloc);
+    push_again(&mut out, again)?;
+    out.push_str(". The lines lost name the job. Mend its service, or set functions.F.retries in the services file: ")?;
+    out.push_str("a job that is left more often is answered as failed.")?;
+    Ok(out)
+}
+
+/// What a page says of jobs that come again, if any do.
+fn again_notice(alloc: Global, again: JobsAgain) -> Result<Option<String>, AllocError>
+    ensures { IfOk result (λ words. option_map string_bytes words ≡ spec.again_notice again) }
+{
+    if again.times == 0 {
         return Ok(None);
     }
-    Ok(Some(format!(in alloc;
-        "A job that no service does comes again: it was left {times} times lately. Connections that hold such jobs: {held}. The lines \
-        lost name the job. Mend its service, or set functions.F.retries in the services file: a job that is left more often is answered \
-        as failed."
-    )?))
+    Ok(Some(again_words(alloc, again)?))
 }
 
 /// That these machines have no workers.
@@ -102,30 +133,53 @@ fn room_notice(alloc: Global, view: &FarmView) -> Result<Option<String>, AllocEr
     Ok(Some(room_words(alloc, &view.without_room)?))
 }
 
-/// What a page says of the slot that has had the most workers, if these are more than half of what it can have.
-fn worn_notice(alloc: Global, view: &FarmView) -> Result<Option<String>, AllocError>
-    ensures { IfOk result (λ words. option_map string_bytes words ≡ spec.worn_notice view.now.turnover.most_used) }
+/// Adds how many workers a slot has had.
+fn push_worn(out: &mut String, most_used: u32) -> Result<(), AllocError>
+    ensures { OnOk result (string_bytes out.new ≡ string_bytes out.old ++ spec.used_words most_used) }
 {
-    let used = view.turnover.most_used;
-    if !is_worn(used) {
-        return Ok(None);
+    write!(out, "A slot has had {most_used} workers")
+}
+
+/// That a slot has had so many workers, and what to do.
+fn worn_words(alloc: Global, most_used: u32) -> Result<String, AllocError>
+    ensures { IfOk result (λ words. string_bytes words ≡ spec.worn_words most_used) }
+{
+    let mut out = String::new(alloc);
+    push_worn(&mut out, most_used)?;
+    out.push_str(
+        ", and the farm ends with status 6 once one has had 262143. Start it again before, at a time that suits you.",
+    )?;
+    Ok(out)
+}
+
+/// What a page says of the slot that has had the most workers, if these are more than half of what it can have.
+fn worn_notice(alloc: Global, most_used: u32) -> Result<Option<String>, AllocError>
+    ensures { IfOk result (λ words. option_map string_bytes words ≡ spec.worn_notice most_used) }
+{
+    if is_worn(most_used) {
+        Ok(Some(worn_words(alloc, most_used)?))
+    } else {
+        Ok(None)
     }
-    Ok(Some(format!(in alloc;
-        "A slot has had {used} workers, and the farm ends with status 6 once one has had {SLOT_WORKERS}. Start it again before, at a time \
-        that suits you."
-    )?))
+}
+
+/// Adds words as a paragraph.
+fn put_paragraph(out: &mut Markup, words: &str) -> Result<(), AllocError>
+    ensures { OnOk result (out.new ≡ out.old ++ spec.paragraph words.now) }
+{
+    out.put_tags("<p>")?;
+    out.put_text(words.as_bytes())?;
+    out.put_tags("</p>\n")
 }
 
 /// Adds a notice, if there is one.
 fn put_notice(out: &mut Markup, words: &Option<String>) -> Result<(), AllocError>
     ensures { OnOk result (out.new ≡ out.old ++ spec.notice (option_map string_bytes words.now)) }
 {
-    let Some(words) = words else {
-        return Ok(());
-    };
-    out.put_tags("<p>")?;
-    out.put_text(words.as_bytes())?;
-    out.put_tags("</p>\n")
+    match words {
+        Some(words) => put_paragraph(out, words.as_str()),
+        None => Ok(()),
+    }
 }
 
 /// What a page says below its sentence: that the status text cannot be read, which functions are let off, that a job comes again, which
@@ -137,8 +191,8 @@ pub fn notices_of(alloc: Global, view: &FarmView) -> Result<Markup, AllocError>
     let mut out = Markup::new(alloc);
     put_notice(&mut out, &unreadable_notice(alloc, view)?)?;
     put_notice(&mut out, &let_off_notice(alloc, view)?)?;
-    put_notice(&mut out, &again_notice(alloc, view)?)?;
+    put_notice(&mut out, &again_notice(alloc, view.again)?)?;
     put_notice(&mut out, &room_notice(alloc, view)?)?;
-    put_notice(&mut out, &worn_notice(alloc, view)?)?;
+    put_notice(&mut out, &worn_notice(alloc, view.turnover.most_used)?)?;
     Ok(out)
 }

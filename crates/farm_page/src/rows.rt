@@ -2,6 +2,7 @@
 
 ghost use Rattle.std.specs.Prelude.{◌≡◌, ◌++◌, OnOk};
 ghost use Rattle.farm_page.specs.Rows as spec;
+ghost use Rattle.farm_page.specs.declared.cells.Mark.TheVariants as mark;
 
 use crate::cells::{
     Gap, Mark, put_bar_if, put_cell, put_cell_if, put_fault_cell, put_gap, put_row_name, put_words,
@@ -153,17 +154,45 @@ fn mark_of(is_odd: bool) -> Mark
     if is_odd { Mark::Warn } else { Mark::Plain }
 }
 
+/// Adds how many workers were alive before the attempt started new ones.
+fn put_before(out: &mut Markup, view: &FarmView) -> Result<(), AllocError>
+    ensures { OnOk result (out.new ≡ out.old ++ spec.before_cell view.now) }
+{
+    let before = view.turnover.alive_before;
+    put_cell(out, mark_of(is_thinned(view)), u64::from(before))
+}
+
+/// Adds how many workers a slot has had.
+fn put_used(out: &mut Markup, most_used: u32) -> Result<(), AllocError>
+    ensures { OnOk result (out.new ≡ out.old ++ spec.used_cell most_used) }
+{
+    put_cell(out, mark_of(is_worn(most_used)), u64::from(most_used))
+}
+
+/// Adds a count.
+fn put_count(out: &mut Markup, count: u32) -> Result<(), AllocError>
+    ensures { OnOk result (out.new ≡ out.old ++ spec.cell mark.Plain count) }
+{
+    put_cell(out, Mark::Plain, u64::from(count))
+}
+
+/// Adds the numbers of all workers of a farm.
+fn put_turnover(out: &mut Markup, view: &FarmView) -> Result<(), AllocError>
+    ensures { OnOk result (out.new ≡ out.old ++ spec.turnover_cells view.now) }
+{
+    put_before(out, view)?;
+    put_count(out, view.workers.alive)?;
+    put_count(out, view.workers.all)?;
+    put_cell(out, Mark::Plain, view.turnover.ended)?;
+    put_used(out, view.turnover.most_used)
+}
+
 /// Adds the row of all workers of a farm: how they come and go.
 pub fn put_all_workers(out: &mut Markup, view: &FarmView) -> Result<(), AllocError>
     ensures { OnOk result (out.new ≡ out.old ++ spec.workers_row view.now) }
 {
-    let turnover = view.turnover;
     put_row_name(out, "all")?;
-    put_cell(out, mark_of(is_thinned(view)), u64::from(turnover.alive_before))?;
-    put_cell(out, Mark::Plain, u64::from(view.workers.alive))?;
-    put_cell(out, Mark::Plain, u64::from(view.workers.all))?;
-    put_cell(out, Mark::Plain, turnover.ended)?;
-    put_cell(out, mark_of(is_worn(turnover.most_used)), u64::from(turnover.most_used))?;
+    put_turnover(out, view)?;
     out.put_tags("</tr>\n")
 }
 
