@@ -43,15 +43,16 @@ let_off_notice (Some plan) = Some (let_off_words plan.let_off.items)
 
 -- ---- a job comes again
 
-abbrev pub left_words : JobsAgain → List ℕ
-left_words again =
-    codes "A job that no service does comes again: it was left " ++ decimal again.times
-    ++ codes " times lately. Connections that hold such jobs: " ++ decimal again.held
+abbrev pub times_words : ℕ → List ℕ
+times_words times = codes "A job that no service does comes again: it was left " ++ decimal times ++ codes " times lately"
+
+abbrev pub held_words : ℕ → List ℕ
+held_words held = codes ". Connections that hold such jobs: " ++ decimal held ++ codes ". "
 
 abbrev pub again_words : JobsAgain → List ℕ
 again_words again =
-    left_words again
-    ++ codes ". The lines lost name the job. Mend its service, or set functions.F.retries in the services file: "
+    times_words again.times ++ held_words again.held
+    ++ codes "The lines lost name the job. Mend its service, or set functions.F.retries in the services file: "
     ++ codes "a job that is left more often is answered as failed."
 
 abbrev pub again_notice : JobsAgain → Option (List ℕ)

@@ -80,16 +80,21 @@ fn let_off_notice(alloc: Global, view: &FarmView) -> Result<Option<String>, Allo
     }
 }
 
-/// Adds that a job comes again.
-fn push_again(out: &mut String, again: JobsAgain) -> Result<(), AllocError>
-    ensures { OnOk result (string_bytes out.new ≡ string_bytes out.old ++ spec.left_words again) }
+/// Adds how often a job was left.
+fn push_times(out: &mut String, times: u32) -> Result<(), AllocError>
+    ensures { OnOk result (string_bytes out.new ≡ string_bytes out.old ++ spec.times_words times) }
 {
-    let times = again.times;
-    let held = again.held;
     write!(
         out,
-        "A job that no service does comes again: it was left {times} times lately. Connections that hold such jobs: {held}"
+        "A job that no service does comes again: it was left {times} times lately"
     )
+}
+
+/// Adds how many jobs are held.
+fn push_held(out: &mut String, held: u32) -> Result<(), AllocError>
+    ensures { OnOk result (string_bytes out.new ≡ string_bytes out.old ++ spec.held_words held) }
+{
+    write!(out, ". Connections that hold such jobs: {held}. ")
 }
 
 /// That a job comes again, and what to do.
@@ -97,8 +102,11 @@ fn again_words(alloc: Global, again: JobsAgain) -> Result<String, AllocError>
     ensures { IfOk result (λ words. string_bytes words ≡ spec.again_words again) }
 {
     let mut out = String::new(alloc);
-    push_again(&mut out, again)?;
-    out.push_str(". The lines lost name the job. Mend its service, or set functions.F.retries in the services file: ")?;
+    push_times(&mut out, again.times)?;
+    push_held(&mut out, again.held)?;
+    out.push_str(
+        "The lines lost name the job. Mend its service, or set functions.F.retries in the services file: ",
+    )?;
     out.push_str("a job that is left more often is answered as failed.")?;
     Ok(out)
 }

@@ -134,7 +134,8 @@ fn state(alloc: Global, view: &FarmView, refresh: Refresh) -> Result<Markup, All
 const FOOT: &str =
     "</main><footer><p>Do not trust this page: check the plan yourself with <a href=\"/evidence\">its evidence</a> \
 and <b>poolman check</b>.</p><nav><a href=\"/report\">report</a><a href=\"/status.txt\">status text</a>\
-<a href=\"/lost\">lost workers</a><a href=\"/metrics\">metrics</a><a href=\"/health\">health</a><a href=\"/live\">live</a></nav></footer>\n</body></html>\n";
+<a href=\"/lost\">lost workers</a><a href=\"/metrics\">metrics</a><a href=\"/health\">health</a>\
+<a href=\"/live\">live</a></nav></footer>\n</body></html>\n";
 
 /// The tables of a page. The only error is out of memory.
 fn tables(alloc: Global, view: &FarmView) -> Result<Markup, AllocError>
@@ -192,8 +193,8 @@ fn rest_of(
 
 /// The page of a farm at a moment, in HTML: how the farm is then in one sentence, what is to be done, what shows it, the backlogs and the
 /// waiting jobs of the last attempts as two drawings, and the tables of the functions, the hosts, all workers, the causes for which workers
-/// ended, and the last jobs that were not completed. It has no script, and no file from elsewhere. Whatever names it shows, each `<` in it begins a tag of the program's
-/// own. The only error is out of memory.
+/// ended, and the last jobs that were not completed. It has no script, and no file from elsewhere. Whatever names it shows, each `<` in it
+/// begins a tag of the program's own. The only error is out of memory.
 pub fn page_text(
     alloc: Global,
     view: &FarmView,
