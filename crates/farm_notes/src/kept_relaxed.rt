@@ -35,11 +35,7 @@ impl Model for KeptRelaxed {
 }
 
 /// The names of these functions.
-fn names_of(
-    alloc: Global,
-    settings: &Settings,
-    set: &FuncSet,
-) -> Result<Vec<String>, AllocError> {
+fn names_of(alloc: Global, settings: &Settings, set: &FuncSet) -> Result<Vec<String>, AllocError> {
     let mut names = Vec::new(alloc);
     for function in set.functions() {
         names.push(String::from_str(alloc, settings.function_name(*function))?)?;
@@ -56,11 +52,7 @@ fn workers_of(alloc: Global, input: &Input, answer: &Answer) -> Result<Vec<u32>,
 }
 
 /// The report of the plan.
-fn report_of(
-    alloc: Global,
-    settings: &Settings,
-    relaxed: &Relaxed,
-) -> Result<Vec<u8>, AllocError>
+fn report_of(alloc: Global, settings: &Settings, relaxed: &Relaxed) -> Result<Vec<u8>, AllocError>
     requires of_these { IsLetOffOf settings.now relaxed.now.let_off relaxed.now.certified.input }
     ensures { IfOk result (λ text. text.items ≡ report_text settings.now relaxed.now.certified.input relaxed.now.certified.answer) }
 {

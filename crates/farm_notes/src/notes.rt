@@ -110,9 +110,9 @@ fn outcome_of(alloc: Global, attempt: &Attempt) -> Result<Outcome, AllocError> {
         Attempt::Unserved { waiting, .. } => Ok(Outcome::Unserved(*waiting)),
         Attempt::NoPlan { .. } => Ok(Outcome::NoPlan),
         Attempt::Status(error) => no_status(attempt_words(alloc, attempt)?, error.line()),
-        Attempt::NoLink | Attempt::Refused(_) | Attempt::Memory => Ok(
-            Outcome::NoRound(attempt_words(alloc, attempt)?),
-        ),
+        Attempt::NoLink | Attempt::Refused(_) | Attempt::Memory => Ok(Outcome::NoRound(
+            attempt_words(alloc, attempt)?,
+        )),
     }
 }
 
@@ -419,13 +419,7 @@ impl PageNotes {
 
     /// The round of the answer that was found last has no plan, and this plan, which leaves out some least numbers, was posted instead. If
     /// there is no memory for what a page shows of it, it is not shown. The next round drops it.
-    pub fn relaxed<R: Wait>(
-        &self,
-        rt: &R,
-        alloc: Global,
-        settings: &Settings,
-        relaxed: &Relaxed,
-    )
+    pub fn relaxed<R: Wait>(&self, rt: &R, alloc: Global, settings: &Settings, relaxed: &Relaxed)
         requires of_these { IsLetOffOf settings.now relaxed.now.let_off relaxed.now.certified.input }
     {
         let kept = KeptRelaxed::of(alloc, settings, relaxed).ok();

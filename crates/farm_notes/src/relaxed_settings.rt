@@ -42,7 +42,11 @@ fn push_function(
     let place = function.number() as usize;
     let least = input.least().get(place).copied().unwrap_or(0);
     let most = input.most().get(place).copied().unwrap_or(0);
-    write!(out, "[functions.{}]\nleast = {least}\nmost = {most}\n", Key { name })
+    write!(
+        out,
+        "[functions.{}]\nleast = {least}\nmost = {most}\n",
+        Key { name }
+    )
 }
 
 /// Adds the functions that the workers of a machine may do.
@@ -69,17 +73,17 @@ fn push_machine(
     functions: &[FuncId],
 ) -> Result<(), AllocError> {
     let name = settings.machine_name(machine);
-    write!(out, "[machines.{}]\nworkers = {workers}\nfunctions = [", Key { name })?;
+    write!(
+        out,
+        "[machines.{}]\nworkers = {workers}\nfunctions = [",
+        Key { name }
+    )?;
     push_listed(out, settings, functions)?;
     out.push_str("]\n")
 }
 
 /// Adds the tables of the functions, with the least and greatest numbers of a problem.
-fn push_functions(
-    out: &mut String,
-    settings: &Settings,
-    input: &Input,
-) -> Result<(), AllocError> {
+fn push_functions(out: &mut String, settings: &Settings, input: &Input) -> Result<(), AllocError> {
     for number in 0..settings.functions() {
         push_function(out, settings, input, FuncId::new(number))?;
     }

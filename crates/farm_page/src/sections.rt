@@ -113,6 +113,15 @@ fn host_rows(alloc: Global, hosts: &[HostView]) -> Result<Markup, AllocError>
     Ok(out)
 }
 
+/// The row of all workers. The only error is out of memory.
+fn workers_row(alloc: Global, view: &FarmView) -> Result<Markup, AllocError>
+    ensures { IfOk result (λ part. part ≡ workers_row view.now) }
+{
+    let mut out = Markup::new(alloc);
+    put_all_workers(&mut out, view)?;
+    Ok(out)
+}
+
 /// The rows of causes. The only error is out of memory.
 fn end_rows(alloc: Global, ends: &[EndView]) -> Result<Markup, AllocError>
     ensures { IfOk result (λ part. part ≡ spec.end_rows ends.now) }
@@ -217,8 +226,7 @@ pub fn hosts_section(alloc: Global, view: &FarmView) -> Result<Markup, AllocErro
 pub fn workers_section(alloc: Global, view: &FarmView) -> Result<Markup, AllocError>
     ensures { IfOk result (λ part. spec.Holds part (workers_row view.now)) }
 {
-    let mut row = Markup::new(alloc);
-    put_all_workers(&mut row, view)?;
+    let row = workers_row(alloc, view)?;
     let mut out = Markup::new(alloc);
     out.put_tags(WORKERS)?;
     out.put(&row)?;
