@@ -240,6 +240,12 @@ dials_of_run looking settings had_jobs old new first middle run before between n
           (joined_had looking settings had_jobs from_none.tries from_none.each) last.jobs;
     }
 
+-- the same run, by how long it made attempts
+pub dials_until : (until other : Until) (settings : Settings) (allows : Rule) (had_jobs : PastSession → Type 0) (old new : List Attempt) (run : RunEnd) (before now : Option (List DialCall)) → until ≡ other
+    → DialsBy (LooksBy until settings allows) settings had_jobs old new run before now → DialsBy (LooksBy other settings allows) settings had_jobs old new run before now
+dials_until until other settings allows had_jobs old new run before now is dials =
+    subst (λ (u : Until). DialsBy (LooksBy u settings allows) settings had_jobs old new run before now) is dials
+
 -- ---- what is said of jobs
 
 tries_covered : (looking : Try → Type 0) (settings : Settings) (wide narrow : PastSession → Type 0) (tries : List Try) → Covers wide narrow

@@ -114,8 +114,8 @@ InOrder settings allows try = AreInOrder settings allows try.looks × (line : At
 
 -- So it is in a run of so many attempts. In one that goes on until its watch ends it some slots were looked at, none of them twice.
 abbrev pub LooksBy : Until → Settings → Rule → Try → Type 0
-LooksBy (Rounds rounds) settings allows try = InOrder settings allows try
-LooksBy Ended settings allows try = AreLooks settings allows try.looks
+LooksBy (Rounds rounds) settings allows = InOrder settings allows
+LooksBy Ended settings allows = λ try. AreLooks settings allows try.looks
 
 -- The line follows from the calls for the load. Between two attempts nothing is asked.
 abbrev pub FollowsIf : List DialCall → Option Attempt → Type 0

@@ -7,7 +7,7 @@ use Rattle.pool_supervisor.specs.declared.run_end.RunEnd.{RunEnd}
 use Rattle.pool_supervisor.specs.Dials.{DialCall}
 use Rattle.pool_supervisor.specs.Runs.{IsRun}
 use Rattle.pool_supervisor.specs.Sessions.{PastSession, Covers, HadNamedJobs}
-use Rattle.pool_supervisor.specs.Tries.{Dials, Rule, all_slots}
+use Rattle.pool_supervisor.specs.Tries.{Dials, InOrder, Rule, all_slots}
 use Rattle.pool_supervisor.proofs.Sessions.{named}
 use Rattle.pool_supervisor.proofs.Tries.{dials_covered}
 use Rattle.pool_supervisor.proofs.run.run_pool.Goals as goal
@@ -18,7 +18,7 @@ dials_of : {A E : Type 0} (r : Result A E) (run : A → RunEnd) (calls : A → O
     → IfOk r (λ e. Dials settings allows wide [] (run e).lines.items (run e) before (calls e))
 dials_of (Ok e) run calls settings allows wide narrow rounds before covers ran =
     subst (λ (l : List Attempt). Dials settings allows wide [] l (run e) before (calls e)) (sym ran.keeps.0)
-    (dials_covered settings allows wide narrow [] ran.lines (run e) before (calls e) covers ran.dials)
+    (dials_covered (InOrder settings allows) settings wide narrow [] ran.lines (run e) before (calls e) covers ran.dials)
 dials_of (Err e) run calls settings allows wide narrow rounds before covers ran = tt
 
 -- each session has the jobs by name

@@ -2,10 +2,10 @@ use Rattle.std.proofs.Common.{◌≡◌, List, sym, subst, ◌∙◌}
 use Rattle.pool_supervisor.specs.declared.attempt.Attempt.{Attempt}
 use Rattle.pool_supervisor.specs.Runs.{Keeps}
 use Rattle.pool_supervisor.specs.FarmPosts.{TellsBy}
-use Rattle.pool_supervisor.specs.Tries.{DialsBy, LooksBy}
+use Rattle.pool_supervisor.specs.Tries.{LooksBy}
 use Rattle.pool_supervisor.specs.declared.attempts.Until.{Until}
 use Rattle.pool_supervisor.proofs.FarmPosts.{tells_by}
-use Rattle.pool_supervisor.proofs.Tries.{dials_of_run}
+use Rattle.pool_supervisor.proofs.Tries.{dials_of_run, dials_until}
 use Rattle.pool_supervisor.proofs.attempts.Supervisor.supervise.Goals as goal
 
 -- what the crew hands out has the lines of the attempts, and totals of the history whose rounds they told
@@ -26,7 +26,7 @@ returns g c =
         lines = made.0;
         keeps = subst (λ (l : List Attempt). Keeps c.args.lines.until made.0 l) (sym c.join_all-ended.ensures.told) made.1;
         tells = subst (λ (u : Until). TellsBy u settings c.args.lines.told.items made.0 c.args.self.seats.publisher.posts) until told;
-        dials = subst (λ (u : Until). DialsBy (LooksBy u settings allows) settings had c.args.lines.told.items made.0 c.join_all-ended.result before _) until dials;
+        dials = dials_until g.N.RunId.until c.args.lines.until settings allows had c.args.lines.told.items made.0 c.join_all-ended.result before _ until dials;
         history = (now.rounds, c.join_all-ended.ensures.counts, made.2);
       };
     }

@@ -5,6 +5,7 @@ use Rattle.pool_settings.specs.Slots.{slots as slot_count}
 use Rattle.order_board.specs.declared.view.Post.{Post}
 use Rattle.pool_supervisor.specs.declared.attempt.Attempt.{Attempt}
 use Rattle.pool_supervisor.specs.Runs.{IsRun}
+use Rattle.slot_turns.specs.Turns.{IsEachSlotOnce}
 use Rattle.pool_supervisor.proofs.run.Tools.run.Goals as goal
 
 -- the pool has the settings that are lent, so the board has a place for each of their slots
@@ -31,3 +32,7 @@ returns g c =
     subst (λ (p : List Post). IfOk c.run.result (λ e. IsRun settings g.N.RunId.allows g.N.RunId.had_jobs until [] e.0 p called (g.Y.Dial.calls e.1))) c.args.made.none_posted from_first
     in
     record { runs = subst (λ (s : Settings). IfOk c.run.result (λ e. IsRun s g.N.RunId.allows g.N.RunId.had_jobs until [] e.0 [] called (g.Y.Dial.calls e.1))) (sym c.requires.settings.1) from_empty }
+
+pub invariant_of-supervisor-2-clause-each_once : goal.invariant_of-supervisor-2-clause-each_once
+invariant_of-supervisor-2-clause-each_once g c =
+    subst (λ (s : Settings). ∥ IsEachSlotOnce s c.args.made.turns ∥₁) c.requires.settings.1 c.args.made.each_once
