@@ -3,12 +3,13 @@ use Rattle.std.proofs.Common.{◌≡◌, ℕ, List, [], ◌∷◌, ◌++◌, Boo
 use Rattle.std.proofs.lemmas.List.{append-nil}
 use Rattle.pool_settings.specs.Settings.{Settings}
 use Rattle.plan_model.specs.Planning.{Instance}
-use Rattle.plan_model.specs.declared.answer.Answer.{Answer}
-use Rattle.plan_model.specs.declared.answer.Answer.TheVariants as answers
+use Rattle.relaxed_plan.specs.Relaxed.{let_off_of}
+use Rattle.relaxed_plan.specs.declared.relaxing.Relaxed.{Relaxed}
 use Rattle.order_board.specs.declared.view.Post.{Post}
 use Rattle.order_board.specs.Posts.{latest, post, posts_of}
 use Rattle.pool_core.specs.declared.answer.Ran.{Ran}
 use Rattle.pool_core.specs.Machine.{State}
+use Rattle.pool_supervisor.specs.Steps.{IsLetOffOf, IsMadeOf}
 use Rattle.pool_supervisor.specs.declared.attempt.Attempt.{Attempt}
 use Rattle.pool_supervisor.specs.declared.attempts.Until.{Until}
 use Rattle.pool_supervisor.specs.declared.attempts.Until.TheVariants.{Rounds, Ended}
@@ -16,8 +17,14 @@ use Rattle.pool_supervisor.specs.Lines.{attempt_of}
 use Rattle.pool_supervisor.specs.Published.{ArePosted, round_order}
 use Rattle.pool_supervisor.specs.Reached.{IsRoundOf}
 use Rattle.pool_supervisor.specs.Rounds.{is_round, AllPost, Posts, PostsIf}
-use Rattle.pool_supervisor.specs.FarmPosts.{PostJoins, PostsMore, PostsRound, PostsIfBy, PostsBy, AttemptPosts, AllPostBy, PostSinceBy, PostAndStopBy, TellsBy}
+use Rattle.pool_supervisor.specs.FarmPosts.{IsRelaxedFor, PostJoins, PostsMore, PostsRound, PostsIfBy, PostsBy, AttemptPosts, AllPostBy, PostSinceBy, PostAndStopBy, TellsBy}
 use Rattle.pool_supervisor.proofs.Rounds.{with_is_round}
+
+-- ---- relaxed plans
+
+-- a relaxed plan of a problem of these settings
+pub let_off_is : (settings : Settings) (i : Instance) (relaxed : Relaxed) → IsMadeOf settings i → IsRelaxedFor i relaxed → IsLetOffOf settings relaxed.let_off relaxed.certified.input
+let_off_is settings i relaxed made is = (made.0, made.1, is.input ∙ ap (λ (x : Instance). let_off_of x relaxed.let_off) made.2)
 
 -- ---- the orders of workers that join
 

@@ -1,5 +1,6 @@
 -- What a run posts that goes on until its watch ends it: besides the orders of its rounds, those of workers that join, and of relaxed plans.
-use Rattle.std.specs.Prelude.{◌≡◌, ◌⊎◌, ℕ, nat_lt, List, [], ◌∷◌, ◌++◌, Bool, true, false, Option, None, Some, is_some, length, if◌then◌else◌}
+use Rattle.std.specs.Prelude.{◌≡◌, ◌⊎◌, ℕ, nat_lt, List, [], ◌∷◌, ◌++◌, Bool, true, false, if◌then◌else◌}
+use Rattle.std.specs.Prelude.{Option, None, Some, is_some, length}
 use Rattle.plan_model.specs.Planning.{Instance, assigned}
 use Rattle.plan_model.specs.Shown.{Shown}
 use Rattle.plan_model.specs.declared.answer.Answer.TheVariants.{Planned}
@@ -68,6 +69,7 @@ orders_by Ended ran state slot = if is_some ran.backlog then standing_order stat
 
 -- It is a relaxed plan of this problem: a plan for the problem in which the least numbers of the functions that it lets off are 0.
 pub record IsRelaxedFor (i : Instance) (relaxed : Relaxed) : Type 0 where
+  pub input : relaxed.certified.input ≡ let_off_of i relaxed.let_off
   pub planned : IsPlanned relaxed.certified.answer
   pub shown : Shown (let_off_of i relaxed.let_off) relaxed.certified.answer
 

@@ -67,7 +67,8 @@ AreInOrder settings allows looks = (length looks ≡ slots settings) × FillFrom
 abbrev pub AreLooks : Settings → Rule → List Look → Type 0
 AreLooks settings allows looks = AllPairs (λ one other. one ≢ other) (map slot_of looks) × AllByRecursion (IsLook settings allows) looks
 
--- How slots are looked at: in order, every one, in a run of so many attempts, and some of them in one that goes on until its watch ends it.
+-- How slots are looked at: in order, every one, in a run of so many attempts, and some of them in one that goes on until its watch ends
+-- it.
 abbrev pub LookAt : Until → Settings → Rule → List Look → Type 0
 LookAt (Rounds rounds) settings allows looks = AreInOrder settings allows looks
 LookAt Ended settings allows looks = AreLooks settings allows looks

@@ -284,8 +284,8 @@ impl<
         Ok(())
     }
 
-    /// Starts sessions in empty slots: by [`Supervisor::start_all`] in a run of so many attempts. In another, workers whose jobs are late are
-    /// lost first, and [`Supervisor::start_in_turn`] does it. The error is that a thread could not be started.
+    /// Starts sessions in empty slots: by [`Supervisor::start_all`] in a run of so many attempts. In another, workers whose jobs are late
+    /// are lost first, and [`Supervisor::start_in_turn`] does it. The error is that a thread could not be started.
     fn fill<'s>(&mut self, scope: &Scope<'s, &'e ()>) -> Result<(), AllocError>
     where
         'e: 's,

@@ -30,8 +30,8 @@ const REFILL_MS: u32 = 20;
 pub enum Filling {
     /// An attempt, which looks at each slot.
     Attempt,
-    /// A refill between two attempts. It leaves out a slot that has used half of its generations: refills come so fast that it would have no
-    /// more workers after some hours.
+    /// A refill between two attempts. It leaves out a slot that has used half of its generations: refills come so fast that it would have
+    /// no more workers after some hours.
     Refill,
 }
 
@@ -95,8 +95,8 @@ impl<
     C: Watch + Progress + Sync,
     R: Threads + Wait + Sync,
 > Supervisor<'e, N, L, Y, P, J, C, R> {
-    /// Looks at the slot whose turn it is, as [`Supervisor::start_one`] does, if what fills slots may look at it. The error is that a thread
-    /// could not be started.
+    /// Looks at the slot whose turn it is, as [`Supervisor::start_one`] does, if what fills slots may look at it. The error is that a
+    /// thread could not be started.
     fn start_next<'s>(
         &mut self,
         scope: &Scope<'s, &'e ()>,
@@ -123,9 +123,9 @@ impl<
         self.start_one(scope, slot)
     }
 
-    /// Looks at slots in turn, at each once at most, and starts a session in it if it is empty and may have a worker, and there is a link and
-    /// room. No dial begins once the time of a round has passed, or the run has to end: the next time it goes on at the next slot. The error
-    /// is that a thread could not be started.
+    /// Looks at slots in turn, at each once at most, and starts a session in it if it is empty and may have a worker, and there is a link
+    /// and room. No dial begins once the time of a round has passed, or the run has to end: the next time it goes on at the next slot. The
+    /// error is that a thread could not be started.
     pub fn start_in_turn<'s>(
         &mut self,
         scope: &Scope<'s, &'e ()>,
