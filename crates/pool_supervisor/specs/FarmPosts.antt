@@ -1,4 +1,4 @@
--- What a run posts that goes on until its watch ends it: besides the orders of its rounds, those of workers that join, and of relaxed plans.
+-- What a run posts that goes on until its watch ends it: the orders of its rounds, of workers that join, and of relaxed plans.
 use Rattle.std.specs.Prelude.{◌≡◌, ◌⊎◌, ℕ, nat_lt, List, [], ◌∷◌, ◌++◌, Bool, true, false, if◌then◌else◌}
 use Rattle.std.specs.Prelude.{Option, None, Some, is_some, length}
 use Rattle.plan_model.specs.Planning.{Instance, assigned}

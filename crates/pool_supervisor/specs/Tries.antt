@@ -92,8 +92,8 @@ pub record FillsThese (settings : Settings) (allows : Rule) (these : List ℕ) (
   pub slots_are : map slot_of looks ≡ these
   pub each : AllByRecursion (IsLook settings allows) looks
 
--- An attempt, or what is done between two: the sessions that were joined, the looks at slots, the calls for the load, and the line, if it is
--- an attempt.
+-- An attempt, or what is done between two: the sessions that were joined, the looks at slots, the calls for the load, and the line, if it
+-- is an attempt.
 pub record Try : Type 0 where
   pub joined : List PastSession
   pub looks : List Look

@@ -15,6 +15,7 @@ use crate::place::RunId;
 use crate::planner::Planner;
 use crate::queue::longest_queue;
 use crate::session::Site;
+use crate::steps::Found;
 use byte_io::{Sink, Source};
 use gear_status::Load;
 use plan_model::{Answer, Certified, Input, Plan};
@@ -153,6 +154,10 @@ impl<
         if let Some(relaxed) = &relaxed {
             site.lent.watch.relaxed(site.run.settings, relaxed);
         }
+        let found = Found {
+            certified,
+            relaxed: relaxed.as_ref(),
+        };
         let rt = site.lent.rt;
         let mut held = site.shared.hold(rt);
         held.facts();
@@ -164,8 +169,7 @@ impl<
                 &mut held,
                 publisher,
                 &mut self.rounds,
-                certified,
-                relaxed.as_ref(),
+                found,
             ) {
             Ok(ran) => {
                 self.longest = longest;

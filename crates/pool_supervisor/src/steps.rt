@@ -41,6 +41,14 @@ pub struct GivenJob<'a> {
     pub now_ms: u64,
 }
 
+/// What was found for what was viewed of the pool.
+pub struct Found<'a> {
+    /// The answer.
+    pub certified: Certified,
+    /// A relaxed plan of the same problem, if the answer is that there is no plan.
+    pub relaxed: Option<&'a Relaxed>,
+}
+
 impl<'e, N: RunId> RunBoard<'e, N> {
     /// Ends the chapter of the history if that is due: in a run of so many attempts if more than half of what the history may have is
     /// used, so that a long run does not run out of room; in one until its watch ends it if there is any event, so that it does not keep
@@ -292,12 +300,11 @@ impl<'e, N: RunId> RunBoard<'e, N> {
         held: &mut Booked<Grabs<N>, Reports<N>>,
         publisher: &mut PublisherSeat,
         rounds: &mut RunRounds<N>,
-        certified: Certified,
-        relaxed: Option<&Relaxed>,
+        found: Found<'_>,
     ) -> Result<Ran, AdoptError>
         requires own { publisher.old.board ≡ N.board }
-        requires relaxed { IfSome relaxed (λ r. IsRelaxedFor certified.input r.now) }
-        ensures pool { Adopts certified held.old held.new result }
+        requires relaxed { IfSome found.relaxed (λ r. IsRelaxedFor found.certified.input r.now) }
+        ensures pool { Adopts found.entry.certified held.old held.new result }
         ensures round { IfOk result (λ ran. IsRoundOf N.settings ran held.new.state) }
         ensures own { publisher.new.board ≡ publisher.old.board }
         ensures posts { IfOk result
@@ -307,6 +314,7 @@ impl<'e, N: RunId> RunBoard<'e, N> {
     {
         held.facts();
         histories_join();
+        let Found { certified, relaxed } = found;
         let ran = held.adopt(rt, rounds, certified)?;
         self.post_round(held, publisher, &ran);
         self.post_relaxed(held, publisher, &ran, relaxed);
