@@ -3,8 +3,8 @@
 tests/serve/run calls this. A farm has two hosts that do jobs. It goes on, and serves them, though nobody takes its lines, though the names
 of 200 further hosts do not resolve, though the resolver is gone, though no descriptor is left, or there are too few from the start, though
 the job server takes a report a little at a time, though its input has nothing to read and does not block, though a host is gone (also if
-there never was a plan), and though no host serves one of its jobs. Nobody from elsewhere ends it, or keeps this machine from its page. What
-its processes write is in the folder.
+there never was a plan), and though no host serves one of its jobs. It ends though its job server is silent. Nobody from elsewhere ends it,
+or keeps this machine from its page. What its processes write is in the folder.
 """
 
 import contextlib
@@ -31,6 +31,7 @@ import suite
 from edge import HOSTS, WORKERS, Edge, bad_jobs, good_jobs, holds_pace, settings
 from page import PLACES, Page
 from service import POISON
+from silence import ADDRESSES, Silence
 from slow_way import SlowWay
 from starting import LINE, PATIENCE, Processes, ports, untimed
 
@@ -242,6 +243,40 @@ def while_the_resolver_is_gone(program, processes):
         edge.keeps_pace_while(lambda: edge.ask(good_jobs("named", 300)))
         edge.end(300)
         edge.holds_no_good_host_unreached()
+
+
+def while_the_server_is_silent(program, processes):
+    """The name of the job server has three addresses. Once the first of them is tried the input ends, and the farm with it: it tries no
+    other."""
+    raise_loopback()
+    server = ports(1)[0]
+    silence = Silence(server)
+    texts = {
+        "hosts": "".join(f"{address} jobs.farm\n" for address in ADDRESSES),
+        "settings.toml": settings(server, (), host="jobs.farm").replace("lull_ms = 20", "lull_ms = 100"),
+        "services.toml": "\n".join(["version = 1", *[f'[machines.{name}]\nurl = "http://{HOST}:9/jobs"' for name in HOSTS], ""]),
+    }
+    for name, text in texts.items():
+        with open(f"{processes.folder}/{name}", "w") as it:
+            it.write(text)
+    subprocess.run(["mount", "--bind", f"{processes.folder}/hosts", "/etc/hosts"], check=True)
+    files = [f"{processes.folder}/{name}.toml" for name in ("settings", "services")]
+    poolman = processes.start("poolman", program, "serve", *files, "--until-input", stdin=subprocess.PIPE)
+    wait_until(silence.tried, PATIENCE, "the job server is tried")
+    poolman.stdin.close()
+    tried = silence.tried()
+
+    def has_ended():
+        tried.update(silence.tried())
+        return poolman.poll() is not None
+
+    wait_until(has_ended, PATIENCE, "the farm has ended")
+    held(len(tried) == 1, f"a farm that has to end tries {sorted(tried)}")
+
+
+def a_farm_ends_while_its_server_is_silent(program, processes):
+    """The job server's computer is off: the end of a farm waits for the address that is being tried, and for no other."""
+    alone(while_the_server_is_silent, program, processes)
 
 
 def workers_go_on_without_a_resolver(program, processes):
@@ -471,11 +506,12 @@ PARTS = (
     one_job_is_never_served,
     one_job_leaves_workers_to_others,
     peers_from_elsewhere,
+    a_farm_ends_while_its_server_is_silent,
 )
 
 
 # These want a network of their own, which not each system lets a test have.
-WANT_A_NETWORK = (workers_go_on_without_a_resolver, peers_from_elsewhere)
+WANT_A_NETWORK = (workers_go_on_without_a_resolver, peers_from_elsewhere, a_farm_ends_while_its_server_is_silent)
 
 
 def try_part(part, program, folder):
