@@ -128,11 +128,7 @@ enum RelaxedPart {
 }
 
 /// The text of such a part.
-fn relaxed_text(
-    alloc: Global,
-    plan: &RelaxedPlan,
-    part: RelaxedPart,
-) -> Result<Vec<u8>, AllocError>
+fn relaxed_text(alloc: Global, plan: &RelaxedPlan, part: RelaxedPart) -> Result<Vec<u8>, AllocError>
     ensures { IfOk result (λ text. text.items ≡ spec.relaxed_part part plan.now) }
 {
     match part {
@@ -146,7 +142,11 @@ fn relaxed_answer(alloc: Global, farm: &FarmView, part: RelaxedPart) -> Result<A
     ensures { IfOk result (λ answer. answer ≡ spec.relaxed_answer part farm.now.evidence farm.now.relaxed) }
 {
     let (Some(evidence), Some(plan)) = (&farm.evidence, &farm.relaxed) else {
-        return words(alloc, Status::Unavailable, "503: no least numbers are left out\n");
+        return words(
+            alloc,
+            Status::Unavailable,
+            "503: no least numbers are left out\n",
+        );
     };
     Ok(Answer {
         status: Status::Ok,

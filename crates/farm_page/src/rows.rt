@@ -11,9 +11,7 @@ use crate::condition::is_thinned;
 use crate::markup::Markup;
 use crate::measured::{FunctionNumber, HostNumber, function_value, host_value};
 use crate::notices::is_worn;
-use crate::view::{
-    EndView, FailureEnd, FailureView, FarmView, FunctionView, HostView,
-};
+use crate::view::{EndView, FailureEnd, FailureView, FarmView, FunctionView, HostView};
 use std::alloc::AllocError;
 
 /// How the number of a function's workers is shown: it is wrong below the least number.
