@@ -3,8 +3,8 @@
 tests/serve/run calls this. A farm has two hosts that do jobs. It goes on, and serves them, though nobody takes its lines, though the names
 of 200 further hosts do not resolve, though the resolver is gone, though no descriptor is left, or there are too few from the start, though
 the job server takes a report a little at a time, though its input has nothing to read and does not block, though a host is gone (also if
-there never was a plan), and though no host serves one of its jobs. It ends though its job server is silent. Nobody from elsewhere ends it,
-or keeps this machine from its page. What its processes write is in the folder.
+there never was a plan), and though no host serves one of its jobs, which fails after its retries if it has a bound. It ends though its job
+server is silent. Nobody from elsewhere ends it, or keeps this machine from its page. What its processes write is in the folder.
 """
 
 import contextlib
@@ -25,9 +25,10 @@ sys.dont_write_bytecode = True
 TOP = os.path.join(os.path.dirname(os.path.abspath(__file__)), "../..")
 sys.path[:0] = [f"{TOP}/tests/gearmand", f"{TOP}/tests/together"]
 
-from farm import HOST, SUBMIT_JOB, TOTALS, Client, at_once, held, request, wait_until
+from farm import HOST, JOB_CREATED, SUBMIT_JOB, TOTALS, WORK_FAIL, Client, at_once, held, request, wait_until
 
 import suite
+from asking import WORK_WARNING
 from edge import HOSTS, WORKERS, Edge, bad_jobs, good_jobs, holds_pace, settings
 from page import PLACES, Page
 from service import POISON
@@ -492,6 +493,29 @@ def one_job_leaves_workers_to_others(program, processes):
     edge.holds_no_good_host_unreached()
 
 
+def one_job_fails_after_its_retries(program, processes):
+    """With `retries = 2` a job whose connection is closed without a response fails the third time: its client hears how often it was left,
+    a line says so, and the worker that had it last goes on."""
+    edge = Edge(program, processes)
+    with open(f"{processes.folder}/services.toml", "a") as it:
+        it.write("[functions.upper]\nretries = 2\n")
+    edge.start()
+    said = "left unserved too often (3): the connection ended before the response was whole"
+    with contextlib.closing(Client(edge.server, PATIENCE)) as client:
+        client.socket.sendall(request(SUBMIT_JOB, b"upper", b"poison", POISON))
+        (created, handle), warning, failure = client.packet(), client.packet(), client.packet()
+    held(created == JOB_CREATED, f"a packet of kind {created}: {handle[:100]!r}")
+    held(warning == (WORK_WARNING, handle + b"\0" + said.encode()), f"no warning: {warning}")
+    held(failure == (WORK_FAIL, handle), f"no failure: {failure}")
+    edge.keeps_pace_while(lambda: edge.ask(good_jobs("after", 50)))
+    edge.end(51)
+    failed = [line for line in edge.lines() if line.startswith("failed ")]
+    held(len(failed) == 1 and failed[0].endswith(f": {said}"), f"what failed: {failed}")
+    ends = edge.causes()
+    held((edge.lost(), ends.count("Unserved")) == (2, 2), f"the job was lost {edge.lost()} times, and workers ended so: {ends}")
+    edge.holds_no_good_host_unreached()
+
+
 PARTS = (
     nobody_takes_lines,
     names_do_not_resolve,
@@ -505,6 +529,7 @@ PARTS = (
     idle_workers_see_that_their_service_closed,
     one_job_is_never_served,
     one_job_leaves_workers_to_others,
+    one_job_fails_after_its_retries,
     peers_from_elsewhere,
     a_farm_ends_while_its_server_is_silent,
 )

@@ -2,7 +2,7 @@
 use Rattle.std.proofs.Common.{◌≡◌, ◌∙◌, ℕ, List, [], ◌∷◌, Option, Some, None, refl, ap, subst, inl, inr}
 use Rattle.std.specs.Prelude.{IfSome}
 use Rattle.gear_packets.specs.Response.{AssignedJob}
-use Rattle.http_jobs.specs.Serving.{HasNew, IsDoneBy, IsNotDoneBy, NotServed, Tells, Visible}
+use Rattle.http_jobs.specs.Serving.{HasNew, IsNotDoneBy, NotServed, Visible}
 use Rattle.http_jobs.specs.declared.service.Service.{Service}
 use Rattle.job_runner.specs.Run.{EndTold, IsLeftBy}
 use Rattle.job_runner.specs.Told.{AreTold, Telling, Told}
@@ -29,7 +29,8 @@ abbrev pub tells_of : {J F : Type 0} → Parts J F → J → J → AssignedJob �
 tells_of p before after job told =
     (p.farm after ≡ p.farm before) × (p.worker after ≡ p.worker before) × (p.machine after ≡ p.machine before)
     × (p.host after ≡ p.host before)
-    × IsDoneBy (p.service before) (timeout_in (p.now (p.farm before)) job.function) (p.see before) (p.see after) (p.service after) (p.time after) job told
+    × Does (p.now (p.farm before)) (p.service before) (p.see before) (p.see after) job told
+    × (p.service after ≡ p.service before) × (p.time after ≡ timeout_in (p.now (p.farm before)) job.function)
 
 abbrev pub fails_of : {J F : Type 0} → Parts J F → J → J → AssignedJob → session.NotDone → Type 0
 fails_of p before after job error =
@@ -50,10 +51,10 @@ are_told : {J F : Type 0} (p : Parts J F) (farm : F) (service : Service) (first 
 are_told p farm service first last [] own is all = (ap p.see all, ap p.farm all ∙ own, ap p.service all ∙ is)
 are_told p farm service first last (t ∷ ts) own is all =
     let next = all.0 in
-    let done = all.1.4 in
-    let rest = are_told p farm service next last ts (all.1.0 ∙ own) (done.3 ∙ is) all.2 in
-    let tells = subst (λ f. Tells (p.service first) (timeout_in (p.now f) t.job.function) (p.see first) (p.see next) t.job done.0) own done.1 in (
-      (p.see next, (done.0, subst (λ s. Tells s (timeout_in (p.now farm) t.job.function) (p.see first) (p.see next) t.job done.0) is tells, done.2), rest.0),
+    let facts = all.1 in
+    let rest = are_told p farm service next last ts (facts.0 ∙ own) (facts.5 ∙ is) all.2 in
+    let does = subst (λ f. Does (p.now f) (p.service first) (p.see first) (p.see next) t.job t.told) own facts.4 in (
+      (p.see next, subst (λ s. Does (p.now farm) s (p.see first) (p.see next) t.job t.told) is does, rest.0),
       rest.1,
       rest.2,
     )

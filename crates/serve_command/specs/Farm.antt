@@ -1,6 +1,6 @@
 -- A farm: the settings of its pool, and the services of its machines.
-use Rattle.std.specs.Prelude.{◌≡◌, ◌⊎◌, ℕ, List, [], ◌∷◌, length, slice_get, slice_index}
-use Rattle.std.specs.Prelude.{Option, IfSome, Some, Ok, Err, option_map}
+use Rattle.std.specs.Prelude.{◌≡◌, ◌⊎◌, ℕ, List, [], ◌∷◌, length, slice_get, slice_index, slice_index_or}
+use Rattle.std.specs.Prelude.{Option, IfSome, None, Some, Ok, Err, option_and_then, option_map}
 use Rattle.std.specs.Option.{option_map_or}
 use Rattle.http_jobs.specs.Service.{address_of}
 use Rattle.http_jobs.specs.Serving.{DialCall, opened}
@@ -41,6 +41,10 @@ IsRefused settings_text services_text f =
 abbrev pub timeout_in : Farm → List ℕ → ℕ
 timeout_in farm name = option_map_or (λ f. slice_index farm.services.timeouts f) (place_of farm.settings.functions name)
     farm.settings.job_timeout_ms
+
+-- how many times a job of this function that services leave unserved comes again before it fails, if that is bounded
+abbrev pub retries_in : Farm → List ℕ → Option ℕ
+retries_in farm name = option_and_then (λ f. slice_index_or farm.services.retries f None) (place_of farm.settings.functions name)
 
 -- the host and port in the URL of the slot's machine
 pub record IsHostOf (farm : Farm) (slot : ℕ) (host : List ℕ) : Type 0 where

@@ -67,6 +67,15 @@ impl Farm {
         }
     }
 
+    /// How many times a job of this function that services leave unserved comes again before it fails. None: nothing bounds that, as for a
+    /// function that the settings do not have.
+    pub fn retries(&self, function: &[u8]) -> Option<u32>
+        ensures { result ≡ spec.retries_in self.now function.now }
+    {
+        let function = self.settings.function_named(function)?;
+        self.services.retries(function)
+    }
+
     /// The machine of a slot. None if the slot is none of the farm.
     pub fn machine_of(&self, slot: SlotId) -> Option<MachineId>
         ensures exact { IfSome result (λ machine. (slot < slots self.now.settings) × (machine ≡ machine_of self.now.settings slot)) }

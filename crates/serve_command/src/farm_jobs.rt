@@ -1,5 +1,9 @@
 //! The jobs of a farm's workers, done by the services of their machines.
 
+ghost use Rattle.std.specs.Prelude.{IfSome};
+ghost use Rattle.http_jobs.specs.Response.{reply_of};
+ghost use Rattle.serve_command.specs.ServiceJobs.{IsGivenUp, IsSettled};
+
 use crate::books::Books;
 use crate::farm::Farm;
 use crate::host::FarmHost;
@@ -9,13 +13,13 @@ use devices::DialError;
 use farm_hosts::{HostNews, HostSign, Hosts, MachineSlot, sign_of};
 use farm_notes::JobEnd;
 use gear_packets::{Assignment, Handle};
-use http_jobs::{Reply, ServiceJobs, dial_words};
+use http_jobs::{Reply, ServiceJobs, dial_words, left_too_often};
 use job_runner::{End, Jobs, NotDone, Outcome, Readiness};
 use plan_model::{FuncId, MachineId, SlotId};
 use pool_supervisor::JobSource;
 use std::alloc::{AllocError, Global};
 use std::sync::{Mutex, Wait};
-use unserved_jobs::UnservedJobs;
+use unserved_jobs::{UnservedJobs, is_left_too_often};
 use worker_state::WorkerName;
 
 /// Gives each worker of a farm the jobs of its machine's service.
@@ -268,28 +272,78 @@ fn note_left<R: Wait>(
     }
 }
 
-/// Lets the worker, which left the job, hold it for a while once its session has ended, if the job was left before. Not if the host is left
-/// alone: then the host fails and not the job, and another host may do it.
-fn hold<R: Wait>(rt: &R, books: &Books<'_>, machine: MachineId, worker: WorkerName, job: &Handle) {
-    if !books.hosts.is_left_alone(rt, machine) {
-        let _milliseconds = books.unserved.lock(rt).hold(worker, job);
+/// How a worker leaves a job.
+#[derive(Clone, Copy)]
+struct LeftJob {
+    machine: MachineId,
+    worker: WorkerName,
+    /// How often services left the job unserved, this time included. None if that is not so, or not known.
+    times: Option<u32>,
+    /// How many times it may come again.
+    retries: Option<u32>,
+}
+
+/// What a job comes to that was left unserved so often, if that is too often: it failed. None also if memory is refused: then it comes
+/// again, and may fail the next time.
+fn given_up(
+    alloc: Global,
+    times: u32,
+    retries: Option<u32>,
+    done: &Result<Option<Reply>, http_jobs::NotDone>,
+) -> Option<Reply>
+    ensures { IfSome result (λ reply. IsGivenUp retries done.now (reply_of reply)) }
+{
+    match done {
+        Err(http_jobs::NotDone::Unserved(last)) if is_left_too_often(times, retries) => {
+            left_too_often(alloc, times, *last).ok()
+        }
+        _ => None,
     }
+}
+
+/// What a job comes to that its worker leaves unserved. If it was left too often it failed, and is not known any more. Else the worker
+/// holds it for a while once its session has ended, if it was left before. Neither is so if the host is left alone: then the host fails
+/// and not the job, and another host may do it.
+fn settle<R: Wait>(
+    rt: &R,
+    alloc: Global,
+    books: &Books<'_>,
+    job: &Handle,
+    left: LeftJob,
+    done: Result<Option<Reply>, http_jobs::NotDone>,
+) -> Result<Option<Reply>, http_jobs::NotDone>
+    ensures { IsSettled left.retries done result }
+{
+    let Some(times) = left.times else {
+        return done;
+    };
+    if books.hosts.is_left_alone(rt, left.machine) {
+        return done;
+    }
+    if let Some(reply) = given_up(alloc, times, left.retries, &done) {
+        books.unserved.lock(rt).forget(job);
+        return Ok(Some(reply));
+    }
+    let _milliseconds = books.unserved.lock(rt).hold(left.worker, job);
+    done
 }
 
 impl<'e, H: FarmHost> Jobs for FarmJobs<'e, H> {
     ghost use Rattle.std.specs.Prelude.{◌≡◌};
-    ghost use Rattle.http_jobs.specs.Serving.{IsDoneBy, IsNotDoneBy, visible};
+    ghost use Rattle.http_jobs.specs.Serving.{IsNotDoneBy, visible};
     ghost use Rattle.serve_command.specs.Farm.{timeout_in};
+    ghost use Rattle.serve_command.specs.ServiceJobs.{Does};
 
     ghost tells = { λ before after job told. (after.books.farm ≡ before.books.farm)
         × (after.worker ≡ before.worker) × (after.machine ≡ before.machine)
         × (H.Dials.host after.jobs.dial ≡ H.Dials.host before.jobs.dial)
-        × IsDoneBy before.jobs.service (timeout_in before.books.farm.now job.function)
+        × Does before.books.farm.now before.jobs.service
         (visible H.Call.input H.Call.output H.Call.quiet before.jobs.kept (H.Dials.calls before.jobs.dial)
         (H.Times.shown before.jobs.clock))
         (visible H.Call.input H.Call.output H.Call.quiet after.jobs.kept (H.Dials.calls after.jobs.dial)
-        (H.Times.shown after.jobs.clock))
-        after.jobs.service after.jobs.timeout_ms job told };
+        (H.Times.shown after.jobs.clock)) job told
+        × (after.jobs.service ≡ before.jobs.service)
+        × (after.jobs.timeout_ms ≡ timeout_in before.books.farm.now job.function) };
 
     ghost fails = { λ before after job error. (after.books.farm ≡ before.books.farm)
         × (after.worker ≡ before.worker) × (after.machine ≡ before.machine)
@@ -309,9 +363,9 @@ impl<'e, H: FarmHost> Jobs for FarmJobs<'e, H> {
         self.jobs.set_timeout(timeout_ms as u64);
         self.next_look = Mutex::new(NextLook::AfterJob);
         self.books.hosts.begin_job(self.host, self.machine);
-        let done = self.jobs.serve(alloc, &job);
+        let served = self.jobs.serve(alloc, &job);
         self.books.hosts.end_use(self.host, self.machine);
-        let sign = sign_of(&done, timeout_ms, farm.services.connect_ms());
+        let sign = sign_of(&served, timeout_ms, farm.services.connect_ms());
         let now_ms = self.host.now_ms();
         let times_left = note_left(self.host, self.books.unserved, &job.handle, sign, now_ms);
         let sign = sign_after(sign, times_left);
@@ -320,15 +374,13 @@ impl<'e, H: FarmHost> Jobs for FarmJobs<'e, H> {
         self.host
             .tell_if(host_line(alloc, farm, self.machine, news));
         drop(turn);
-        if times_left.is_some() {
-            hold(
-                self.host,
-                &self.books,
-                self.machine,
-                self.worker,
-                &job.handle,
-            );
-        }
+        let left = LeftJob {
+            machine: self.machine,
+            worker: self.worker,
+            times: times_left,
+            retries: farm.retries(&job.function),
+        };
+        let done = settle(self.host, alloc, &self.books, &job.handle, left, served);
         self.books.tally.end(self.host, function, end_of(&done));
         let failure = failure_of(alloc, farm, self.worker, &job, &done);
         self.host.tell_if(line_of(alloc, &failure));

@@ -1,35 +1,34 @@
 use Rattle.std.proofs.Common.{refl, ap, ◌∙◌}
-use Rattle.std.specs.Option.{option_map}
 use Rattle.std.specs.Result.{result_from_control_flow}
-use Rattle.http_jobs.specs.Response.{reply_of}
-use Rattle.serve_command.proofs.Kept.{heard, of_ok}
+use Rattle.serve_command.proofs.Kept.{failed_if_settled, heard, told_if_settled}
 use Rattle.serve_command.proofs.farm_jobs.FarmJobsJobs.run.Goals as goal
 
 pub returns-clause-tells : goal.returns-clause-tells
 returns-clause-tells g c =
     let set = c.set_timeout.ensures in
     let facts = c.timeout_ms-timeout_ms.ensures in
+    let name = c.deref-2.ensures.value in
     let is_ok = c.branch-done.ensures ∙ ap result_from_control_flow c.in_ok-done.is in
-    let served = rw (set.service, set.timeout, set.kept, set.dial, set.clock, facts, c.deref-2.ensures.value) at c.serve-done.ensures.served in (
+    let served = rw (set.service, set.timeout, set.kept, set.dial, set.clock, facts, name) at c.serve-served.ensures.served in
+    let failed = rw (set.service, set.timeout, set.kept, set.dial, set.clock, facts, name) at c.serve-served.ensures.failed in
+    let settled = rw (c.retries.ensures, c.deref-3.ensures.value) at c.settle-done.ensures in (
       refl,
       refl,
       refl,
-      rw set.dial at c.serve-done.ensures.host,
-      (
-        option_map reply_of c.in_ok-done.field-0,
-        of_ok _ c.serve-done.result c.in_ok-done.field-0 is_ok served,
-        c.outcome_in.ensures,
-        (rw set.service at c.serve-done.ensures.service),
-        (rw (set.timeout, facts, c.deref-2.ensures.value) at c.serve-done.ensures.timeout),
-      ),
+      rw set.dial at c.serve-served.ensures.host,
+      told_if_settled _ _ _ _ _ c.serve-served.result c.settle-done.result c.in_ok-done.field-0 _ served failed settled is_ok c.outcome_in.ensures,
+      (rw set.service at c.serve-served.ensures.service),
+      (rw (set.timeout, facts, name) at c.serve-served.ensures.timeout),
     )
 
 pub returns-in_err-done-clause-fails : goal.returns-in_err-done-clause-fails
 returns-in_err-done-clause-fails g c =
     let set = c.set_timeout.ensures in
     let facts = c.timeout_ms-timeout_ms.ensures in
+    let name = c.deref-2.ensures.value in
     let is_err = c.branch-done.ensures ∙ ap result_from_control_flow c.in_err-done.is in
-    heard _ _ _ _ _ _ _ c.serve-done.result c.in_err-done.field-0.0 c.from_residual.result refl refl refl (rw set.dial at c.serve-done.ensures.host)
-    (rw set.service at c.serve-done.ensures.service) (rw (set.timeout, facts, c.deref-2.ensures.value) at c.serve-done.ensures.timeout)
-    is_err c.from_residual.ensures.1
-    (rw (set.service, set.timeout, set.kept, set.dial, set.clock, facts, c.deref-2.ensures.value) at c.serve-done.ensures.failed)
+    let was_err = failed_if_settled _ c.serve-served.result c.settle-done.result c.in_err-done.field-0.0 c.settle-done.ensures is_err in
+    heard _ _ _ _ _ _ _ c.serve-served.result c.in_err-done.field-0.0 c.from_residual.result refl refl refl (rw set.dial at c.serve-served.ensures.host)
+    (rw set.service at c.serve-served.ensures.service) (rw (set.timeout, facts, name) at c.serve-served.ensures.timeout)
+    was_err c.from_residual.ensures.1
+    (rw (set.service, set.timeout, set.kept, set.dial, set.clock, facts, name) at c.serve-served.ensures.failed)
