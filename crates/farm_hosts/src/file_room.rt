@@ -231,6 +231,11 @@ impl FileRoom {
         }
     }
 
+    /// Whether workers could not start for want of files in the last attempt that says so.
+    pub fn is_lacking<R: Wait>(&self, rt: &R) -> bool {
+        self.known.lock(rt).are_lacking
+    }
+
     /// The attempt is over, and the next begins. What is new of the files after it.
     pub fn begin_attempt<R: Wait>(&self, rt: &R) -> Option<FileNews> {
         let mut held = self.known.lock(rt);

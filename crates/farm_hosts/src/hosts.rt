@@ -127,6 +127,15 @@ impl Hosts {
         }
     }
 
+    /// Whether no worker of the machine is alive, though its host is not left alone.
+    pub fn is_without_workers<R: Wait>(&self, rt: &R, machine: MachineId) -> bool {
+        let held = self.table.lock(rt);
+        match held.hosts.get(machine.number() as usize) {
+            Some(host) => host.alive == 0 && host.state.reason().is_none(),
+            None => false,
+        }
+    }
+
     /// A worker of the machine joined. If its host is left alone, the worker tries it, and the next one waits for longer.
     pub fn note_join<R: Wait>(&self, rt: &R, machine: MachineId) {
         let mut held = self.table.lock(rt);

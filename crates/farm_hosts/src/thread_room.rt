@@ -94,6 +94,11 @@ impl ThreadRoom {
         }
     }
 
+    /// Whether threads were lacking in the last attempt.
+    pub fn is_lacking<R: Wait>(&self, rt: &R) -> bool {
+        self.known.lock(rt).are_lacking
+    }
+
     /// The attempt is over, and the next begins. What is new of the threads after it.
     pub fn begin_attempt<R: Wait>(&self, rt: &R) -> Option<ThreadNews> {
         let mut held = self.known.lock(rt);

@@ -1,43 +1,72 @@
-//! A flag that ends a farm, and cuts its rest short.
+//! A flag that ends a farm, and a bell. Each cuts a rest short.
 
 use std::io::{ErrorKind, Read};
+use std::mem;
 use std::sync::{Condvar, Mutex, Wait};
 use std::time::{Clock, Duration};
 
-/// Whether a farm has to end. Once it is raised it stays raised.
+/// What cuts a rest short.
+#[derive(Clone, Copy, Drop)]
+struct Calls {
+    /// The farm has to end.
+    is_raised: bool,
+    /// The bell was rung, and nobody has heard it yet.
+    is_rung: bool,
+}
+
+/// Whether a farm has to end. Once it is raised it stays raised. It has a bell besides, for who rests until something happens.
 #[derive(Drop)]
 pub struct EndFlag {
-    is_raised: Mutex<bool>,
-    raised: Condvar,
+    calls: Mutex<Calls>,
+    called: Condvar,
 }
 
 impl EndFlag {
     /// A flag that is not raised.
     pub fn new() -> EndFlag {
         EndFlag {
-            is_raised: Mutex::new(false),
-            raised: Condvar::new(),
+            calls: Mutex::new(Calls {
+                is_raised: false,
+                is_rung: false,
+            }),
+            called: Condvar::new(),
         }
     }
 
     /// Raises it, and wakes whoever rests on it.
     pub fn raise<R: Wait>(&self, rt: &R) {
-        *self.is_raised.lock(rt) = true;
-        self.raised.notify_all();
+        self.calls.lock(rt).is_raised = true;
+        self.called.notify_all();
+    }
+
+    /// Rings the bell: who rests until it rings, or does so next, goes on.
+    pub fn ring<R: Wait>(&self, rt: &R) {
+        self.calls.lock(rt).is_rung = true;
+        self.called.notify_all();
     }
 
     /// Whether it is raised.
     pub fn is_raised<R: Wait>(&self, rt: &R) -> bool {
-        *self.is_raised.lock(rt)
+        self.calls.lock(rt).is_raised
     }
 
     /// Waits for so many milliseconds, or until it is raised.
     pub fn rest<R: Wait + Clock>(&self, rt: &R, milliseconds: u32) {
-        let held = self.is_raised.lock(rt);
+        let held = self.calls.lock(rt);
         let most = Duration::from_millis(milliseconds as u64);
         let _ = self
-            .raised
-            .wait_timeout_while(rt, held, most, |is_raised| !*is_raised);
+            .called
+            .wait_timeout_while(rt, held, most, |calls| !calls.is_raised);
+    }
+
+    /// Waits for so many milliseconds, or until it is raised, or the bell rings. Whether the bell has rung since this last said so.
+    pub fn rest_until_rung<R: Wait + Clock>(&self, rt: &R, milliseconds: u32) -> bool {
+        let held = self.calls.lock(rt);
+        let most = Duration::from_millis(milliseconds as u64);
+        let (mut held, _) = self
+            .called
+            .wait_timeout_while(rt, held, most, |calls| !calls.is_raised && !calls.is_rung);
+        mem::replace(&mut held.is_rung, false)
     }
 }
 

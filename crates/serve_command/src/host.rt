@@ -60,6 +60,15 @@ pub trait FarmHost: Host {
     /// Waits for so many milliseconds, or until the farm has to end.
     fn rest(&self, milliseconds: u32);
 
+    /// Waits for so many milliseconds, or until the bell rings or the farm has to end. Whether the bell has rung, meanwhile or before.
+    fn rest_until_rung(&self, milliseconds: u32) -> bool {
+        self.rest(milliseconds);
+        false
+    }
+
+    /// Rings the bell: who rests until it rings, or does so next, goes on.
+    fn ring(&self) {}
+
     /// The job with the time of now, if the clock can be read.
     fn dated(&self, failure: FailureView) -> FailureView {
         failure

@@ -20,6 +20,7 @@ use pool_settings::Settings;
 use pool_supervisor::{Attempt, Attempted, EndedWorker, JoinedWorker, Progress, RunEnd, Watch};
 use refusal::Labelled;
 use relaxed_plan::Relaxed;
+use relaxed_plan::Relaxed;
 use run_command::{attempt_told, end_notes, gave_no_status};
 use std::alloc::{AllocError, Global};
 use std::sync::{Mutex, Wait};
@@ -139,14 +140,29 @@ impl<'e, H: Wait> Reporting<'e, H> {
         let unreached = self.books.hosts.unreached(self, self.alloc).ok()?;
         let jobs = self.books.tally.counts(self).ok()?;
         let failures = self.books.tally.failures(self).ok()?;
+        let without_room = self.without_room().ok()?;
         let known = Known {
             unreached: &unreached,
             jobs: &jobs,
             failures: &failures,
-            again: JobsAgain { times: 0, held: 0 },
-            without_room: &[],
+            again: jobs_again(self, self.books.unserved, self.host.now_ms()),
+            without_room: &without_room,
         };
         notes.view(self, self.alloc, made, &known).ok()
+    }
+
+    /// The machines that have no worker for want of files or threads: none lives, and the host is not left alone. None are if neither is
+    /// lacking. The only error is out of memory.
+    fn without_room(&self) -> Result<Vec<MachineId>, AllocError> {
+        let mut machines = Vec::new(self.alloc);
+        let is_lacking = self.books.files.is_lacking(self) || self.books.threads.is_lacking(self);
+        for number in 0..self.books.farm.settings.machines() {
+            let machine = MachineId::new(number);
+            if is_lacking && self.books.hosts.is_without_workers(self, machine) {
+                machines.push(machine)?;
+            }
+        }
+        Ok(machines)
     }
 
     /// The job that a worker left without an answer, if its service had answered it. It is counted as lost from now on.
@@ -171,6 +187,23 @@ impl<'e, H: Threads> Threads for Reporting<'e, H> {}
 
 impl<'e, H: Wait> Wait for Reporting<'e, H> {}
 
+/// How often the job was left that was left most often lately, if a job was left more than once, and how many workers hold one.
+fn jobs_again<R: Wait>(
+    rt: &R,
+    unserved: &Mutex<UnservedJobs>,
+    now_ms: Option<u64>,
+) -> JobsAgain {
+    let held = unserved.lock(rt);
+    let times = match now_ms {
+        Some(now_ms) => held.most_times(now_ms),
+        None => 0,
+    };
+    JobsAgain {
+        times: if times > 1 { times } else { 0 },
+        held: held.held() as u32,
+    }
+}
+
 /// For how many milliseconds the worker is to hold its job, if it holds one.
 fn hold_of<R: Wait>(rt: &R, unserved: &Mutex<UnservedJobs>, worker: WorkerName) -> Option<u32> {
     unserved.lock(rt).hold_of(worker)
@@ -188,6 +221,14 @@ impl<'e, H: FarmHost> Watch for Reporting<'e, H> {
 
     fn pause(&self, milliseconds: u32) {
         self.host.rest(milliseconds);
+    }
+
+    fn pause_until_woken(&self, milliseconds: u32) -> bool {
+        self.host.rest_until_rung(milliseconds)
+    }
+
+    fn wake(&self) {
+        self.host.ring();
     }
 
     fn has_to_end(&self) -> bool {
@@ -295,6 +336,12 @@ impl<'e, H: FarmHost> Progress for Reporting<'e, H> {
     fn planned(&self, settings: &Settings, certified: &Certified) {
         if let Some(notes) = &self.notes {
             notes.planned(self, self.alloc, settings, certified);
+        }
+    }
+
+    fn relaxed(&self, settings: &Settings, relaxed: &Relaxed) {
+        if let Some(notes) = &self.notes {
+            notes.relaxed(self, self.alloc, settings, relaxed);
         }
     }
 

@@ -229,6 +229,14 @@ impl<
         self.edges.end.rest(&self.rt, milliseconds);
     }
 
+    fn rest_until_rung(&self, milliseconds: u32) -> bool {
+        self.edges.end.rest_until_rung(&self.rt, milliseconds)
+    }
+
+    fn ring(&self) {
+        self.edges.end.ring(&self.rt);
+    }
+
     fn dated(&self, failure: FailureView) -> FailureView {
         let mut failure = failure;
         if let Some(time) = self.time_text() {
