@@ -20,7 +20,6 @@ use pool_settings::Settings;
 use pool_supervisor::{Attempt, Attempted, EndedWorker, JoinedWorker, Progress, RunEnd, Watch};
 use refusal::Labelled;
 use relaxed_plan::Relaxed;
-use relaxed_plan::Relaxed;
 use run_command::{attempt_told, end_notes, gave_no_status};
 use std::alloc::{AllocError, Global};
 use std::sync::{Mutex, Wait};
@@ -336,12 +335,6 @@ impl<'e, H: FarmHost> Progress for Reporting<'e, H> {
     fn planned(&self, settings: &Settings, certified: &Certified) {
         if let Some(notes) = &self.notes {
             notes.planned(self, self.alloc, settings, certified);
-        }
-    }
-
-    fn relaxed(&self, settings: &Settings, relaxed: &Relaxed) {
-        if let Some(notes) = &self.notes {
-            notes.relaxed(self, self.alloc, settings, relaxed);
         }
     }
 
