@@ -133,8 +133,8 @@ impl<'e, H: Wait> Reporting<'e, H> {
         Some(door)
     }
 
-    /// What the page shows after an attempt. None if there is no page, or no memory.
-    fn view(&self, made: &Attempted<'_>) -> Option<FarmView> {
+    /// What the page shows after an attempt at this time. None if there is no page, or no memory.
+    fn view(&self, made: &Attempted<'_>, now_ms: Option<u64>) -> Option<FarmView> {
         let notes = self.notes.as_ref()?;
         let unreached = self.books.hosts.unreached(self, self.alloc).ok()?;
         let jobs = self.books.tally.counts(self).ok()?;
@@ -144,7 +144,7 @@ impl<'e, H: Wait> Reporting<'e, H> {
             unreached: &unreached,
             jobs: &jobs,
             failures: &failures,
-            again: jobs_again(self, self.books.unserved, self.host.now_ms()),
+            again: jobs_again(self, self.books.unserved, now_ms),
             without_room: &without_room,
         };
         notes.view(self, self.alloc, made, &known).ok()
@@ -327,7 +327,7 @@ impl<'e, H: FarmHost> Progress for Reporting<'e, H> {
                     .tell_if(host_line(self.alloc, farm, machine, news));
             }
         }
-        if let Some(view) = self.view(made) {
+        if let Some(view) = self.view(made, self.host.now_ms()) {
             self.host.show(view);
         }
     }
