@@ -164,13 +164,8 @@ impl<
         let publisher = &mut self.seats.publisher;
         match site
             .run
-            .adopt_and_publish(
-                rt,
-                &mut held,
-                publisher,
-                &mut self.rounds,
-                found,
-            ) {
+            .adopt_and_publish(rt, &mut held, publisher, &mut self.rounds, found)
+        {
             Ok(ran) => {
                 self.longest = longest;
                 self.relaxed = relaxed;

@@ -4,7 +4,7 @@ use Rattle.plan_commands.specs.Fault.{answered, refused}
 use Rattle.plan_commands.specs.declared.ending.Exit.{Exit}
 use Rattle.plan_commands.specs.declared.fault.Fault.{Fault}
 use Rattle.pool_settings.specs.Settings.{Settings}
-use Rattle.pool_supervisor.specs.Rounds.{TellRun}
+use Rattle.pool_supervisor.specs.FarmPosts.{TellFarm}
 use Rattle.pool_supervisor.specs.Runs.{AreOfOneHistory}
 use Rattle.pool_supervisor.specs.Sessions.{PastSession, AllHad, AreSums}
 use Rattle.pool_supervisor.specs.declared.attempt.Attempt.{Attempt}
@@ -23,7 +23,7 @@ use Rattle.service_settings.specs.Services.{Services}
 -- rounds of that history.
 abbrev pub IsFarmRun : Farm → RunEnd → Type 0
 IsFarmRun farm ended =
-    (lines : List Attempt) × TellRun farm.settings [] lines [] × AreOfOneHistory farm.settings ended.totals ended.chapters lines
+    (lines : List Attempt) × TellFarm farm.settings [] lines [] × AreOfOneHistory farm.settings ended.totals ended.chapters lines
     × (sessions : List PastSession) × AreSums farm.settings sessions ended × AllHad (HadServiceJobs farm) sessions
 
 -- How many milliseconds workers may take to end, and 2^32 - 1 at most: to open a connection, to do a job, and to write an answer, for which

@@ -187,11 +187,7 @@ impl<'e, H: Threads> Threads for Reporting<'e, H> {}
 impl<'e, H: Wait> Wait for Reporting<'e, H> {}
 
 /// How often the job was left that was left most often lately, if a job was left more than once, and how many workers hold one.
-fn jobs_again<R: Wait>(
-    rt: &R,
-    unserved: &Mutex<UnservedJobs>,
-    now_ms: Option<u64>,
-) -> JobsAgain {
+fn jobs_again<R: Wait>(rt: &R, unserved: &Mutex<UnservedJobs>, now_ms: Option<u64>) -> JobsAgain {
     let held = unserved.lock(rt);
     let times = match now_ms {
         Some(now_ms) => held.most_times(now_ms),

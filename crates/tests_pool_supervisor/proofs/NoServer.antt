@@ -1,7 +1,8 @@
 -- Each line of a run says that there was no link, if none of the calls of its dialler opened one.
-use Rattle.std.proofs.Common.{◌≡◌, ◌≢◌, ◌⊎◌, inl, inr, List, [], ◌∷◌, ◌++◌, map, refl, ap, sym, subst, ◌∙◌, Option, Some, Ok, Err}
+use Rattle.std.proofs.Common.{◌≡◌, ◌≢◌, ◌⊎◌, inl, inr, List, [], ◌∷◌, ◌++◌, map, refl, ap, sym, subst, ◌∙◌, Option, Some, None, Ok, Err}
 use Rattle.std.specs.Prelude.{Result, IfSome}
 use Rattle.std.specs.List.{flat_map, AllByRecursion}
+use Rattle.std.specs.Option.{option_to_list}
 use Rattle.gear_status.specs.Status.{Line}
 use Rattle.pool_settings.specs.Settings.{Settings}
 use Rattle.pool_supervisor.specs.declared.attempt.Attempt.{Attempt}
@@ -10,7 +11,7 @@ use Rattle.pool_supervisor.specs.declared.run_end.RunEnd.{RunEnd}
 use Rattle.pool_supervisor.specs.Asking.{AskedOver, AsksFor, Follows}
 use Rattle.pool_supervisor.specs.Dials.{DialCall, failed, opened, closed, then_called}
 use Rattle.pool_supervisor.specs.Sessions.{PastSession, closing_of}
-use Rattle.pool_supervisor.specs.Tries.{Rule, Try, calls_of, dials_of, line_of, IsTry, Dials}
+use Rattle.pool_supervisor.specs.Tries.{Rule, Try, calls_of, dials_of, lines_of, FollowsIf, InOrder, IsTry, Dials}
 use Rattle.tests_pool_supervisor.specs.Unreached as spec
 use Rattle.tests_pool_supervisor.specs.Unreached.{OpensNone}
 use Rattle.tests_pool_supervisor.specs.declared.unreached.Calls.{Calls, New, Failed', HungUp'}
@@ -47,15 +48,24 @@ no_link asked (attempt.Backlog round jobs) none follows = absurd (asks_none (Ok 
 no_link asked (attempt.Unserved round waiting) none follows = absurd (asks_none (Ok follows.0) asked (λ e. absurd cc) none follows.1)
 no_link asked (attempt.NoPlan round) none follows = absurd (asks_none (Ok follows.0) asked (λ e. absurd cc) none follows.1)
 
-each_no_link : (settings : Settings) (allows : Rule) (had_jobs : PastSession → Type 0) (tries : List Try) → AllByRecursion (IsTry settings allows had_jobs) tries
-    → OpensNone (flat_map calls_of tries) → AllByRecursion (λ (line : Attempt). line ≡ attempt.NoLink) (map line_of tries)
-each_no_link settings allows had_jobs [] all none = tt
-each_no_link settings allows had_jobs (try ∷ tries) all none =
+all_both : {A : Type 0} (P : A → Type 0) (xs ys : List A) → AllByRecursion P xs → AllByRecursion P ys → AllByRecursion P (xs ++ ys)
+all_both P [] ys all more = more
+all_both P (x ∷ xs) ys all more = (all.0, all_both P xs ys all.1 more)
+
+one_no_link : (asked : List DialCall) (line : Option Attempt) → OpensNone asked → FollowsIf asked line → AllByRecursion (λ (l : Attempt). l ≡ attempt.NoLink) (option_to_list line)
+one_no_link asked None none follows = tt
+one_no_link asked (Some line) none follows = (no_link asked line none follows, tt)
+
+each_no_link : (settings : Settings) (looking : Try → Type 0) (had_jobs : PastSession → Type 0) (tries : List Try) → AllByRecursion (IsTry settings looking had_jobs) tries
+    → OpensNone (flat_map calls_of tries) → AllByRecursion (λ (line : Attempt). line ≡ attempt.NoLink) (flat_map lines_of tries)
+each_no_link settings looking had_jobs [] all none = tt
+each_no_link settings looking had_jobs (try ∷ tries) all none =
     let P : DialCall → Type 0 = λ (call : DialCall). call ≢ opened in
     let own = all_left P (calls_of try) (flat_map calls_of tries) none in
     let asked = all_right P (flat_map dials_of try.looks) try.asked (all_right P (map closing_of try.joined) (flat_map dials_of try.looks ++ try.asked) own) in
     let one = all.0 in
-    (no_link try.asked try.line asked one.follows, each_no_link settings allows had_jobs tries all.1 (all_right P (calls_of try) (flat_map calls_of tries) none))
+    all_both (λ (line : Attempt). line ≡ attempt.NoLink) (lines_of try) (flat_map lines_of tries) (one_no_link try.asked try.line asked one.follows)
+    (each_no_link settings looking had_jobs tries all.1 (all_right P (calls_of try) (flat_map calls_of tries) none))
 
 pub lines_of_none : (settings : Settings) (allows : Rule) (had_jobs : PastSession → Type 0) (lines : List Attempt) (run : RunEnd) (before now : Option (List DialCall))
     → before ≡ Some [] → IfSome now OpensNone → Dials settings allows had_jobs [] lines run before now → AllByRecursion (λ (line : Attempt). line ≡ attempt.NoLink) lines
@@ -66,5 +76,5 @@ lines_of_none settings allows had_jobs lines run before now new known dials =
     let calls : now ≡ then_called (then_called (Some []) first) then =
     dials.last.calls ∙ ap (λ (o : Option (List DialCall)). then_called o then) (made.calls ∙ ap (λ (o : Option (List DialCall)). then_called o first) new) in
     let all : OpensNone (first ++ then) = subst (λ (o : Option (List DialCall)). IfSome o OpensNone) calls known in
-    let each = each_no_link settings allows had_jobs made.tries made.each (all_left (λ (call : DialCall). call ≢ opened) first then all) in
+    let each = each_no_link settings (InOrder settings allows) had_jobs made.tries made.each (all_left (λ (call : DialCall). call ≢ opened) first then all) in
     subst (λ (l : List Attempt). AllByRecursion (λ (line : Attempt). line ≡ attempt.NoLink) l) (sym made.lines) each

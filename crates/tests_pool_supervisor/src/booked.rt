@@ -140,6 +140,7 @@ fn serve<'e, N: RunId, J: JobSource, C: Watch, R: Wait>(
     link: &mut Script,
 ) -> Result<Done, Fail>
     requires board { made.board.id ≡ N.board }
+    requires until { N.until ≡ Until.Rounds 1 }
     requires settings { (settings.now ≡ N.settings) × (made.pool.settings ≡ N.settings) }
     requires grabbed { (books.0.name ≡ N.grabs) × (books.0.parts ≡ 2 ^ 40) }
     requires reported { (books.1.name ≡ N.reports) × (books.1.parts ≡ 2 ^ 40) }

@@ -2,7 +2,7 @@ use Rattle.std.proofs.Common.{◌≡◌, ◌∙◌, List, [], ap, subst}
 use Rattle.http_jobs.specs.Serving.{visible}
 use Rattle.pool_settings.specs.Settings.{Settings}
 use Rattle.pool_supervisor.specs.Runs.{AreOfOneHistory}
-use Rattle.pool_supervisor.specs.Rounds.{TellRun}
+use Rattle.pool_supervisor.specs.FarmPosts.{TellFarm}
 use Rattle.pool_supervisor.specs.Sessions.{AllHad, AreSums, PastSession}
 use Rattle.pool_supervisor.specs.Tries.{joined_by}
 use Rattle.pool_supervisor.specs.declared.attempt.Attempt.{Attempt}
@@ -15,7 +15,7 @@ use Rattle.serve_command.proofs.serving.run_until_end.Goals as goal
 -- a run of the farm, by settings that are its own
 abbrev FarmRunBy : Settings → Farm → RunEnd → Type 0
 FarmRunBy settings farm ended =
-    (lines : List Attempt) × TellRun settings [] lines [] × AreOfOneHistory settings ended.totals ended.chapters lines
+    (lines : List Attempt) × TellFarm settings [] lines [] × AreOfOneHistory settings ended.totals ended.chapters lines
     × (sessions : List PastSession) × AreSums settings sessions ended × AllHad (HadServiceJobs farm) sessions
 
 pub returns : goal.returns

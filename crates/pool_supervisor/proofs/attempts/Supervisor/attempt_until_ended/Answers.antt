@@ -30,10 +30,10 @@ loop-attempt-preserved g c =
     let made = c.attempt.new.self in
     let now = c.rest_and_refill.new.self in
     let posts = since_both until settings [] so_far.0 more first.seats.publisher.posts between.seats.publisher.posts made.seats.publisher.posts so_far.1
-        (since_one until settings so_far.0 line between.seats.publisher.posts made.seats.publisher.posts c.in_ok-attempt.ensures.posts) in
+    (since_one until settings so_far.0 line between.seats.publisher.posts made.seats.publisher.posts c.in_ok-attempt.ensures.posts) in
     let attempts = more_attempts looking settings had [] so_far.0 more first.crew.counts between.crew.counts made.crew.counts (g.Y.Dial.calls first.dial) (g.Y.Dial.calls between.dial)
-        (g.Y.Dial.calls made.dial) so_far.2
-        (attempts_after looking settings had so_far.0 (line ∷ []) between.crew.counts made.crew.counts (g.Y.Dial.calls between.dial) (g.Y.Dial.calls made.dial) c.in_ok-attempt.ensures.calls) in
+    (g.Y.Dial.calls made.dial) so_far.2
+    (attempts_after looking settings had so_far.0 (line ∷ []) between.crew.counts made.crew.counts (g.Y.Dial.calls between.dial) (g.Y.Dial.calls made.dial) c.in_ok-attempt.ensures.calls) in
     let refills = c.in_ok-rest_and_refill.ensures.calls in
     let noted = noted_more so_far.0 line between.rounds made.rounds so_far.3 c.in_ok-attempt.ensures.notes in (
       more,

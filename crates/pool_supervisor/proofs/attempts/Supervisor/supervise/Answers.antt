@@ -21,7 +21,7 @@ returns g c =
     let now = c.attempt_and_stop-attempted.new.self in
     let told = tells_by g.N.RunId.until settings c.args.lines.told.items made.0 c.args.self.seats.publisher.posts now.seats.publisher.posts all.0 in
     let dials = dials_of_run (LooksBy g.N.RunId.until settings allows) settings had c.args.lines.told.items made.0 c.args.self.crew.counts
-        now.crew.counts c.join_all-ended.result before (g.Y.Dial.calls now.dial) _ c.requires.none_joined all.1 c.join_all-ended.ensures.joins in record {
+    now.crew.counts c.join_all-ended.result before (g.Y.Dial.calls now.dial) _ c.requires.none_joined all.1 c.join_all-ended.ensures.joins in record {
       runs = record {
         lines = made.0;
         keeps = subst (λ (l : List Attempt). Keeps c.args.lines.until made.0 l) (sym c.join_all-ended.ensures.told) made.1;

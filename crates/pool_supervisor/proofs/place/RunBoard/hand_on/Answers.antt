@@ -13,6 +13,6 @@ returns-in-Work-clause-posts g c =
     let generation = c.min.result in
     let read = ap (λ (o : OrderParts). record o { generation = generation }) (c.round.view_is ∙ c.posted_by.ensures.order) in
     let posted = c.post_by.ensures.posts
-        ∙ (ap (λ p. p.posts ++ post slot (record { generation = generation; round = c.round.inside.round; what = c.round.inside.what }) ∷ []) c.posted_by.ensures.publisher
-        ∙ ap (λ (o : OrderParts). before ++ post slot o ∷ []) read) in
+    ∙ (ap (λ p. p.posts ++ post slot (record { generation = generation; round = c.round.inside.round; what = c.round.inside.what }) ∷ []) c.posted_by.ensures.publisher
+    ∙ ap (λ (o : OrderParts). before ++ post slot o ∷ []) read) in
     more_join g.N.RunId.until slot generation before c.post_by.new.publisher.posts (sym c.args.self.now.until_is ∙ c.in-Ended.is) posted

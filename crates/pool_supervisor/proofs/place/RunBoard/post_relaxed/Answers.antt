@@ -22,13 +22,16 @@ returns-clause-posts g c =
     let answer = sym c.answer.ensures.answer ∙ c.in-Planned.is in
     let shown = subst (λ (a : Answer). Shown (let_off_of problem some.relaxed.now.let_off) a) answer relaxed.2.shown in
     subst (λ (u : Until). PostsAfter u settings c.args.ran.now state before now) (sym ended)
-    (inr (some.is-1, record {
-      problem = problem;
-      is_problem = relaxed.1;
-      let_off = some.relaxed.now.let_off;
-      plan = _;
-      backlog = _;
-      short = _;
-      shown = shown;
-      posted = subst (λ (b : Book). ArePosted (plan_order c.in-Planned.plan c.args.ran.now.number b.state) before now) c.pool.ensures c.publish_plan_by.ensures.posts;
-    }))
+    (inr (
+      some.is-1,
+      record {
+        problem = problem;
+        is_problem = relaxed.1;
+        let_off = some.relaxed.now.let_off;
+        plan = _;
+        backlog = _;
+        short = _;
+        shown = shown;
+        posted = subst (λ (b : Book). ArePosted (plan_order c.in-Planned.plan c.args.ran.now.number b.state) before now) c.pool.ensures c.publish_plan_by.ensures.posts;
+      },
+    ))
