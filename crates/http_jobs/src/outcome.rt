@@ -1,15 +1,17 @@
 //! What a response reports of a job, and what fails one that no service answers.
 
-ghost use Rattle.std.specs.Prelude.{◌≡◌, [], IfOk, Some};
+ghost use Rattle.std.specs.Prelude.{◌≡◌, ◌++◌, [], IfOk, OnOk, Some, string_bytes};
 ghost use Rattle.std.specs.Option.{option_map};
 ghost use Rattle.job_runner.specs.Told.{told_of};
-ghost use Rattle.http_jobs.specs.Response.{IsLeftTooOften, body_as_warning, failed_with, failure_by, reply_of, told_by, told_in};
+ghost use Rattle.http_jobs.specs.Response.{IsLeftTooOften, body_as_warning, failed_with, failure_by, left_words};
+ghost use Rattle.http_jobs.specs.Response.{reply_of, told_by, told_in};
 ghost use Rattle.http_jobs.specs.Response as spec;
 ghost use Rattle.http_jobs.specs.declared.outcome.Failure.TheVariants.{TooLarge};
 
 use crate::fault::Unserved;
 use job_runner::{End, Note, Outcome};
 use std::alloc::{AllocError, Global};
+use std::fmt::Write;
 use thiserror::Error;
 
 /// The warning of a result that may be cut.
@@ -92,13 +94,21 @@ pub fn oversized(alloc: Global) -> Reply
     }
 }
 
+/// Says that a job was left unserved too often: so many times in all, and the last time for a reason in these words.
+fn push_left_words(out: &mut String, times: u32, reason: &str) -> Result<(), AllocError>
+    ensures { OnOk result (string_bytes out.new ≡ string_bytes out.old ++ left_words times reason.now) }
+{
+    write!(out, "left unserved too often ({times}): {reason}")
+}
+
 /// What a job comes to that services left unserved too often: so many times in all, and the last time for this reason. It failed, with a
 /// warning that says so. The only error is out of memory.
 pub fn left_too_often(alloc: Global, times: u32, last: Unserved) -> Result<Reply, AllocError>
     ensures { IfOk result (λ reply. IsLeftTooOften times last (reply_of reply)) }
 {
     let reason = format!(in alloc; "{last}")?;
-    let warning = format!(in alloc; "left unserved too often ({times}): {reason}")?;
+    let mut warning = String::new(alloc);
+    push_left_words(&mut warning, times, reason.as_str())?;
     Ok(Reply {
         outcome: failure_with(alloc, warning.into_bytes())?,
         failure: Some(Failure::LeftTooOften(times, last)),

@@ -1,6 +1,6 @@
 -- What holds of a job once it is known whether it was done.
-use Rattle.std.proofs.Common.{◌∙◌, ℕ, Bool, false, Option, None, Some, ap, inl, inr, refl, subst, sym}
-use Rattle.std.specs.Prelude.{◌≡◌, ◌<◌, ◌↔◌, IsTrue, Result, Ok, Err, IfErr, IfNone, IfOk, IfSome, option_map}
+use Rattle.std.proofs.Common.{◌∙◌, ℕ, Option, Some, ap, inl, inr, subst, sym}
+use Rattle.std.specs.Prelude.{◌≡◌, Result, Ok, Err, IfErr, IfOk, option_map}
 use Rattle.std.specs.Result.{IsErrAnd}
 use Rattle.gear_packets.specs.Response.{AssignedJob}
 use Rattle.http_jobs.specs.Response.{reply_of, told_in}
@@ -27,12 +27,6 @@ pub heard : {A B : Type 0} (C D E F G H : Type 0) (P : NotDone → Type 0) (r : 
 heard C D E F G H P r why (Ok x) c d e f g h failed told p = tt
 heard C D E F G H P r why (Err error) c d e f g h failed told p =
     (c, d, e, f, (why, subst (λ x. IfErr x P) failed p, told, g, h))
-
--- a job that was left too often has a bound
-pub has_bound : (retries : Option ℕ) (times : ℕ) (is : Bool) → IfSome retries (λ most. IsTrue is ↔ (most < times)) → IfNone retries (is ≡ false)
-    → IsTrue is → (most : ℕ) × (retries ≡ Some most) × (most < times)
-has_bound (Some most) times is some none often = (most, refl, some.0 often)
-has_bound None times is some none often = absurd (cc)
 
 -- what a job told that was settled
 pub told_if_settled : (farm : Farm) (service : Service) (before after : Visible) (job : AssignedJob) (served settled : Result (Option Reply) NotDone)
