@@ -6,7 +6,7 @@ import re
 import socket
 import time
 
-from farm import HOST, TOTALS, held, wait_until
+from farm import HOST, TOTALS, Client, held, wait_until
 
 from asking import ask_rightly
 from page import Page
@@ -15,6 +15,12 @@ from starting import PATIENCE, drain, ports, untimed
 HOSTS = ("north", "south")
 WORKERS = 4
 ROUND_MS = 50
+
+# What each host does in a farm in which each has a function of its own.
+OWN = {"north": "upper", "south": "reverse"}
+
+# The name of a function that makes the status text unreadable: a line of it is the first part alone.
+UNREADABLE = b"a name\nof two lines"
 
 # An attempt is not to take longer on average, though it is made each 50 milliseconds where nothing else is to do.
 SLOWEST_MS = 2000
@@ -30,9 +36,19 @@ def settings(server, others, job_timeout_ms=60_000, round_ms=ROUND_MS, host=HOST
     return "\n".join([*lines, ""])
 
 
-def good_jobs(name, count):
+def settings_of_own(server, workers=WORKERS, least=1, **keys):
+    """The settings of a farm in which each host has so many workers and a function of its own, which so many of them are to do at least.
+    These keys are further ones of the top table, or have other values there."""
+    keys = {"round_ms": ROUND_MS, "lull_ms": 20, **keys}
+    lines = ["version = 1", f'server = "{HOST}:{server}"', *[f"{key} = {value}" for key, value in keys.items()]]
+    for name, function in OWN.items():
+        lines.append(f'[functions.{function}]\nleast = {least}\n[machines.{name}]\nworkers = {workers}\nfunctions = ["{function}"]')
+    return "\n".join([*lines, ""])
+
+
+def good_jobs(name, count, function="upper"):
     """So many jobs that can be done."""
-    return [("upper", f"{name}-{number}", b"a job") for number in range(count)]
+    return [(function, f"{name}-{number}", b"a job") for number in range(count)]
 
 
 def bad_jobs(name, count):
@@ -51,7 +67,7 @@ class Edge:
         self.page = Page(page, PATIENCE)
         self.others = others
         self.places = dict(zip(HOSTS, places))
-        processes.start_server(self.server)
+        self.gearmand = processes.start_server(self.server)
         self.services = {name: processes.start_service(name, port) for name, port in self.places.items()}
         self.write("settings", settings(self.server, others))
         urls = {**{name: f"{named[name]}:{port}" for name, port in self.places.items()}, **{name: f"{name}.invalid:80" for name in others}}
@@ -90,10 +106,25 @@ class Edge:
         self.services[name].kill()
         self.services[name].wait()
 
+    def bring_back(self, name):
+        """Starts a service that was killed."""
+        self.services[name] = self.processes.start_service(name, self.places[name])
+
     def restart(self, name):
         """Kills a service, and starts it again."""
         self.kill(name)
-        self.services[name] = self.processes.start_service(name, self.places[name])
+        self.bring_back(name)
+
+    def restart_server(self):
+        """Kills the job server, and starts it again: each connection to it has ended then."""
+        self.gearmand.kill()
+        self.gearmand.wait()
+        self.gearmand = self.processes.start_server(self.server)
+
+    def leave_unreadable_name(self):
+        """Asks for a job after which the status text cannot be read."""
+        with contextlib.closing(Client(self.server, PATIENCE)) as client:
+            client.leave([(UNREADABLE, b"")])
 
     def causes(self, workers=r"\S+"):
         """The causes for which these workers ended, in order."""
@@ -106,11 +137,15 @@ class Edge:
     def has_all_workers(self):
         return self.metric("poolman_alive_workers") == WORKERS * len(HOSTS)
 
+    def server_says(self, command):
+        """The lines that the job server answers to a text command."""
+        with contextlib.closing(socket.create_connection((HOST, self.server), PATIENCE)) as admin, admin.makefile("rb") as said:
+            admin.sendall(command + b"\n")
+            return list(itertools.takewhile(lambda line: line != b".\n", said))
+
     def sessions(self):
         """How many workers of the farm have given their name to the job server."""
-        with contextlib.closing(socket.create_connection((HOST, self.server), PATIENCE)) as admin, admin.makefile("rb") as said:
-            admin.sendall(b"workers\n")
-            return sum(b"#" in line for line in itertools.takewhile(lambda line: line != b".\n", said))
+        return sum(b"#" in line for line in self.server_says(b"workers"))
 
     def holds_no_good_host_unreached(self):
         said = [line for line in self.lines() if line.startswith("unreached ") and line.split()[1] in HOSTS]

@@ -3,8 +3,7 @@
 tests/serve/run calls this. A farm has two hosts that do jobs. It goes on, and serves them, though nobody takes its lines, though the names
 of 200 further hosts do not resolve, though the resolver is gone, though no descriptor is left, or there are too few from the start, though
 the job server takes a report a little at a time, though its input has nothing to read and does not block, though a host is gone (also if
-there never was a plan), and though no host serves one of its jobs, which fails after its retries if it has a bound. It ends though its job
-server is silent. Nobody from elsewhere ends it, or keeps this machine from its page. What its processes write is in the folder.
+there never was a plan). It ends though its job server is silent. Nobody from elsewhere ends it, or keeps this machine from its page. What its processes write is in the folder.
 """
 
 import contextlib
@@ -30,6 +29,7 @@ from farm import HOST, JOB_CREATED, SUBMIT_JOB, TOTALS, WORK_FAIL, Client, at_on
 import suite
 from asking import WORK_WARNING
 from edge import HOSTS, WORKERS, Edge, bad_jobs, good_jobs, holds_pace, settings
+from in_parts import try_part, try_parts
 from page import PLACES, Page
 from service import POISON
 from silence import ADDRESSES, Silence
@@ -429,20 +429,35 @@ def idle_workers_end_with_their_host(program, processes):
     edge.end(300)
 
 
-def workers_without_orders_end_with_their_host(program, processes):
-    """No plan has as many workers as a function is to have at least, so none has an order. Those of a host that is gone end all the same."""
-    edge = Edge(program, processes)
-    least = WORKERS * len(HOSTS) + 1
-    edge.write("settings", settings(edge.server, ()).replace("[functions.upper]", f"[functions.upper]\nleast = {least}"))
-    edge.begin()
+def workers_end_with_their_host(edge, exit_status):
+    """A host of a farm that was begun is gone while the page says no plan. Its workers end all the same."""
     wait_until(lambda: edge.sessions() == WORKERS * len(HOSTS), PATIENCE, "the job server knows all workers")
     edge.kill("north")
     first = r"north/\d#1"
     wait_until(lambda: len(edge.causes(first)) == WORKERS, PATIENCE, "the workers of the host end")
     held(set(edge.causes(first)) == {"Stopped"}, f"they ended so: {edge.causes(first)}")
     edge.restart("north")
-    wait_until(edge.has_all_workers, PATIENCE, "all workers are back")
-    edge.end(0, NO_PLAN)
+    wait_until(lambda: edge.sessions() == WORKERS * len(HOSTS), PATIENCE, "all workers are back")
+    held(edge.page.is_unwell(), "the farm has a plan")
+    edge.end(exit_status=exit_status)
+
+
+def workers_without_a_plan_end_with_their_host(program, processes):
+    """No plan has as many workers as a function is to have at least. They do its jobs all the same, and those of a host that is gone end."""
+    edge = Edge(program, processes)
+    least = WORKERS * len(HOSTS) + 1
+    edge.write("settings", settings(edge.server, ()).replace("[functions.upper]", f"[functions.upper]\nleast = {least}"))
+    edge.begin()
+    edge.ask(good_jobs("let-off", 50))
+    workers_end_with_their_host(edge, NO_PLAN)
+
+
+def workers_without_orders_end_with_their_host(program, processes):
+    """No status can be read from the start, so no worker has an order. Those of a host that is gone end all the same."""
+    edge = Edge(program, processes)
+    edge.leave_unreadable_name()
+    edge.begin()
+    workers_end_with_their_host(edge, NO_PLAN)
 
 
 def idle_workers_see_that_their_service_closed(program, processes):
@@ -460,62 +475,6 @@ def idle_workers_see_that_their_service_closed(program, processes):
     held(edge.causes() == ["Stopped"] * WORKERS * len(HOSTS), f"the workers ended so: {edge.causes()}")
 
 
-def one_job_is_never_served(program, processes):
-    """A job comes again and again, and each time its connection is closed without a response. No host is left alone for that, and the jobs
-    of others are done. The job is held before it comes again, for longer each time: it ends two workers or fewer for each slot."""
-    edge = Edge(program, processes)
-    edge.start()
-    with contextlib.closing(Client(edge.server, PATIENCE)) as client:
-        client.socket.sendall(request(SUBMIT_JOB, b"upper", b"poison", POISON))
-        for turn in range(5):
-            wait_until(lambda: edge.lost() >= turn + 2, PATIENCE, "the job is lost again")
-            edge.keeps_pace_while(lambda: edge.ask(good_jobs(f"beside-{turn}", 50)))
-    # Without its client the job is gone.
-    wait_until(edge.has_all_workers, PATIENCE, "all workers are back")
-    edge.ask(good_jobs("after", 50))
-    edge.end(300)
-    held(edge.lost() <= 2 * WORKERS * len(HOSTS), f"one job ended {edge.lost()} workers")
-    edge.holds_no_good_host_unreached()
-
-
-def one_job_leaves_workers_to_others(program, processes):
-    """No attempt replaces the workers that a job without an answer ends. It is held before it comes again, for longer each time, so that the
-    sixteenth worker would have it after more than four minutes. The jobs of others are done meanwhile."""
-    edge = Edge(program, processes)
-    edge.write("settings", settings(edge.server, (), round_ms=600_000, workers=8))
-    edge.start()
-    wait_until(lambda: edge.sessions() == 8 * len(HOSTS), PATIENCE, "the job server knows all workers")
-    with contextlib.closing(Client(edge.server, PATIENCE)) as client:
-        client.socket.sendall(request(SUBMIT_JOB, b"upper", b"poison", POISON))
-        wait_until(lambda: edge.lost() >= 4, PATIENCE, "the job is lost again")
-        edge.ask(good_jobs("beside", 50))
-        edge.end(50)
-    edge.holds_no_good_host_unreached()
-
-
-def one_job_fails_after_its_retries(program, processes):
-    """With `retries = 2` a job whose connection is closed without a response fails the third time: its client hears how often it was left,
-    a line says so, and the worker that had it last goes on."""
-    edge = Edge(program, processes)
-    with open(f"{processes.folder}/services.toml", "a") as it:
-        it.write("[functions.upper]\nretries = 2\n")
-    edge.start()
-    said = "left unserved too often (3): the connection ended before the response was whole"
-    with contextlib.closing(Client(edge.server, PATIENCE)) as client:
-        client.socket.sendall(request(SUBMIT_JOB, b"upper", b"poison", POISON))
-        (created, handle), warning, failure = client.packet(), client.packet(), client.packet()
-    held(created == JOB_CREATED, f"a packet of kind {created}: {handle[:100]!r}")
-    held(warning == (WORK_WARNING, handle + b"\0" + said.encode()), f"no warning: {warning}")
-    held(failure == (WORK_FAIL, handle), f"no failure: {failure}")
-    edge.keeps_pace_while(lambda: edge.ask(good_jobs("after", 50)))
-    edge.end(51)
-    failed = [line for line in edge.lines() if line.startswith("failed ")]
-    held(len(failed) == 1 and failed[0].endswith(f": {said}"), f"what failed: {failed}")
-    ends = edge.causes()
-    held((edge.lost(), ends.count("Unserved")) == (2, 2), f"the job was lost {edge.lost()} times, and workers ended so: {ends}")
-    edge.holds_no_good_host_unreached()
-
-
 PARTS = (
     nobody_takes_lines,
     names_do_not_resolve,
@@ -525,11 +484,9 @@ PARTS = (
     a_report_is_taken_slowly,
     an_input_does_not_block,
     idle_workers_end_with_their_host,
+    workers_without_a_plan_end_with_their_host,
     workers_without_orders_end_with_their_host,
     idle_workers_see_that_their_service_closed,
-    one_job_is_never_served,
-    one_job_leaves_workers_to_others,
-    one_job_fails_after_its_retries,
     peers_from_elsewhere,
     a_farm_ends_while_its_server_is_silent,
 )
@@ -539,12 +496,6 @@ PARTS = (
 WANT_A_NETWORK = (workers_go_on_without_a_resolver, peers_from_elsewhere, a_farm_ends_while_its_server_is_silent)
 
 
-def try_part(part, program, folder):
-    os.mkdir(f"{folder}/{part.__name__}")
-    with Processes(f"{folder}/{part.__name__}") as processes:
-        part(program, processes)
-
-
 def main(program, folder, *names):
     """The parts of these names, or all."""
     for name in names:
@@ -552,8 +503,7 @@ def main(program, folder, *names):
     if not names:
         left_out = () if can_be_alone() else WANT_A_NETWORK
         parts = [part for part in PARTS if part not in left_out]
-        for part in parts:
-            try_part(part, program, folder)
+        try_parts(parts, program, folder)
         for part in left_out:
             suite.skipped("serve", 1, f"{part.__name__}, a network of its own", "not allowed here")
         suite.passed("serve", len(parts))

@@ -99,18 +99,29 @@ class Page:
 
     def check(self, program, folder):
         """The plan of the running farm is shown by its evidence, with the commands of docs/getting-started.md, in the folder of its settings."""
-        with open(f"{TOP}/docs/getting-started.md") as it:
-            commands = re.search(r"```sh\n(curl .*/evidence .*?)```", it.read(), re.DOTALL)[1]
-        commands = commands.replace("127.0.0.1:4780", f"{HOST}:{self.port}")
+        commands = self.commands("getting-started", r"```sh\n(curl .*/evidence .*?)```")
         if shutil.which("curl") is None:
             with open(f"{folder}/evidence.txt", "w") as it:
                 it.write(self.text("/evidence"))
             commands = commands.split("\n", 1)[1]
-        path = f"{os.path.dirname(os.path.abspath(program))}:{os.environ['PATH']}"
-        done = subprocess.run(
-            ["bash", "-ec", commands], cwd=folder, env={**os.environ, "PATH": path}, capture_output=True, text=True, timeout=self.patience
-        )
+        done = self.run(commands, program, folder)
         held((done.returncode, done.stdout) == (0, "shown\n"), f"the evidence: {done}")
+
+    def check_relaxed(self, program, folder):
+        """The plan without some least numbers is shown by the commands of docs/monitoring.md, which may ask in two attempts."""
+        commands = self.commands("monitoring", r"```sh\n(page=[^`]*/relaxed/.*?)```")
+        wait_until(lambda: self.run(commands, program, folder).stdout == "shown\n", self.patience, "the plan without least numbers is shown")
+
+    def commands(self, name, pattern):
+        """The commands of a page of docs that this expression finds, for this page of a farm."""
+        with open(f"{TOP}/docs/{name}.md") as it:
+            return re.search(pattern, it.read(), re.DOTALL)[1].replace("127.0.0.1:4780", f"{HOST}:{self.port}")
+
+    def run(self, commands, program, folder):
+        """How these commands end in this folder."""
+        path = f"{os.path.dirname(os.path.abspath(program))}:{os.environ['PATH']}"
+        words, environment = ["bash", "-ec", commands], {**os.environ, "PATH": path}
+        return subprocess.run(words, cwd=folder, env=environment, capture_output=True, text=True, timeout=self.patience)
 
     def refuse(self):
         """What is asked wrongly is refused."""
