@@ -45,8 +45,9 @@ LOOKUP_S = 3
 # A report has to be taken in so many milliseconds. A job has so many bytes at most.
 REPORT_MS, MOST_BYTES = 8000, 16_000_000
 
-# So many descriptors are too few for all workers, each of which takes two, beside the 64 that are left for the peers of the page.
-FEW = 86
+# So many descriptors are enough for three workers, each of which takes two, beside the 64 that are left for the peers of the page; and so
+# many are enough for one.
+FEW, FEWEST = 82, 78
 
 # The status of a farm of which no attempt led to a plan.
 NO_PLAN = 5
@@ -346,26 +347,59 @@ def no_descriptor_is_left(program, processes):
     edge.holds_no_good_host_unreached()
 
 
-def too_few_descriptors_at_first(program, processes):
-    """The farm begins with fewer descriptors than its workers take. It has a plan and serves with those that it can have, and says so. Once
-    the limit is raised it has all."""
+def begin_with_files(program, processes, count):
+    """A farm that begins with so many descriptors, and says that they are too few."""
     edge = Edge(program, processes)
-    edge.start("sh", "-c", f'ulimit -Sn {FEW} && exec "$0" "$@"')
+    edge.start("sh", "-c", f'ulimit -Sn {count} && exec "$0" "$@"')
     wait_until(lambda: "lacksfiles" in edge.lines(), PATIENCE, "the farm says that files are lacking")
     edge.keeps_pace_while(lambda: edge.ask(good_jobs("few", 300)))
-    alive = edge.metric("poolman_alive_workers")
-    held(0 < alive < WORKERS * len(HOSTS), f"{alive} workers are alive with {FEW} descriptors")
     held(nolinks(edge.lines()) == 0, "an attempt has no descriptor for the status")
     held("hasfiles" not in edge.lines(), "the farm says that files are there")
+    return edge
+
+
+def end_with_all_files(edge):
+    """The limit is raised, and the farm has all its workers."""
     limits = resource.prlimit(edge.poolman.pid, resource.RLIMIT_NOFILE)
     resource.prlimit(edge.poolman.pid, resource.RLIMIT_NOFILE, (limits[1], limits[1]))
     wait_until(lambda: "hasfiles" in edge.lines(), PATIENCE, "the farm says that files are there")
     wait_until(edge.has_all_workers, PATIENCE, "all workers are there")
     edge.keeps_pace_while(lambda: edge.ask(good_jobs("many", 300)))
+    held(not without_room(edge), f"the page names {without_room(edge)}")
     edge.end(600)
     said = [line for line in edge.lines() if line in ("lacksfiles", "hasfiles")]
     held(said == ["lacksfiles", "hasfiles"], f"of files it is said: {said}")
     edge.holds_no_good_host_unreached()
+
+
+def alive_of_each(edge):
+    """How many workers of each host are alive."""
+    return [edge.metric(f'poolman_host_alive_workers{{host="{name}"}}') for name in HOSTS]
+
+
+def without_room(edge):
+    """The machines that the page names since no descriptor is left for a worker of theirs."""
+    said = re.search(r"Without workers for want of files or threads: ([^.]*)\.", edge.page.text("/"))
+    return said[1].split(", ") if said else []
+
+
+def too_few_descriptors_at_first(program, processes):
+    """The farm begins with fewer descriptors than its workers take. It has a plan and serves with those that it can have, some of each host,
+    and says so. Once the limit is raised it has all."""
+    edge = begin_with_files(program, processes, FEW)
+    alive = alive_of_each(edge)
+    held(all(0 < count < WORKERS for count in alive), f"{alive} workers are alive with {FEW} descriptors")
+    held(not without_room(edge), f"the page names {without_room(edge)}")
+    end_with_all_files(edge)
+
+
+def too_few_descriptors_for_each_host(program, processes):
+    """There are so few that only one host has a worker. The page names the other one until the limit is raised."""
+    edge = begin_with_files(program, processes, FEWEST)
+    empty = [name for name, count in zip(HOSTS, alive_of_each(edge)) if count == 0]
+    held(len(empty) == 1, f"these hosts have no worker with {FEWEST} descriptors: {empty}")
+    held(without_room(edge) == empty, f"without a worker are {empty}, and the page names {without_room(edge)}")
+    end_with_all_files(edge)
 
 
 def nolinks(lines):
@@ -481,6 +515,7 @@ PARTS = (
     workers_go_on_without_a_resolver,
     no_descriptor_is_left,
     too_few_descriptors_at_first,
+    too_few_descriptors_for_each_host,
     a_report_is_taken_slowly,
     an_input_does_not_block,
     idle_workers_end_with_their_host,

@@ -97,6 +97,7 @@ PARTS = (
     Part("misuse", 2.0, 2.0, is_kept=True, crates=("pool_core",)),
     Part("http", 2.0, 2.0),
     Part("serve", 1.0, 1.0, words=("edges",), wants_program=True),
+    Part("serve", 1.0, 0.5, words=("starved",), wants_program=True),
     Part("serve", 1.0, 0.5, words=("trial",), wants_program=True),
     Part("pages", 0.5, 0.9, wants_program=True),
     Part("limits", 0.5, 0.3, wants_program=True),
