@@ -154,8 +154,9 @@ impl<'e, H: Wait> Reporting<'e, H> {
     /// lacking. The only error is out of memory.
     fn without_room(&self) -> Result<Vec<MachineId>, AllocError> {
         let mut machines = Vec::new(self.alloc);
+        let farm = self.books.farm;
         let is_lacking = self.books.files.is_lacking(self) || self.books.threads.is_lacking(self);
-        for number in 0..self.books.farm.settings.machines() {
+        for number in 0..farm.settings.machines() {
             let machine = MachineId::new(number);
             if is_lacking && self.books.hosts.is_without_workers(self, machine) {
                 machines.push(machine)?;
