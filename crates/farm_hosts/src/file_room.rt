@@ -222,9 +222,10 @@ impl FileRoom {
         held.opened = held.opened.saturating_add(1);
     }
 
-    /// A worker has ended, and its files are free.
+    /// A worker has ended, and its files are free: one more may start, beside those for which files were found.
     pub fn note_end<R: Wait>(&self, rt: &R) {
         let mut held = self.known.lock(rt);
+        held.may_start = held.may_start.saturating_add(1);
         let attempt = held.attempt;
         if let Some(lack) = held.lack {
             held.lack = Some(lack.due_now(attempt));

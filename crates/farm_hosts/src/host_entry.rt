@@ -59,7 +59,7 @@ pub struct HostEntry {
     pub busy: u32,
     /// How many workers came to try it.
     pub tries: u64,
-    /// How many of its workers joined in this attempt.
+    /// How many of its workers joined in this attempt, less those that ended in it.
     pub joined: u32,
     /// How many of its workers have joined, and were not seen to end. One whose link is held still counts.
     pub alive: u32,
@@ -135,13 +135,15 @@ impl HostEntry {
         self.state = self.state.after_join(attempt, self.longest_unreached);
     }
 
-    /// After a worker ended.
+    /// After a worker ended. Another one may join in its place in this attempt.
     pub fn note_end(&mut self, worker: WorkerName)
         ensures alive { self.new.alive ≡ self.old.alive - 1 }
+        ensures joined { self.new.joined ≡ self.old.joined - 1 }
         ensures reason { spec.reason_of self.new.state ≡ spec.reason_of self.old.state }
         ensures goes { spec.trier_of self.old.state ≡ Some worker → spec.trier_of self.new.state ≡ None }
     {
         self.alive = self.alive.saturating_sub(1);
+        self.joined = self.joined.saturating_sub(1);
         self.state = self.state.after_end(worker);
     }
 

@@ -258,7 +258,8 @@ fn sign_after(sign: HostSign, times_left: Option<u32>) -> HostSign {
     }
 }
 
-/// Notes that the job was left unserved at this time, if it was. How often it was, this time included. None if no time is known.
+/// Notes that the job was left unserved at this time, if it was. How often it was, this time included. None if no time is known. A job that
+/// was served is not known any more: whoever left it before, it comes again no more.
 fn note_left<R: Wait>(
     rt: &R,
     unserved: &Mutex<UnservedJobs>,
@@ -268,6 +269,10 @@ fn note_left<R: Wait>(
 ) -> Option<u32> {
     match (sign, now_ms) {
         (HostSign::Unserved, Some(now_ms)) => Some(unserved.lock(rt).note(job, now_ms)),
+        (HostSign::Served, _) => {
+            unserved.lock(rt).forget(job);
+            None
+        }
         _ => None,
     }
 }

@@ -89,6 +89,15 @@ impl Outlook {
     }
 }
 
+/// What was looked for last.
+#[derive(Clone, Copy, Debug, PartialEq, Eq)]
+enum LastPlan {
+    /// A plan that meets all least numbers.
+    OfAll,
+    /// There is none, and a relaxed plan was found.
+    Relaxed,
+}
+
 /// The host of a farm's run: it rests until the farm has to end, and what happens is told in lines, and on a page if the farm has one.
 #[derive(Drop)]
 pub struct Reporting<'e, H> {
@@ -98,6 +107,7 @@ pub struct Reporting<'e, H> {
     door: Option<PageDoor<'e>>,
     notes: Option<PageNotes>,
     outlook: Mutex<Outlook>,
+    last_plan: Mutex<LastPlan>,
 }
 
 impl<'e, H: Wait> Reporting<'e, H> {
@@ -116,12 +126,18 @@ impl<'e, H: Wait> Reporting<'e, H> {
             door,
             notes,
             outlook: Mutex::new(Outlook::Nothing),
+            last_plan: Mutex::new(LastPlan::OfAll),
         }
     }
 
     /// What the attempts came to so far.
     pub fn outlook(&self) -> Outlook {
         *self.outlook.lock(self)
+    }
+
+    /// What was looked for last.
+    fn last_plan(&self) -> LastPlan {
+        *self.last_plan.lock(self)
     }
 
     /// The door of the page, if that is not open yet.
@@ -158,7 +174,8 @@ impl<'e, H: Wait> Reporting<'e, H> {
         let is_lacking = self.books.files.is_lacking(self) || self.books.threads.is_lacking(self);
         for number in 0..farm.settings.machines() {
             let machine = MachineId::new(number);
-            if is_lacking && self.books.hosts.is_without_workers(self, machine) {
+            let is_wanted = farm.settings.workers(machine) > 0;
+            if is_lacking && is_wanted && self.books.hosts.is_without_workers(self, machine) {
                 machines.push(machine)?;
             }
         }
@@ -313,8 +330,8 @@ impl<'e, H: FarmHost> Progress for Reporting<'e, H> {
         }
         self.host
             .tell(attempt_told(self.alloc, made, self.host.last_failure()));
-        // What a plan lacks may be workers of a host that only one worker tries.
-        if matches!(made.attempt, Attempt::NoPlan { .. }) {
+        // What a plan lacks may be workers of a host that only one worker tries. By a relaxed plan that worker has a function all the same.
+        if matches!(made.attempt, Attempt::NoPlan { .. }) && self.last_plan() == LastPlan::OfAll {
             let farm = self.books.farm;
             let _turn = self.books.hosts.turn(self);
             for number in 0..farm.settings.machines() {
@@ -330,12 +347,14 @@ impl<'e, H: FarmHost> Progress for Reporting<'e, H> {
     }
 
     fn planned(&self, settings: &Settings, certified: &Certified) {
+        *self.last_plan.lock(self) = LastPlan::OfAll;
         if let Some(notes) = &self.notes {
             notes.planned(self, self.alloc, settings, certified);
         }
     }
 
     fn relaxed(&self, settings: &Settings, relaxed: &Relaxed) {
+        *self.last_plan.lock(self) = LastPlan::Relaxed;
         if let Some(notes) = &self.notes {
             notes.relaxed(self, self.alloc, settings, relaxed);
         }
