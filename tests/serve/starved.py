@@ -6,6 +6,7 @@ server cannot be read; and though workers end between two attempts. What its pro
 """
 
 import contextlib
+import html
 import os
 import re
 import sys
@@ -164,7 +165,7 @@ def new_workers_have_work_without_a_status(program, processes):
     wait_until(lambda: edge.sessions() == WORKERS * len(HOSTS), PATIENCE, "all workers are back")
     edge.keeps_pace_while(lambda: edge.ask(jobs_of_both("unread", 50)))
     line = 1 + edge.server_says(b"status").index(UNREADABLE.partition(b"\n")[0] + b"\n")
-    said = re.search(r"Line (\d+) of the job server's status text cannot be read", edge.page.text("/"))
+    said = re.search(r"Line (\d+) of the job server's status text cannot be read", html.unescape(edge.page.text("/")))
     held(said and int(said[1]) == line, f"of line {line}, which cannot be read, the page says {said and said[0]}")
     edge.end(100)
 
