@@ -24,17 +24,16 @@ sys.dont_write_bytecode = True
 TOP = os.path.join(os.path.dirname(os.path.abspath(__file__)), "../..")
 sys.path[:0] = [f"{TOP}/tests/gearmand", f"{TOP}/tests/together"]
 
-from farm import HOST, JOB_CREATED, SUBMIT_JOB, TOTALS, WORK_FAIL, Client, at_once, held, request, wait_until
+from farm import HOST, SUBMIT_JOB, TOTALS, Client, at_once, held, request, wait_until
 
 import suite
-from asking import WORK_WARNING
 from edge import HOSTS, WORKERS, Edge, bad_jobs, good_jobs, holds_pace, settings
 from in_parts import try_part, try_parts
 from page import PLACES, Page
 from service import POISON
 from silence import ADDRESSES, Silence
 from slow_way import SlowWay
-from starting import LINE, PATIENCE, Processes, ports, untimed
+from starting import LINE, PATIENCE, ports, untimed
 
 # So many lines wait in the program, if nobody takes them.
 MOST_WAITING = 4096

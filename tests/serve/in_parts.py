@@ -1,7 +1,6 @@
 """The parts of a trial, each of which has a folder and processes of its own."""
 
 import os
-import sys
 
 import suite
 from starting import Processes
