@@ -2,9 +2,9 @@
 """What a host that is off leaves to others: bench/host_down.py PROGRAM.. [EXPERIMENT..] [--seconds N] [--turns N]
 
 Wants Debian's gearman-job-server. A farm has two hosts with four workers each, and attempts a second apart. The one does `resize`, the other
-`mail`, and each function has `least = 1`. So while a host is off, fewer live workers may do its function than that. What is seen of `resize`
-is measured for ten seconds, or for N, in each part. PROGRAM, what is started, the turns, and the lines that are printed are those of
-bench/starving.py.
+`mail`, and each function has `least = 2`. So while a host is off, fewer live workers may do its function than that: one worker that tries the
+host is alive in some attempts. What is seen of `resize` is measured for ten seconds, or for N, in each part. PROGRAM, what is started, the
+turns, and the lines that are printed are those of bench/starving.py.
 
 EXPERIMENT is one of these, by default all. Each ends with the host back.
 
@@ -35,6 +35,9 @@ from turns import Experiment, Figure, main
 # The host that is off. The other one does the function that clients ask for.
 OFF = "south"
 
+# So many workers each function is to have: more than try a host that is off.
+LEAST = 2
+
 
 def figures(part, reference):
     """What the table has of a part."""
@@ -43,7 +46,7 @@ def figures(part, reference):
 
 
 def off_from_the_start(program):
-    with Lab(program, TWO_HOSTS) as lab:
+    with Lab(program, TWO_HOSTS, least=LEAST) as lab:
         lab.start_hosts(but=[OFF])
         lab.ask_for_jobs()
         begin = time.monotonic()
@@ -57,7 +60,7 @@ def off_from_the_start(program):
 
 def goes_away(program, what):
     """The other host goes, and then something happens that takes orders away."""
-    with Lab(program, TWO_HOSTS) as lab:
+    with Lab(program, TWO_HOSTS, least=LEAST) as lab:
         lab.begin()
         before = lab.measure("before")
         lab.kill_service(OFF)

@@ -96,12 +96,12 @@ class Part:
 
 
 class Lab(Run):
-    """A job server with so many `--job-retries`, or with its default, hosts, a farm, and clients. The services file has these keys for each
-    function, and the program's."""
+    """A job server with so many `--job-retries`, or with its default, hosts, a farm, and clients. Each function is to have so many workers at
+    least. The services file has these keys for each function, and the program's."""
 
-    def __init__(self, program, machines=None, retries=0, **keys):
+    def __init__(self, program, machines=None, retries=0, least=1, **keys):
         machines = machines or ONE_HOST
-        functions = {name: {"least": 1} for _, may in machines.values() for name in may}
+        functions = {name: {"least": least} for _, may in machines.values() for name in may}
         options = [f"--job-retries={retries}"] if retries else []
         super().__init__(program.path, functions, machines, options=options, round_ms=ROUND_MS, lull_ms=LULL_MS)
         self.seconds = program.seconds
