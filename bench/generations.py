@@ -1,16 +1,16 @@
 #!/usr/bin/env python3
 """Farms that end since a slot has had all its workers, and are started again: bench/generations.py [STARTS [PROGRAM]]
 
-Wants Debian's gearman-job-server, and the kit. A slot has 64 workers at most in place of 262,143: the program is that of a copy of the crates
-with this number, of which nothing is proved. PROGRAM is one that an earlier run made and kept, at the path that it prints.
+Wants Debian's gearman-job-server, and the kit. A slot has 64 workers at most in place of 262,143: the program is that of a copy of the
+crates with this number, of which nothing is proved. PROGRAM is one that an earlier run made and kept, at the path that it prints.
 
-The farm is started by the script of examples/systemd, and started again as the unit beside it says for its exit status. Eight workers do jobs
-of ten milliseconds, sixteen clients ask for one after the other, and with each tenth for one that is answered 503 each time, for which nobody
-waits. Once the farm has ended STARTS times (by default 3) with status 6, the clients end, and SIGTERM ends the farm as the unit's stop does.
+The farm is started by the script of examples/systemd, and started again as the unit beside it says for its exit status. Eight workers do
+jobs of ten milliseconds. Sixteen clients ask for one after the other, and with each tenth for one that is answered 503 each time, for which
+nobody waits. Once the farm has ended STARTS times (by default 3) with status 6, the clients end, and SIGTERM ends the farm as a stop does.
 
-Holds that each of the clients' jobs had its result, and once, that each farm accounts for all its jobs, and that the last one is not started
-again. Prints how many jobs that were, the seconds that one waited for at most, and how each farm ended. A run takes a minute, and before it
-the program some minutes.
+Holds that each of the clients' jobs had its result, once, that each farm accounts for all its jobs, and that the last one is not started
+again. Prints how many jobs that were, the seconds that one took at most, and how each farm ended. A run takes half a minute, and before it
+the program takes some minutes.
 """
 import os
 import shutil
@@ -119,7 +119,8 @@ class Farm(Run):
 
     def account(self):
         """Holds that each farm accounts for its jobs."""
-        totals = [list(map(int, found.groups())) for line in untimed(self.processes.text("poolman.out").splitlines()) if (found := TOTALS.fullmatch(line))]
+        lines = untimed(self.processes.text("poolman.out").splitlines())
+        totals = [list(map(int, found.groups())) for line in lines if (found := TOTALS.fullmatch(line))]
         held(len(totals) == len(self.statuses), f"{len(totals)} farms of {len(self.statuses)} said their totals")
         for grabbed, running, reported, lost, *_ in totals:
             held(running == 0 and grabbed == reported + lost, f"a farm got {grabbed} jobs, answered {reported}, and lost {lost}")

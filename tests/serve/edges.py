@@ -1,9 +1,10 @@
 """Farms at the edges of what the system gives them: edges.py PROGRAM FOLDER
 
 tests/serve/run calls this. A farm has two hosts that do jobs. It goes on, and serves them, though nobody takes its lines, though the names
-of 200 further hosts do not resolve, though the resolver is gone, though no descriptor is left, or there are too few from the start, though
-the job server takes a report a little at a time, though its input has nothing to read and does not block, though a host is gone (also if
-there never was a plan). It ends though its job server is silent. Nobody from elsewhere ends it, or keeps this machine from its page. What its processes write is in the folder.
+of 200 further hosts do not resolve, though the resolver is gone, though no descriptor is left, or there are too few from the start, of which
+each host has some or the page names it, though the job server takes a report a little at a time, though its input has nothing to read and
+does not block, and though a host is gone (also if there never was a plan or an order). It ends though its job server is silent. Nobody from
+elsewhere ends it, or keeps this machine from its page. What its processes write is in the folder.
 """
 
 import contextlib
