@@ -96,6 +96,7 @@ PARTS = (
     *[Part("memory", 3.0, 5.0, words=words, is_kept=True) for words in MEMORY],
     Part("misuse", 2.0, 2.0, is_kept=True, crates=("pool_core",)),
     Part("http", 2.0, 2.0),
+    Part("signals", 2.0, 1.0),
     Part("serve", 1.0, 1.0, words=("edges",), wants_program=True),
     Part("serve", 1.0, 0.5, words=("starved",), wants_program=True),
     Part("serve", 1.0, 0.5, words=("trial",), wants_program=True),
