@@ -22,8 +22,8 @@ pub enum SignalsUnread {
     Text(#[from] MaskFault),
 }
 
-/// What the system says of SIGTERM and SIGINT at this moment. It opens one file, takes some 4 KiB of memory, and takes about as long as a
-/// system call: it may be called a few times a second.
+/// What the system says of SIGTERM and SIGINT at this moment. It opens one file and takes a few KiB of memory for a moment, so it may be
+/// called a few times a second.
 pub fn read_signals<F: Folder>(files: &F, alloc: Global) -> Result<SignalStatus, SignalsUnread>
     ensures { IfOk result (IsStatusOf (F.file files.now status_file)) }
 {
