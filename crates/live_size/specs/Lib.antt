@@ -1,0 +1,2 @@
+pub mod Farms
+pub mod Answers
