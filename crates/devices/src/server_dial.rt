@@ -6,6 +6,7 @@ ghost use Rattle.byte_io.specs.Sides.{no_input, no_output};
 use crate::dial_error::DialError;
 use crate::tcp::TcpLink;
 use byte_io::{Device, LAST_TIMEOUT};
+use link_options::LinkOptions;
 use std::net::{HostAddrs, Net, SocketAddr, TcpStream, ToSocketAddrs};
 use std::time::{Clock, Duration};
 
@@ -34,6 +35,7 @@ struct ServerDial<'d, R, C> {
     net: &'d R,
     caller: &'d C,
     lull_ms: u32,
+    options: LinkOptions,
     /// How much of its time is left, in milliseconds.
     left_ms: u64,
     /// Why the last address was not reached. None before the first is dialled.
@@ -62,11 +64,12 @@ fn without(found: HostAddrs, tried: Option<SocketAddr>) -> Addresses {
 
 impl<'d, R: Net<Stream = TcpStream> + Clock, C: Caller> ServerDial<'d, R, C> {
     /// One that begins, for 65 timeouts of so many milliseconds.
-    fn new(net: &'d R, caller: &'d C, lull_ms: u32) -> ServerDial<'d, R, C> {
+    fn new(net: &'d R, caller: &'d C, lull_ms: u32, options: LinkOptions) -> ServerDial<'d, R, C> {
         ServerDial {
             net,
             caller,
             lull_ms,
+            options,
             left_ms: lull_ms as u64 * LAST_TIMEOUT as u64,
             failure: None,
         }
@@ -105,9 +108,9 @@ impl<'d, R: Net<Stream = TcpStream> + Clock, C: Caller> ServerDial<'d, R, C> {
         let after = self.net.monotonic().ok();
         self.spend(share_ms, passed_ms(before, after));
         let linked = match connected {
-            Ok(stream) => TcpLink::new(stream, self.lull_ms).map_err(|error| DialError::of_connect(
-                &error,
-            )),
+            Ok(stream) => TcpLink::new(stream, self.lull_ms, self.options).map_err(
+                |error| DialError::of_connect(&error),
+            ),
             Err(error) => Err(DialError::why_not_connected(self.net, address, &error)),
         };
         match linked {
@@ -160,24 +163,25 @@ impl<'d, R: Net<Stream = TcpStream> + Clock, C: Caller> ServerDial<'d, R, C> {
 }
 
 impl TcpLink {
-    /// Dials `host:port`, each address of the host once and in turn, for 65 timeouts in all. The error says why the last address was not
-    /// reached, or that there is none.
+    /// Dials `host:port`, each address of the host once and in turn, for 65 timeouts in all. The link finds by these options that its peer
+    /// is gone. The error says why the last address was not reached, or that there is none.
     pub fn dial<R: Net<Stream = TcpStream> + Clock>(
         net: &R,
         server: &str,
         lull_ms: u32,
+        options: LinkOptions,
     ) -> Result<TcpLink, DialError>
         ensures input { IfOk result (λ link. ⟦<TcpLink as Device>⟧.input link ≡ no_input) }
         ensures output { IfOk result (λ link. ⟦<TcpLink as Device>⟧.output link ≡ no_output) }
     {
-        TcpLink::dial_again(net, &PatientCaller, &mut None, server, lull_ms)
+        TcpLink::dial_again(net, &PatientCaller, &mut None, server, lull_ms, options)
     }
 
     /// Dials `host:port` for 65 timeouts in all, without the time in which the name is looked up: first the address that took the last
     /// link, if one is known, for half of that time. If it takes none, the name is looked up, and each other address is dialled once and in
     /// turn, for its share of what is left. The one that takes the link is kept. So neither a name that is not found for a while nor a
     /// silent address before the right one costs each dial its time. The known address is forgotten only if the name was found and no
-    /// address took a link.
+    /// address took a link. The link finds by these options that its peer is gone.
     ///
     /// The error says why the last address was not reached, or that there is none. It is `NoAnswer` if the caller gave up before one was
     /// dialled.
@@ -187,11 +191,12 @@ impl TcpLink {
         known: &mut Option<SocketAddr>,
         server: &str,
         lull_ms: u32,
+        options: LinkOptions,
     ) -> Result<TcpLink, DialError>
         ensures input { IfOk result (λ link. ⟦<TcpLink as Device>⟧.input link ≡ no_input) }
         ensures output { IfOk result (λ link. ⟦<TcpLink as Device>⟧.output link ≡ no_output) }
     {
-        let mut dial = ServerDial::new(net, caller, lull_ms);
+        let mut dial = ServerDial::new(net, caller, lull_ms, options);
         let tried = *known;
         if let Some(address) = tried {
             if let Some(link) = dial.link_to(address, 2) {

@@ -1,14 +1,16 @@
 //! A TCP stream as a source and a sink.
 
-ghost use Rattle.std.specs.Prelude.{◌≡◌, ◌≤◌, IfOk};
+ghost use Rattle.std.specs.Prelude.{◌≡◌, ◌+◌, ◌-◌, ◌^◌, ◌<◌, ◌≤◌, length, IfOk, IfSome};
+ghost use Rattle.byte_io.specs.Device.{failure_of};
 ghost use Rattle.byte_io.specs.Sides.{no_input, no_output};
 
 use crate::reads::Reads;
 use crate::results::TimeLimit;
 use crate::writes::write_some;
 use byte_io::{Device, DeviceFault, LAST_TIMEOUT, Sink, Source, Took};
+use link_options::LinkOptions;
 use std::io;
-use std::io::{ErrorKind, Read};
+use std::io::{ErrorKind, Read, Write};
 use std::net::TcpStream;
 use std::time::Duration;
 
@@ -36,9 +38,9 @@ impl Device for TcpLink {
 impl TcpLink {
     /// A link over a connected stream, that has not failed and has not found its end. It sets the two time limits, and turns Nagle's
     /// algorithm off (TCP_NODELAY): an answer and the next request for a job are two writes with no read between, of which the second
-    /// would else wait for the server's delayed acknowledgement, some 40 milliseconds a job. The error is the system's, if one of
-    /// them cannot be set.
-    pub fn new(stream: TcpStream, lull_ms: u32) -> io::Result<TcpLink>
+    /// would else wait for the server's delayed acknowledgement, some 40 milliseconds a job. By these options it finds that its peer is
+    /// gone: a read or a write then fails. The error is the system's, if one of all these cannot be set.
+    pub fn new(stream: TcpStream, lull_ms: u32, options: LinkOptions) -> io::Result<TcpLink>
         ensures input { IfOk result (λ link. ⟦<TcpLink as Device>⟧.input link ≡ no_input) }
         ensures output { IfOk result (λ link. ⟦<TcpLink as Device>⟧.output link ≡ no_output) }
     {
@@ -47,6 +49,7 @@ impl TcpLink {
         stream.set_write_timeout(Some(Duration::from_millis(
             lull_ms as u64 * LAST_TIMEOUT as u64,
         )))?;
+        options.set_on(&stream)?;
         Ok(TcpLink {
             stream,
             reads: Reads::new(),
@@ -59,6 +62,54 @@ impl TcpLink {
     pub fn limit_writes(&self, milliseconds: u64) -> io::Result<()> {
         self.stream
             .set_write_timeout(Some(Duration::from_millis(milliseconds)))
+    }
+
+    /// Lets each read from now on take so many milliseconds, and no longer. The error is the system's, or that zero is no time: then the
+    /// limit stays as it was.
+    pub fn limit_reads(&self, milliseconds: u64) -> io::Result<()> {
+        self.stream
+            .set_read_timeout(Some(Duration::from_millis(milliseconds)))
+    }
+
+    /// Writes the bytes, or a prefix of them, as far as the system has room for them, and does not wait. It says how many bytes it took, at
+    /// least one, or none if there is no room now. After a failure it took none.
+    pub fn give_at_once(&mut self, bytes: &[u8]) -> Result<Option<usize>, DeviceFault>
+        requires some { 0 < length bytes.now }
+        requires count { (⟦<TcpLink as Device>⟧.output self.old).failures < 2 ^ 64 - 1 }
+        ensures within { IfOk result (λ given. IfSome given (λ n. (1 ≤ n) × (n ≤ length bytes.now))) }
+        ensures fails { (⟦<TcpLink as Device>⟧.output self.new).failures
+            ≡ (⟦<TcpLink as Device>⟧.output self.old).failures + failure_of result }
+        ensures input { ⟦<TcpLink as Device>⟧.input self.new ≡ ⟦<TcpLink as Device>⟧.input self.old }
+    {
+        let given = self.write_at_once(bytes);
+        if given.is_err() {
+            self.give_failures += 1;
+        }
+        given
+    }
+
+    /// The same, uncounted. A stream that cannot be told to wait again fails.
+    fn write_at_once(&mut self, bytes: &[u8]) -> Result<Option<usize>, DeviceFault>
+        requires some { 0 < length bytes.now }
+        ensures within { IfOk result (λ given. IfSome given (λ n. (1 ≤ n) × (n ≤ length bytes.now))) }
+        ensures counted { self.new.give_failures ≡ self.old.give_failures }
+        ensures reads { self.new.reads ≡ self.old.reads }
+    {
+        if self.stream.set_nonblocking(true).is_err() {
+            return Err(DeviceFault);
+        }
+        let written = self.stream.write(bytes);
+        if self.stream.set_nonblocking(false).is_err() {
+            return Err(DeviceFault);
+        }
+        match written {
+            Ok(0) => Err(DeviceFault),
+            Ok(count) => Ok(Some(count)),
+            Err(error) => match error.kind() {
+                ErrorKind::WouldBlock | ErrorKind::Interrupted => Ok(None),
+                _ => Err(DeviceFault),
+            },
+        }
     }
 
     /// Whether the stream is open and nothing has come over it that was not read. It does not wait, and takes nothing. A stream of which

@@ -9,6 +9,7 @@ use crate::look::Look;
 use crate::service_jobs::Dial;
 use byte_io::Device;
 use devices::{DialError, TcpLink};
+use link_options::LinkOptions;
 use std::net::{Net, SocketAddr, TcpStream, ToSocketAddrs};
 use std::snapshot::Snapshot;
 use std::sync::{Arc, Wait};
@@ -168,7 +169,7 @@ impl<R: Net<Stream = TcpStream> + time::Clock> TcpDial<R> {
             Ok(stream) => stream,
             Err(error) => return Err(DialError::why_not_connected(&self.rt, address, &error)),
         };
-        match TcpLink::new(stream, self.times.read_ms) {
+        match TcpLink::new(stream, self.times.read_ms, LinkOptions::SERVICE) {
             Ok(link) => {
                 self.keep(address);
                 Ok(link)

@@ -85,6 +85,13 @@ pub struct OptionRefused {
     pub error: io::Error,
 }
 
+/// What the system said of it.
+impl From<OptionRefused> for io::Error {
+    fn from(refused: OptionRefused) -> io::Error {
+        refused.error
+    }
+}
+
 /// An option with its value.
 #[derive(Clone, Copy, Debug, PartialEq, Eq)]
 pub struct Setting {

@@ -8,6 +8,7 @@ use crate::watching::{attempt_note, end_notes, job_note, worker_note};
 use byte_io::Device;
 use devices::{Caller, DialError, TcpLink};
 use jiff::Timestamp;
+use link_options::LinkOptions;
 use plan_model::FuncId;
 use pool_settings::Settings;
 use pool_supervisor::{Attempt, Attempted, EndedWorker, Progress, RunEnd, Watch};
@@ -181,7 +182,8 @@ impl<R: Wait + Clock + Net<Stream = TcpStream>> System<R> {
         // A run has one server.
         let mut known = *self.known.lock(&self.rt);
         let caller = UntilEnd { watch };
-        let dialled = TcpLink::dial_again(&self.rt, &caller, &mut known, server, lull_ms);
+        let options = LinkOptions::JOB_SERVER;
+        let dialled = TcpLink::dial_again(&self.rt, &caller, &mut known, server, lull_ms, options);
         *self.known.lock(&self.rt) = known;
         match dialled {
             Ok(link) => {
