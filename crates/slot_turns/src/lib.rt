@@ -6,9 +6,7 @@
 #![tactic(auto)]
 
 mod law;
-mod left_out;
 mod turns;
 
 pub use law::slots_take_turns;
-pub use left_out::machines_left_out;
 pub use turns::SlotTurns;
