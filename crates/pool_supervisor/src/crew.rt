@@ -342,7 +342,8 @@ impl<'e, N: RunId, J: JobSource + Sync, C: Watch + Sync, R: Threads + Wait + Syn
                 if calls_for_another(&ended.returned.end) {
                     site.lent.watch.wake();
                 }
-                site.lent.watch.before_hang_up(ended.worker);
+                let cause = ended.returned.end.cause;
+                site.lent.watch.before_hang_up(ended.worker, cause);
             }
             drop(link);
             of_session.has_ended.store(true, Ordering::SeqCst);

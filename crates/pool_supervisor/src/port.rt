@@ -12,7 +12,7 @@ use crate::place::{Grabs, Place, Reports, RunBoard, RunId};
 use crate::shared::Shared;
 use crate::steps::GivenJob;
 use gear_packets::Handle;
-use job_runner::{Gone, GrabRefusal, PoolPort, Readiness};
+use job_runner::{EndCause, Gone, GrabRefusal, PoolPort, Readiness};
 use pool_core::{GrabError, Pass, StayOrRetire};
 use std::snapshot::Snapshot;
 use std::sync::Wait;
@@ -48,10 +48,10 @@ pub trait Watch {
         true
     }
 
-    /// Called when a worker's session has ended, before its link is closed, and not for a worker for which there was no thread. Until this
-    /// returns, the job server waits for the answer to a job that the worker left, and gives it to nobody else. The worker's slot is empty
-    /// meanwhile, and may have another worker. The end of the run waits for it.
-    fn before_hang_up(&self, _worker: WorkerName) {}
+    /// Called when a worker's session has ended for this cause, before its link is closed, and not for a worker for which there was no
+    /// thread. Until this returns, the job server waits for the answer to a job that the worker left, and gives it to nobody else. The
+    /// worker's slot is empty meanwhile, and may have another worker. The end of the run waits for it.
+    fn before_hang_up(&self, _worker: WorkerName, _cause: EndCause) {}
 }
 
 /// A session's way to the shared pool, with a share of each of its books.
