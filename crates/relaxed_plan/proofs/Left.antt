@@ -18,7 +18,7 @@ use Rattle.relaxed_plan.specs.Relaxed.{is_among, least_left, let_off_of}
 use Rattle.relaxed_plan.proofs.Rows.{rows_same}
 
 -- two tests, or two numbers for each, that agree below n
-below_all : (P : ℕ → Type 0) (n : ℕ) → ((f : ℕ) → f < n → P f) → AllByRecursion P (range_with_len 0 n)
+pub below_all : (P : ℕ → Type 0) (n : ℕ) → ((f : ℕ) → f < n → P f) → AllByRecursion P (range_with_len 0 n)
 below_all P n same = recursion_from_All P (range_with_len 0 n) (λ k d below. same (get_or (range_with_len 0 n) k d) (range-below n k d below))
 
 filter-below : (p q : ℕ → Bool) (n : ℕ) → ((f : ℕ) → f < n → p f ≡ q f) → filter p (range_with_len 0 n) ≡ filter q (range_with_len 0 n)
@@ -31,12 +31,16 @@ map_same g h (x ∷ xs) same = rw same.0 (ap (λ t. h x ∷ t) (map_same g h xs 
 map-below : (g h : ℕ → ℕ) (n : ℕ) → ((f : ℕ) → f < n → g f ≡ h f) → map g (range_with_len 0 n) ≡ map h (range_with_len 0 n)
 map-below g h n same = map_same g h (range_with_len 0 n) (below_all (λ f. g f ≡ h f) n same)
 
--- a function is among those that a list names, in rising order, if the list names it
-among-rising : (n : ℕ) (row : List ℕ) (f : ℕ) → f < n → is_among (rising_of n row) f ≡ is_among row f
-among-rising n row f below =
-    let kept = any-filter_same (λ g. eqb g f) (is_among row) (is_among row f) (λ g same. ap (is_among row) (eqb-true g f same)) (range_with_len 0 n) in
+-- a function is among those that a test keeps if it passes
+pub among-kept : (q : ℕ → Bool) (n f : ℕ) → f < n → is_among (filter q (range_with_len 0 n)) f ≡ q f
+among-kept q n f below =
+    let kept = any-filter_same (λ g. eqb g f) q (q f) (λ g same. ap q (eqb-true g f same)) (range_with_len 0 n) in
     let there : list_any (λ g. eqb g f) (range_with_len 0 n) ≡ true = list_any_at (λ g. eqb g f) (range_with_len 0 n) f 0 (omega (arith, below, length-range_with_len 0 n)) (eq-eqb _ _ (at_place n f below)) in
-    kept ∙ rw there (and-true (is_among row f))
+    kept ∙ rw there (and-true (q f))
+
+-- and among those that a list names, in rising order, if the list names it
+among-rising : (n : ℕ) (row : List ℕ) (f : ℕ) → f < n → is_among (rising_of n row) f ≡ is_among row f
+among-rising n row = among-kept (is_among row) n
 
 pub rising-rises : (n : ℕ) (row : List ℕ) → IsStrictlyIncreasing (rising_of n row)
 rising-rises n row = IsStrictlyIncreasing-filter (is_among row) (range_with_len 0 n) (range-rises n)

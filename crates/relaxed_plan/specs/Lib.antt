@@ -1,2 +1,3 @@
 pub mod Relaxed
 pub mod Least
+pub mod Stranded

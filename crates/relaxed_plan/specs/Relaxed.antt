@@ -1,5 +1,5 @@
 -- What is left of a problem if functions that are short of workers are let off: their least numbers are 0 then.
-use Rattle.std.specs.Prelude.{◌≡◌, ℕ, ◌<◌, ◌==◌, Bool, if◌then◌else◌, List, [], ◌∷◌, length, map, slice_index}
+use Rattle.std.specs.Prelude.{◌≡◌, ℕ, ◌≤◌, ◌==◌, Bool, if◌then◌else◌, List, [], ◌∷◌, length, map, slice_index}
 use Rattle.std.specs.List.{concat, list_any}
 use Rattle.plan_model.specs.InputRefusals.{rising_of}
 use Rattle.plan_model.specs.Planning.{Instance, IsShort, functions, top_level}
@@ -29,13 +29,13 @@ pub record LetsOff (i : Instance) (set : List ℕ) (later : List (List ℕ)) (th
   pub in_turn : AreShortInTurn i (set ∷ later)
   pub all : these ≡ rising_of (length i.least) (concat (set ∷ later))
 
--- These functions are let off: those of the set, and of fewer than 64 later ones that are short in turn.
+-- These functions are let off: those of the set, and of at most 64 later ones that are short in turn.
 abbrev pub AreLetOff : Instance → List ℕ → List ℕ → Type 0
-AreLetOff i set these = (later : List (List ℕ)) × LetsOff i set later these × (length later < 64)
+AreLetOff i set these = (later : List (List ℕ)) × LetsOff i set later these × (length later ≤ 64)
 
--- After the set 64 more are short in turn.
+-- After the set 64 more are short in turn, or more.
 abbrev pub IsGivenUp : Instance → List ℕ → Type 0
-IsGivenUp i set = (later : List (List ℕ)) × AreShortInTurn i (set ∷ later) × (length later ≡ 64)
+IsGivenUp i set = (later : List (List ℕ)) × AreShortInTurn i (set ∷ later) × (64 ≤ length later)
 
 -- The answer is a plan.
 abbrev pub IsPlanned : Answer → Type 0

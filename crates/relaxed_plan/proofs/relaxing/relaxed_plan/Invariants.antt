@@ -1,7 +1,5 @@
-use Rattle.std.proofs.Common.{◌≡◌, ℕ, List, length}
-use Rattle.relaxed_plan.specs.Relaxed.{LetsOff}
+use Rattle.relaxed_plan.proofs.Solves.{GoesOn}
 use Rattle.relaxed_plan.proofs.relaxing.relaxed_plan.Given as goal
 
--- as many sets as problems were solved are short in turn after the first
 abbrev pub invariant-loop-solve : goal.invariant-loop-solve
-invariant-loop-solve l = (later : List (List ℕ)) × LetsOff l.input l.short later l.let_off_now × (length later ≡ l._solve)
+invariant-loop-solve l = GoesOn l.input l.short l.let_off_now l._solve
