@@ -1,7 +1,11 @@
 -- What attempts post, one after the other.
-use Rattle.std.proofs.Common.{◌≡◌, ℕ, List, [], ◌∷◌, ◌++◌, Bool, true, false, Option, None, Some, refl, sym, ap, subst, ◌∙◌, inl, inr, append_assoc}
+use Rattle.std.proofs.Common.{◌≡◌, ℕ, min, List, [], ◌∷◌, ◌++◌, Bool, true, false, Option, None, Some, refl, sym, ap, subst, ◌∙◌, inl, inr, append_assoc}
 use Rattle.std.proofs.lemmas.List.{append-nil}
 use Rattle.pool_settings.specs.Settings.{Settings}
+use Rattle.worker_state.specs.Limits.{max_generation}
+use Rattle.worker_state.specs.OrderParts.{OrderParts}
+use Rattle.worker_state.specs.declared.order.What.{What}
+use Rattle.worker_state.specs.declared.order.What.TheVariants.{Work}
 use Rattle.plan_model.specs.Planning.{Instance}
 use Rattle.relaxed_plan.specs.Relaxed.{let_off_of}
 use Rattle.relaxed_plan.specs.declared.relaxing.Relaxed.{Relaxed}
@@ -18,6 +22,7 @@ use Rattle.pool_supervisor.specs.Published.{ArePosted, round_order}
 use Rattle.pool_supervisor.specs.Reached.{IsRoundOf}
 use Rattle.pool_supervisor.specs.Rounds.{is_round, AllPost, Posts, PostsIf}
 use Rattle.pool_supervisor.specs.FarmPosts.{IsRelaxedFor, PostJoins, PostsMore, PostsRound, PostsIfBy, PostsBy, AttemptPosts, AllPostBy, PostSinceBy, PostAndStopBy, TellsBy}
+use Rattle.pool_supervisor.specs.FarmPosts.{handed, handed_on}
 use Rattle.pool_supervisor.proofs.Rounds.{with_is_round}
 
 -- ---- relaxed plans
@@ -49,6 +54,27 @@ pub more_join : (until : Until) (slot generation : ℕ) (before now : List Post)
     → now ≡ before ++ post slot (record (latest (posts_of slot before)) { generation = generation }) ∷ [] → PostsMore until before now
 more_join until slot generation before now ended posted =
     subst (λ (u : Until). PostsMore u before now) (sym ended) (slot ∷ [], (now, (generation, posted), refl))
+
+-- what a worker is posted that joins, of a slot that did a function last
+pub handed_work : (until : Until) (slot generation bounded function : ℕ) (last : OrderParts) (before now : List Post) → until ≡ Ended → last.what ≡ Work function
+    → bounded ≡ min generation max_generation → now ≡ before ++ post slot (record last { generation = bounded }) ∷ []
+    → now ≡ before ++ handed_on until slot generation last
+handed_work until slot generation bounded function last before now ended what is posted =
+    let most = min generation max_generation in
+    posted ∙ ap (λ (posts : List Post). before ++ posts)
+    (ap (λ (g : ℕ). post slot (record last { generation = g }) ∷ []) is
+    ∙ (sym (ap (λ (w : What). handed w slot most last) what)
+    ∙ sym (ap (λ (u : Until). handed_on u slot generation last) ended)))
+
+-- nothing, if that is what is handed on
+pub handed_none : (handed : List Post) (before now : List Post) → handed ≡ [] → now ≡ before → now ≡ before ++ handed
+handed_none handed before now none same = same ∙ (sym (append-nil before) ∙ ap (λ (posts : List Post). before ++ posts) (sym none))
+
+-- nothing was posted to any slot
+pub none_posted : (orders : ℕ → List OrderParts) (before now : List Post) → ((slot : ℕ) → orders slot ≡ []) → now ≡ before → ArePosted orders before now
+none_posted orders before now none same = λ slot.
+    ap (λ (p : List Post). posts_of slot p) same
+    ∙ (sym (append-nil (posts_of slot before)) ∙ ap (λ (l : List OrderParts). posts_of slot before ++ l) (sym (none slot)))
 
 -- ---- lines
 

@@ -2,6 +2,7 @@ pub mod Called
 pub mod Counts
 pub mod FarmPosts
 pub mod Late
+pub mod Most
 pub mod Published
 pub mod Rounds
 pub mod Seen

@@ -1,16 +1,18 @@
 -- What a run posts that goes on until its watch ends it: the orders of its rounds, of workers that join, and of relaxed plans.
 use Rattle.std.specs.Prelude.{◌≡◌, ◌⊎◌, ℕ, nat_lt, List, [], ◌∷◌, ◌++◌, Bool, true, false, if◌then◌else◌}
-use Rattle.std.specs.Prelude.{Option, None, Some, is_some, length}
+use Rattle.std.specs.Prelude.{Option, None, Some, is_some, length, min}
 use Rattle.plan_model.specs.Planning.{Instance, assigned}
 use Rattle.plan_model.specs.Shown.{Shown}
-use Rattle.plan_model.specs.declared.answer.Answer.TheVariants.{Planned}
+use Rattle.plan_model.specs.declared.answer.Answer.{Answer}
+use Rattle.plan_model.specs.declared.answer.Answer.TheVariants.{NoPlan, Planned}
 use Rattle.gear_status.specs.Status.{Line}
-use Rattle.relaxed_plan.specs.Relaxed.{IsPlanned, let_off_of}
+use Rattle.relaxed_plan.specs.Relaxed.{AreLetOff, IsPlanned, let_off_of}
 use Rattle.relaxed_plan.specs.declared.relaxing.Relaxed.{Relaxed}
+use Rattle.worker_state.specs.Limits.{max_generation}
 use Rattle.worker_state.specs.OrderParts.{OrderParts}
 use Rattle.worker_state.specs.Slots.{is_live}
 use Rattle.worker_state.specs.declared.order.What.{What}
-use Rattle.worker_state.specs.declared.order.What.TheVariants.{Idle, Work}
+use Rattle.worker_state.specs.declared.order.What.TheVariants.{Idle, Stop, Work}
 use Rattle.order_board.specs.declared.view.Post.{Post}
 use Rattle.order_board.specs.Posts.{latest, post, posts_of}
 use Rattle.pool_settings.specs.Settings.{Settings}
@@ -25,7 +27,20 @@ use Rattle.pool_supervisor.specs.Published.{ArePosted, round_order}
 use Rattle.pool_supervisor.specs.Reached.{IsRoundOf}
 use Rattle.pool_supervisor.specs.Rounds.{StopsAll, TellRun, is_round}
 
--- The last order that was posted to the slot was posted to it once more, for the worker of another generation: so that worker does what the
+-- what is posted to a slot for the worker of another generation after this order: the same, if it names a function, and else nothing
+abbrev pub handed : What → ℕ → ℕ → OrderParts → List Post
+handed (Work function) slot generation last = post slot (record last { generation = generation }) ∷ []
+handed Idle slot generation last = []
+handed Stop slot generation last = []
+
+-- What is posted to a slot in which a worker of this generation joined after this order: nothing in a run of so many attempts. In one that
+-- goes on until its watch ends it, what the slot did last, if that was a function. The last generation that an order can name stands for
+-- those after it, which no worker has.
+abbrev pub handed_on : Until → ℕ → ℕ → OrderParts → List Post
+handed_on (Rounds rounds) slot generation last = []
+handed_on Ended slot generation last = handed last.what slot (min generation max_generation) last
+
+-- The last order that was posted to the slot was posted to it once more, for the worker of some generation: so that worker does what the
 -- slot did last.
 abbrev pub PostsJoin : ℕ → List Post → List Post → Type 0
 PostsJoin slot before now =
@@ -67,8 +82,24 @@ abbrev pub orders_by : Until → Ran → State → ℕ → List OrderParts
 orders_by (Rounds rounds) ran state slot = round_order ran state slot
 orders_by Ended ran state slot = if is_some ran.backlog then standing_order state slot else []
 
--- It is a relaxed plan of this problem: a plan for the problem in which the least numbers of the functions that it lets off are 0.
+-- what an answer gives each slot, as orders of the round of this number; one without a plan gives nothing
+abbrev pub answer_order : Answer → ℕ → State → ℕ → List OrderParts
+answer_order (Planned plan backlog short) round state slot = plan_order plan round state slot
+answer_order (NoPlan short) round state slot = []
+
+-- The orders that follow a round if this relaxed plan was found: those of it, if the round has no plan, in a run that goes on until its
+-- watch ends it.
+abbrev pub relaxed_order : Until → Ran → Option Relaxed → State → ℕ → List OrderParts
+relaxed_order (Rounds rounds) ran relaxed state slot = []
+relaxed_order Ended ran None state slot = []
+relaxed_order Ended ran (Some relaxed) state slot =
+    if is_some ran.backlog then [] else answer_order relaxed.certified.answer ran.number state slot
+
+-- It is a relaxed plan of this problem: a plan for the problem in which the least numbers of the functions that it lets off are 0. Those
+-- are functions of sets that are short of workers in turn.
 pub record IsRelaxedFor (i : Instance) (relaxed : Relaxed) : Type 0 where
+  pub set : List ℕ
+  pub few : AreLetOff i set relaxed.let_off
   pub input : relaxed.certified.input ≡ let_off_of i relaxed.let_off
   pub planned : IsPlanned relaxed.certified.answer
   pub shown : Shown (let_off_of i relaxed.let_off) relaxed.certified.answer
@@ -81,11 +112,14 @@ IsProblemIn settings state i = (load : List Line) × (state.load ≡ Some load) 
 abbrev pub IsRelaxedIn : Settings → State → Relaxed → Type 0
 IsRelaxedIn settings state relaxed = (i : Instance) × IsProblemIn settings state i × IsRelaxedFor i relaxed
 
--- The orders were posted of a plan for what a round would plan for in this state, but with least numbers of 0 for some functions.
+-- The orders were posted of a plan for what a round would plan for in this state, but with least numbers of 0 for functions of sets that
+-- are short of workers in turn.
 pub record PostsRelaxed (settings : Settings) (round : ℕ) (state : State) (before now : List Post) : Type 0 where
   pub problem : Instance
   pub is_problem : IsProblemIn settings state problem
+  pub set : List ℕ
   pub let_off : List ℕ
+  pub few : AreLetOff problem set let_off
   pub plan : List (ℕ × Option ℕ)
   pub backlog : ℕ
   pub short : Option (List ℕ)

@@ -4,6 +4,7 @@ pub mod Counted
 pub mod Dials
 pub mod EndCounts
 pub mod FarmPosts
+pub mod Filling
 pub mod JobCounts
 pub mod Joined
 pub mod Lines

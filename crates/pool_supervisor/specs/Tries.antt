@@ -48,7 +48,7 @@ pub record FillsOne (allows : Rule) (slot : ℕ) (before now : Option (List Dial
   pub calls : now ≡ then_called before dials
   pub fills : DialsOnce (allows slot) dials
 
--- the slots up to this one were looked at, each once and in order
+-- the first so many slots were looked at, each once and in order
 pub record Fills (allows : Rule) (count : ℕ) (before now : Option (List DialCall)) : Type 0 where
   pub looks : List Look
   pub calls : now ≡ then_called before (flat_map dials_of looks)

@@ -300,7 +300,8 @@ impl<
             Until::Rounds(_) => self.start_all(scope),
             Until::Ended => {
                 self.site.expire_late();
-                self.start_in_turn(scope, Filling::Attempt)
+                let milliseconds = self.site.run.settings.round_ms();
+                self.start_in_turn(scope, Filling::Attempt, milliseconds)
             }
         }
     }

@@ -2,6 +2,7 @@
 ghost use Rattle.std.specs.Prelude.{◌≡◌, ◌<◌, ◌≤◌, ◌∷◌, [], ℕ, List, OnOk, length};
 ghost use Rattle.pool_settings.specs.Slots.{slots as slot_count};
 ghost use Rattle.pool_supervisor.specs.FarmPosts.{PostsMore};
+ghost use Rattle.pool_supervisor.specs.Filling.{time_left};
 ghost use Rattle.pool_supervisor.specs.Tries.{Attempts, FillsBy, FillsThese, LooksNext};
 ghost use Rattle.pool_supervisor.specs.declared.attempts.Until.TheVariants.{Ended};
 ghost use Rattle.slot_turns.specs.Turns.{HaveCome};
@@ -35,9 +36,9 @@ pub enum Filling {
     Refill,
 }
 
-/// How many of so many milliseconds are left that began then. None if either time is not known.
+/// How many of so many milliseconds are left that began then. 0 if a time is not known.
 fn left_of(milliseconds: u32, begun: Option<u64>, now: Option<u64>) -> u32
-    ensures { result ≤ milliseconds }
+    ensures { result ≡ time_left milliseconds begun now }
 {
     let (Some(begun), Some(now)) = (begun, now) else {
         return 0;
@@ -63,11 +64,18 @@ impl<'e, N: RunId, J, C: Watch, R: Wait> Site<'e, N, J, C, R> {
         }
     }
 
-    /// Whether no further slot may be looked at of those that were begun then: the time of a round has passed, or the run has to end.
-    fn is_over(&self, begun: Option<u64>) -> bool {
+    /// Whether no further slot may be looked at of those that were begun then: the run has to end, or so many milliseconds have passed. If
+    /// they have, whoever pauses until the next attempt is woken, and goes on.
+    fn is_over(&self, milliseconds: u32, begun: Option<u64>) -> bool {
         let watch = self.lent.watch;
-        let left = left_of(self.run.settings.round_ms(), begun, watch.now_ms());
-        begun.is_some() && left == 0 || watch.has_to_end()
+        if watch.has_to_end() {
+            return true;
+        }
+        let is_late = begun.is_some() && left_of(milliseconds, begun, watch.now_ms()) == 0;
+        if is_late {
+            watch.wake();
+        }
+        is_late
     }
 
     /// Lets so many milliseconds pass, or fewer if it is woken, but some from the last refill to the next. Whether slots are to be filled
@@ -124,12 +132,13 @@ impl<
     }
 
     /// Looks at slots in turn, at each once at most, and starts a session in it if it is empty and may have a worker, and there is a link
-    /// and room. No dial begins once the time of a round has passed, or the run has to end: the next time it goes on at the next slot. The
-    /// error is that a thread could not be started.
+    /// and room. No dial begins once so many milliseconds have passed, or the run has to end: the next time it goes on at the next slot.
+    /// Then the pause until the next attempt is woken, so that it goes on in there. The error is that a thread could not be started.
     pub fn start_in_turn<'s>(
         &mut self,
         scope: &Scope<'s, &'e ()>,
         filling: Filling,
+        milliseconds: u32,
     ) -> Result<(), AllocError>
     where
         'e: 's,
@@ -145,7 +154,7 @@ impl<
         slots_take_turns();
         let begun = self.site.lent.watch.now_ms();
         for _turn in 0..self.turns.len() {
-            if self.site.is_over(begun) {
+            if self.site.is_over(milliseconds, begun) {
                 return Ok(());
             }
             self.start_next(scope, filling)?;
@@ -153,8 +162,9 @@ impl<
         Ok(())
     }
 
-    /// Joins the sessions that ended, and fills empty slots. The error is that a thread could not be started.
-    fn refill<'s>(&mut self, scope: &Scope<'s, &'e ()>) -> Result<(), AllocError>
+    /// Joins the sessions that ended, and fills empty slots for no longer than so many milliseconds. The error is that a thread could not
+    /// be started.
+    fn refill<'s>(&mut self, scope: &Scope<'s, &'e ()>, milliseconds: u32) -> Result<(), AllocError>
     where
         'e: 's,
         N: 's,
@@ -168,11 +178,12 @@ impl<
         let site = self.site;
         self.crew
             .join_ended(&site, &mut self.seats.source, &mut self.dial);
-        self.start_in_turn(scope, Filling::Refill)
+        self.start_in_turn(scope, Filling::Refill, milliseconds)
     }
 
     /// Lets the time of a round pass. Whenever it is woken meanwhile, slots are filled, no sooner than 20 milliseconds after the last time:
-    /// their workers do what those before them did, and wait for no attempt. The error is that a thread could not be started.
+    /// their workers do what those before them did, and wait for no attempt. If no time is known it pauses as a run of so many attempts
+    /// does. The error is that a thread could not be started.
     pub fn rest_and_refill<'s>(&mut self, scope: &Scope<'s, &'e ()>) -> Result<(), AllocError>
     where
         'e: 's,
@@ -187,6 +198,10 @@ impl<
         let site = self.site;
         let round_ms = site.run.settings.round_ms();
         let begun = site.lent.watch.now_ms();
+        if begun.is_none() {
+            site.lent.watch.pause(round_ms);
+            return Ok(());
+        }
         let mut left = round_ms;
         let mut refilled = None;
         for _refill in 0..round_ms {
@@ -194,7 +209,7 @@ impl<
                 return Ok(());
             }
             refilled = site.lent.watch.now_ms();
-            self.refill(scope)?;
+            self.refill(scope, left_of(round_ms, begun, refilled))?;
             left = left_of(round_ms, begun, site.lent.watch.now_ms());
             if left == 0 {
                 return Ok(());

@@ -22,7 +22,8 @@ pub trait JobSource {
     /// Which worker it may give nothing.
     ghost denies: { Self → WorkerName → Type 0 };
 
-    /// Whether the slot may have a worker now. An attempt asks this of each empty slot, and leaves the slot empty if not.
+    /// Whether the slot may have a worker now. Whoever fills slots, an attempt or a refill between two, asks this of each empty slot that
+    /// it looks at, and leaves the slot empty if not.
     fn may_start(&self, slot: SlotId) -> bool
         ensures { allows self.now slot result ≡ true };
 

@@ -220,7 +220,9 @@ pub fn run_sessions<
 }
 
 /// [`run_sessions`] that makes attempts until the watch says that the run has to end. It keeps no line of an attempt: the watch is told
-/// each.
+/// each. Empty slots are filled in turn round the machines, for no longer than a round in an attempt, and again between attempts whenever
+/// the watch is woken. A worker that joins does what its slot did last, and after a round without a plan the orders of a relaxed plan are
+/// posted.
 pub fn run_until_ended<
     L: Source + Sink + Send + Drop,
     Y: Dial<L> + Drop,

@@ -1,13 +1,16 @@
 //! The steps of an attempt, each on what lies under the lock in one hold of it.
-ghost use Rattle.std.specs.Prelude.{◌≡◌, ◌↔◌, ◌+◌, ◌<◌, ◌≤◌, ◌++◌, ◌∷◌, [], ℕ, true, false, not, count_by, length};
+ghost use Rattle.std.specs.Prelude.{◌≡◌, ◌↔◌, ◌⊎◌, ◌+◌, ◌<◌, ◌≤◌, ◌++◌, ◌∷◌, [], ℕ, true, false, not, count_by, length};
 ghost use Rattle.std.specs.Prelude.{IsSome, IfSome, IfNone, IfOk, OnOk, OnErr, Ok, Err};
+ghost use Rattle.std.specs.Option.{option_map};
 ghost use Rattle.pool_settings.specs.Slots.{slots as slot_count};
 ghost use Rattle.worker_state.specs.Slots.{is_live, last_generation};
 ghost use Rattle.worker_state.specs.declared.slot.Slot.TheVariants.{Empty};
 ghost use Rattle.pool_core.specs.Machine.{slot_in};
 ghost use Rattle.pool_core.specs.Book.{has_closed_prefix};
 ghost use Rattle.pool_core.specs.Calls.{Adopts, EndsChapter, Expires};
-ghost use Rattle.pool_supervisor.specs.FarmPosts.{IsRelaxedFor, IsRelaxedIn, PostsAfter, PostsMore, PostsRound, orders_by};
+ghost use Rattle.order_board.specs.Posts.{latest, posts_of};
+ghost use Rattle.pool_supervisor.specs.FarmPosts.{IsRelaxedFor, IsRelaxedIn, PostsAfter, PostsMore, PostsRound};
+ghost use Rattle.pool_supervisor.specs.FarmPosts.{handed_on, orders_by, relaxed_order};
 ghost use Rattle.pool_supervisor.specs.Published.{ArePosted, stop_order};
 ghost use Rattle.pool_supervisor.specs.Reached.{IsRoundOf};
 ghost use Rattle.pool_supervisor.specs.Steps.{GrabsOrCuts, IsChapterDue, IsLate, most_forgotten, worker_of};
@@ -149,6 +152,8 @@ impl<'e, N: RunId> RunBoard<'e, N> {
     pub fn most_used(&self, held: &Booked<Grabs<N>, Reports<N>>) -> u32
         ensures most { (slot : ℕ) → slot < slot_count self.now.settings.now
             → last_generation (slot_in held.now.state.slots slot) ≤ result }
+        ensures some { (slot_count self.now.settings.now ≡ 0) ⊎ ((slot : ℕ) × (slot < slot_count self.now.settings.now)
+            × (last_generation (slot_in held.now.state.slots slot) ≡ result)) }
     {
         let mut most = 0;
         for number in 0..self.settings.slots() {
@@ -157,13 +162,15 @@ impl<'e, N: RunId> RunBoard<'e, N> {
         most
     }
 
-    /// Posts to a worker that joined in the slot, of this generation, what the slot did last, if that was a function, in a run that goes on
-    /// until its watch ends it. A run of so many attempts posts nothing.
+    /// Posts to the worker of this generation, who joined in the slot, what the slot did last, if that was a function, in a run that goes
+    /// on until its watch ends it. A run of so many attempts posts nothing.
     pub fn hand_on(&self, publisher: &mut PublisherSeat, slot: SlotId, generation: u32)
         requires own { publisher.old.board ≡ N.board }
         requires slot { slot < slot_count self.now.settings.now }
         ensures own { publisher.new.board ≡ publisher.old.board }
         ensures posts { PostsMore N.until publisher.old.posts publisher.new.posts }
+        ensures exact { publisher.new.posts ≡ publisher.old.posts
+            ++ handed_on N.until slot generation (latest (posts_of slot publisher.old.posts)) }
     {
         let Until::Ended = self.until else {
             return;
@@ -281,6 +288,8 @@ impl<'e, N: RunId> RunBoard<'e, N> {
         requires relaxed { IfSome relaxed (λ r. IsRelaxedIn N.settings held.now.state r.now) }
         ensures own { publisher.new.board ≡ publisher.old.board }
         ensures posts { PostsAfter N.until N.settings ran.now held.now.state publisher.old.posts publisher.new.posts }
+        ensures exact { ArePosted (relaxed_order N.until ran.now (option_map (λ r. r.now) relaxed.entry) held.now.state)
+            publisher.old.posts publisher.new.posts }
     {
         held.facts();
         let (Until::Ended, None, Some(relaxed)) = (self.until, ran.backlog, relaxed) else {

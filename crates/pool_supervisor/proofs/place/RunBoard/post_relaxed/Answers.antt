@@ -1,4 +1,4 @@
-use Rattle.std.proofs.Common.{◌≡◌, inr, sym, subst, ◌∙◌}
+use Rattle.std.proofs.Common.{inr, sym, subst, ◌∙◌}
 use Rattle.std.specs.Prelude.{IfSome}
 use Rattle.plan_model.specs.Shown.{Shown}
 use Rattle.plan_model.specs.declared.answer.Answer.{Answer}
@@ -27,7 +27,9 @@ returns-clause-posts g c =
       record {
         problem = problem;
         is_problem = relaxed.1;
+        set = relaxed.2.set;
         let_off = some.relaxed.now.let_off;
+        few = relaxed.2.few;
         plan = _;
         backlog = _;
         short = _;
