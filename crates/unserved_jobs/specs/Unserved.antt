@@ -15,10 +15,6 @@ is_of job left = bytes_eq left.handle job
 abbrev pub is_recent : ℕ → UnservedJob → Bool
 is_recent now_ms left = nat_lt (now_ms - left.last_ms) 600000
 
--- it was left more than once, the last time within the last 10 minutes
-abbrev pub comes_again : ℕ → UnservedJob → Bool
-comes_again now_ms left = is_recent now_ms left && nat_lt 1 left.times
-
 -- the two are one worker
 abbrev pub is_same_worker : WorkerName → WorkerName → Bool
 is_same_worker one other = (one.slot == other.slot) && (one.generation == other.generation)

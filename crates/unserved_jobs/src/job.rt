@@ -70,13 +70,6 @@ impl UnservedJob {
         now_ms.saturating_sub(self.last_ms) < FORGET_MS
     }
 
-    /// Whether it was left more than once, the last time within the last 10 minutes.
-    pub(crate) fn comes_again(&self, now_ms: u64) -> bool
-        ensures { result ≡ spec.comes_again now_ms self.now }
-    {
-        self.is_recent(now_ms) && self.times > 1
-    }
-
     /// How often it was left, or 0 if that was not within the last 10 minutes.
     pub(crate) fn recent_times(&self, now_ms: u64) -> u32
         ensures { result ≡ spec.recent_times now_ms self.now }

@@ -1,6 +1,6 @@
 //! The jobs that were left unserved lately, in a table of a fixed size, and which of them are held.
 
-ghost use Rattle.std.specs.Prelude.{◌≡◌, ◌≤◌, [], IfNone, IfOk, IfSome, count_by, find, map, position, vec_capacity, vec_len};
+ghost use Rattle.std.specs.Prelude.{◌≡◌, ◌≤◌, [], IfNone, IfOk, IfSome, find, map, position, vec_capacity, vec_len};
 ghost use Rattle.std.specs.Option.{option_copied};
 ghost use Rattle.unserved_jobs.specs.Unserved as spec;
 
@@ -184,16 +184,6 @@ impl UnservedJobs {
         ensures table { spec.IsTable self.now }
     {
         held_in(&self.jobs)
-    }
-
-    /// How many jobs come again: they were left more than once, the last time less than 10 minutes ago.
-    pub fn again(&self, now_ms: u64) -> usize
-        ensures { result ≡ count_by (spec.comes_again now_ms) self.now }
-    {
-        self.jobs
-            .iter()
-            .filter(|left| left.comes_again(now_ms))
-            .count()
     }
 
     /// The most times that one of the jobs was left that were last left less than 10 minutes ago, and 0 if there is none.
