@@ -8,7 +8,7 @@ use worker_state::WorkerName;
 
 /// From how many milliseconds on after it was last left a job counts as new. A job server that was started again gives the same handles
 /// again.
-const FORGET_MS: u64 = 600_000;
+pub(crate) const FORGET_MS: u64 = 600_000;
 
 /// For how many milliseconds a job is held that was left for the second time. Each further time takes twice as long.
 const FIRST_HOLD_MS: u32 = 50;

@@ -3,6 +3,8 @@
 
 mod job;
 mod table;
+mod unread;
 
 pub use job::{UnservedJob, hold_ms, is_left_too_often};
 pub use table::UnservedJobs;
+pub use unread::UnreadJobs;
