@@ -134,6 +134,10 @@ class Edge:
         """How many jobs were lost."""
         return sum(line.startswith("lost ") for line in self.lines())
 
+    def joined(self):
+        """How many workers joined."""
+        return sum(line.startswith("joined ") for line in self.lines())
+
     def has_all_workers(self):
         return self.metric("poolman_alive_workers") == WORKERS * len(HOSTS)
 

@@ -1,8 +1,9 @@
 """Farms of which one small thing would take much: starved.py PROGRAM FOLDER
 
 tests/serve/run calls this. A farm has two hosts that do jobs. Jobs of others are done though no host serves one job, which fails after its
-retries if it has a bound; though a host is off whose function is to have a worker, so that there is no plan; though the status of the job
-server cannot be read; and though workers end between two attempts. What its processes write is in the folder.
+retries if it has a bound; though one is too large for each worker; though a host is off whose function is to have a worker, so that there is
+no plan; though the status of the job server cannot be read; and though workers end between two attempts. What its processes write is in the
+folder.
 """
 
 import contextlib
@@ -25,6 +26,9 @@ from starting import PATIENCE
 
 # The status of a farm of which some attempts led to no plan.
 SOME_WITHOUT_A_PLAN = 1
+
+# So many bytes are more than a worker takes.
+TOO_LARGE = 17_000_000
 
 # Attempts so far apart that none comes twice.
 APART_MS = 600_000
@@ -60,6 +64,22 @@ def one_job_leaves_workers_to_others(program, processes):
         wait_until(lambda: edge.lost() >= 4, PATIENCE, "the job is lost again")
         edge.ask(good_jobs("beside", 50))
         edge.end(50)
+    edge.holds_no_good_host_unreached()
+
+
+def a_job_that_is_too_large_leaves_workers_to_others(program, processes):
+    """So it is with a job that no worker can read. Each worker that gets it ends, its link is held, and its slot has another one."""
+    edge = Edge(program, processes)
+    edge.write("settings", settings(edge.server, (), round_ms=APART_MS, workers=8))
+    edge.start()
+    wait_until(lambda: edge.sessions() == 8 * len(HOSTS), PATIENCE, "the job server knows all workers")
+    with contextlib.closing(Client(edge.server, PATIENCE)) as client:
+        client.socket.sendall(request(SUBMIT_JOB, b"upper", b"large", bytes(TOO_LARGE)))
+        wait_until(lambda: edge.joined() >= 8 * len(HOSTS) + 5, PATIENCE, "five workers that ended are replaced")
+        edge.ask(good_jobs("beside", 50))
+        edge.end(50)
+    ends = edge.causes()
+    held(set(ends) == {"BadPacket", "Stopped"} and ends.count("BadPacket") <= 2 * 8, f"workers ended so: {ends}")
     edge.holds_no_good_host_unreached()
 
 
@@ -191,6 +211,7 @@ def workers_are_replaced_between_attempts(program, processes):
 PARTS = (
     one_job_is_never_served,
     one_job_leaves_workers_to_others,
+    a_job_that_is_too_large_leaves_workers_to_others,
     one_job_fails_after_its_retries,
     a_host_is_off_from_the_start,
     a_host_goes_before_workers_are_replaced,

@@ -5,7 +5,7 @@ use crate::last_jobs::LastJobs;
 use farm_hosts::{FileRoom, Hosts, ThreadRoom};
 use farm_notes::Tally;
 use std::sync::Mutex;
-use unserved_jobs::UnservedJobs;
+use unserved_jobs::{UnreadJobs, UnservedJobs};
 
 /// What is kept of a farm while it runs.
 #[derive(Clone, Copy)]
@@ -16,6 +16,8 @@ pub struct Books<'e> {
     pub hosts: &'e Hosts,
     /// The jobs that services left unserved lately, and which workers hold one.
     pub unserved: &'e Mutex<UnservedJobs>,
+    /// The workers that met a job that is too large to be read, and how many of their links are held.
+    pub unread: &'e Mutex<UnreadJobs>,
     /// What became of the jobs.
     pub tally: &'e Tally,
     /// The job that each worker did last.

@@ -13,7 +13,7 @@ use farm_hosts::{BeforeJob, lets_go_on, said_of_host};
 use farm_notes::{Known, PageNotes};
 use farm_page::{FarmView, JobsAgain};
 use http_jobs::try_dial;
-use job_runner::Readiness;
+use job_runner::{EndCause, Readiness};
 use plan_model::{Certified, MachineId, SlotId};
 use pool_core::{JoinError, totals_line};
 use pool_settings::Settings;
@@ -24,7 +24,7 @@ use run_command::{attempt_told, end_notes, gave_no_status};
 use std::alloc::{AllocError, Global};
 use std::sync::{Mutex, Wait};
 use std::thread::Threads;
-use unserved_jobs::UnservedJobs;
+use unserved_jobs::{UnreadJobs, UnservedJobs};
 use worker_state::WorkerName;
 
 /// What the attempts of a run came to so far.
@@ -160,7 +160,7 @@ impl<'e, H: Wait> Reporting<'e, H> {
             unreached: &unreached,
             jobs: &jobs,
             failures: &failures,
-            again: jobs_again(self, self.books.unserved, now_ms),
+            again: jobs_again(self, &self.books, now_ms),
             without_room: &without_room,
         };
         notes.view(self, self.alloc, made, &known).ok()
@@ -204,16 +204,20 @@ impl<'e, H: Threads> Threads for Reporting<'e, H> {}
 
 impl<'e, H: Wait> Wait for Reporting<'e, H> {}
 
-/// How often the job was left that was left most often lately, if a job was left more than once, and how many workers hold one.
-fn jobs_again<R: Wait>(rt: &R, unserved: &Mutex<UnservedJobs>, now_ms: Option<u64>) -> JobsAgain {
-    let held = unserved.lock(rt);
+/// How often the job was left that was left most often lately, if a job was left more than once, and how many workers hold one. So it is of
+/// jobs that are too large to be read, which are counted as one.
+fn jobs_again<R: Wait>(rt: &R, books: &Books<'_>, now_ms: Option<u64>) -> JobsAgain {
     let times = match now_ms {
-        Some(now_ms) => held.most_times(now_ms),
+        Some(now_ms) => {
+            let unread = books.unread.lock(rt).times_lately(now_ms);
+            books.unserved.lock(rt).most_times(now_ms).max(unread)
+        }
         None => 0,
     };
+    let unread = books.unread.lock(rt).held;
     JobsAgain {
         times: if times > 1 { times } else { 0 },
-        held: held.held() as u32,
+        held: books.unserved.lock(rt).held() as u32 + unread,
     }
 }
 
@@ -225,6 +229,11 @@ fn hold_of<R: Wait>(rt: &R, unserved: &Mutex<UnservedJobs>, worker: WorkerName) 
 /// The worker gives back what it holds.
 fn give_back<R: Wait>(rt: &R, unserved: &Mutex<UnservedJobs>, worker: WorkerName) {
     unserved.lock(rt).give_back(worker);
+}
+
+/// For how many milliseconds the link of a worker is to be held that met a job that is too large to be read, if it is.
+fn hold_unread<R: Wait>(rt: &R, unread: &Mutex<UnreadJobs>, now_ms: Option<u64>) -> Option<u32> {
+    unread.lock(rt).hold(now_ms?)
 }
 
 impl<'e, H: FarmHost> Watch for Reporting<'e, H> {
@@ -296,8 +305,18 @@ impl<'e, H: FarmHost> Watch for Reporting<'e, H> {
     }
 
     /// A job that no service serves would go round all workers, and end each. So a worker that left one which was left before holds it for
-    /// a while, and the job server gives it to nobody. Not once the farm has to end.
-    fn before_hang_up(&self, worker: WorkerName) {
+    /// a while, and the job server gives it to nobody. Not once the farm has to end. So does a worker that met a job that is too large to
+    /// be read, and its slot has another worker meanwhile.
+    fn before_hang_up(&self, worker: WorkerName, cause: EndCause) {
+        if cause == EndCause::BadPacket {
+            let held_ms = hold_unread(self, self.books.unread, self.host.now_ms());
+            if let Some(milliseconds) = held_ms {
+                self.host.ring();
+                self.host.rest(milliseconds);
+                self.books.unread.lock(self).give_back();
+            }
+            return;
+        }
         let WorkerName { slot, generation } = worker;
         let held_ms = hold_of(self, self.books.unserved, WorkerName { slot, generation });
         if let Some(milliseconds) = held_ms {

@@ -19,7 +19,7 @@ use pool_supervisor::{ArenaPlanner, Lent, RunEnd, run_until_ended};
 use run_command::{Route, text_ms, write_ms};
 use std::alloc::{AllocError, Global};
 use std::sync::Mutex;
-use unserved_jobs::UnservedJobs;
+use unserved_jobs::{UnreadJobs, UnservedJobs};
 
 /// For how many milliseconds more than workers may take to end a drain waits for the end of the farm.
 const DRAIN_MS: u32 = 60_000;
@@ -70,6 +70,7 @@ fn run_until_end<'x, H: FarmHost>(
     let planner = ArenaPlanner::new(alloc);
     let hosts = Hosts::new(alloc, settings.machines(), settings.round_ms())?;
     let unserved = Mutex::new(UnservedJobs::new(alloc)?);
+    let unread = Mutex::new(UnreadJobs::new());
     let tally = Tally::new(alloc, settings.functions())?;
     let last_jobs = LastJobs::new(alloc, settings.slots())?;
     let peers = farm.services.page().map_or(0, |_| MOST_PEERS);
@@ -79,6 +80,7 @@ fn run_until_end<'x, H: FarmHost>(
         farm,
         hosts: &hosts,
         unserved: &unserved,
+        unread: &unread,
         tally: &tally,
         last_jobs: &last_jobs,
         files: &files,
