@@ -1,9 +1,7 @@
 -- When a host is left alone.
-use Rattle.std.specs.Prelude.{ℕ, ◌+◌, ◌-◌, ◌^◌, min, Bool, true, false, ◌||◌, ◌&&◌, ◌==◌, if◌then◌else◌, List, [], ◌∷◌, length}
-use Rattle.std.specs.Prelude.{◌≡◌, ◌≤◌, ◌*◌, ◌/◌, ⊤, IfSome, max, nat_eq, nat_le, nat_lt}
+use Rattle.std.specs.Prelude.{ℕ, ◌+◌, ◌-◌, ◌^◌, min, Bool, true, false, not, ◌&&◌, ◌==◌, if◌then◌else◌}
+use Rattle.std.specs.Prelude.{◌≡◌, ◌≤◌, ◌*◌, ◌/◌, ⊤, IfSome, max, nat_le, nat_lt}
 use Rattle.std.specs.Prelude.{Option, Some, None, Result, Ok, Err}
-use Rattle.std.specs.Cmp.Lexicographic.{pointwise}
-use Rattle.std.specs.List.{list_any}
 use Rattle.devices.specs.declared.dial_error.DialError.{DialError}
 use Rattle.devices.specs.declared.dial_error.DialError.TheVariants.{NoPort, TooManyFiles, Memory, NoAddress, NoAnswer}
 use Rattle.http_jobs.specs.declared.fault.NotDone.{NotDone}
@@ -20,8 +18,8 @@ use Rattle.farm_hosts.specs.declared.host_entry.HostEntry.{HostEntry}
 use Rattle.farm_hosts.specs.declared.host_state.Absence.{Absence}
 use Rattle.farm_hosts.specs.declared.host_state.HostState.{HostState}
 use Rattle.farm_hosts.specs.declared.host_state.HostState.TheVariants as state
+use Rattle.farm_hosts.specs.declared.left_jobs.LeftJob.{LeftJob}
 use Rattle.farm_hosts.specs.declared.left_jobs.LeftJobs.{LeftJobs}
-use Rattle.farm_hosts.specs.declared.left_jobs.LeftJobs.TheVariants as left
 use Rattle.farm_hosts.specs.declared.host_state.Reason.{Reason}
 use Rattle.farm_hosts.specs.declared.host_state.Reason.TheVariants.{Unreachable, Unserved}
 use Rattle.worker_state.specs.declared.slot.WorkerName.{WorkerName}
@@ -173,21 +171,40 @@ abbrev pub after_served : Option Reason → Option Reason
 after_served (Some Unreachable) = Some Unreachable
 after_served before = None
 
--- the two are handles of one job
-abbrev pub is_same_job : List ℕ → List ℕ → Bool
-is_same_job one other = pointwise nat_eq one other
+-- So many new jobs in a row mark a host with so many workers: as many as workers, but 3 at least and 16 at most.
+abbrev pub jobs_that_mark : ℕ → ℕ
+jobs_that_mark workers = min (max workers 3) 16
 
--- the handles of these jobs
-abbrev pub jobs_in : LeftJobs → List (List ℕ)
-jobs_in left.Nothing = []
-jobs_in (left.One first) = first ∷ []
-jobs_in (left.Two first second) = first ∷ second ∷ []
+-- what a host left of which nothing is known
+abbrev pub left_nothing : LeftJobs
+left_nothing = record { new_jobs = 0; spared_until_ms = 0 }
 
--- Why it is left alone after it left this job unserved, by why it was before, and by the jobs that it had left since the last one that it
--- served. A third one marks it, and none of them again.
-abbrev pub after_left : Option Reason → List (List ℕ) → List ℕ → Option Reason
-after_left (Some why) jobs job = Some why
-after_left None jobs job = if list_any (is_same_job job) jobs || nat_lt (length jobs) 2 then None else Some Unserved
+-- Before which moment a host is not marked that served a job at this time: 200 milliseconds later. Before none if the time is not known.
+abbrev pub spared_until : Option ℕ → ℕ
+spared_until (Some now_ms) = min (now_ms + 200) (2 ^ 64 - 1)
+spared_until None = 0
+
+-- what it left once it served a job at this time
+abbrev pub left_after_served : Option ℕ → LeftJobs
+left_after_served now_ms = record { new_jobs = 0; spared_until_ms = spared_until now_ms }
+
+-- how many new jobs it left in a row, with one more
+abbrev pub left_with : LeftJob → LeftJobs → LeftJobs
+left_with job left = record left { new_jobs = if job.is_new then min (left.new_jobs + 1) (2 ^ 32 - 1) else left.new_jobs }
+
+-- it is not marked at this time, since it served a job just before
+abbrev pub are_spared : Option ℕ → LeftJobs → Bool
+are_spared (Some now_ms) left = nat_lt now_ms left.spared_until_ms
+are_spared None left = false
+
+-- Jobs mark the host that left them, the last of which is this one: they are so many new ones, and it has not served one just before.
+abbrev pub marks : LeftJob → LeftJobs → Bool
+marks job left = nat_le (jobs_that_mark job.workers) left.new_jobs && not (are_spared job.now_ms left)
+
+-- Why it is left alone after it left this job unserved, by why it was before, and by what it had left.
+abbrev pub after_left : Option Reason → LeftJobs → LeftJob → Option Reason
+after_left (Some why) left job = Some why
+after_left None left job = if marks job (left_with job left) then Some Unserved else None
 
 -- What a dial for a job that failed so tells of the host. If the job had less time than a dial, that may have cut the dial off.
 abbrev pub sign_of_dial : Bool → DialError → HostSign

@@ -1,17 +1,15 @@
 //! A host of a farm: how it is, and what is new of it.
 
-ghost use Rattle.std.specs.Prelude.{◌≡◌, ◌↔◌, ◌+◌, ◌-◌, ◌*◌, ◌^◌, ◌<◌, Bool, IfErr, IfOk, IfSome, None, Some, false, max, min};
+ghost use Rattle.std.specs.Prelude.{◌≡◌, ◌↔◌, ◌+◌, ◌-◌, ◌*◌, ◌^◌, ◌<◌, Bool, IfErr, IfNone, IfOk, IfSome, None, Some, false, max, min};
 ghost use Rattle.std.specs.Prelude.{nat_lt, true};
 ghost use Rattle.std.specs.Option.{option_map};
 ghost use Rattle.farm_hosts.specs.Hosts as spec;
 
 use crate::host_state::{BeforeJob, HostState, Presence, Reason};
-use crate::left_jobs::LeftJobs;
+use crate::left_jobs::{LeftJob, LeftJobs};
 use devices::DialError;
-use gear_packets::Handle;
 use job_runner::Readiness;
 use plan_model::MachineId;
-use std::mem;
 use worker_state::WorkerName;
 
 /// From how many attempts on after the last word of a host one of its workers dials it.
@@ -47,11 +45,11 @@ fn news_of(before: Option<Reason>, now: Option<Reason>) -> Option<HostNews> {
 }
 
 /// A host of a farm.
-#[derive(Drop)]
+#[derive(Clone, Copy, Debug, PartialEq, Eq)]
 pub struct HostEntry {
     /// How it is.
     pub state: HostState,
-    /// The jobs that it left unserved.
+    /// What it left unserved.
     pub left: LeftJobs,
     /// The attempt of the last word of it: it took a connection or served a job. Or in which a worker last took a look at it.
     pub heard: u64,
@@ -75,7 +73,7 @@ impl HostEntry {
     {
         HostEntry {
             state: HostState::Present(Presence::new()),
-            left: LeftJobs::Nothing,
+            left: LeftJobs::nothing(),
             heard: 1,
             busy: 0,
             tries: 0,
@@ -185,7 +183,7 @@ impl HostEntry {
     {
         let news = news_of(before, self.state.reason());
         if news.is_some() {
-            self.left = LeftJobs::Nothing;
+            self.left = LeftJobs::nothing();
         }
         news
     }
@@ -208,16 +206,17 @@ impl HostEntry {
         self.news_since(before)
     }
 
-    /// After it served a job. What is new of it.
-    pub fn note_served(&mut self, attempt: u64) -> Option<HostNews>
+    /// After it served a job at this time, in milliseconds. What is new of it.
+    pub fn note_served(&mut self, attempt: u64, now_ms: Option<u64>) -> Option<HostNews>
         ensures reason { spec.reason_of self.new.state ≡ spec.after_served (spec.reason_of self.old.state) }
         ensures starts { spec.starts_of self.new.state
             ≡ spec.starts_after_served (spec.reason_of self.old.state) (spec.starts_of self.old.state) }
+        ensures left { self.new.left ≡ spec.left_after_served now_ms }
     {
         let before = self.state.reason();
         self.state = self.state.after_served();
         self.heard = attempt;
-        self.left = LeftJobs::Nothing;
+        self.left = LeftJobs::after_served(now_ms);
         news_of(before, self.state.reason())
     }
 
@@ -231,22 +230,23 @@ impl HostEntry {
         self.news_since(before)
     }
 
-    /// After it left a job unserved. What is new of it. The job server hands out the same job again, maybe to this host: that makes one.
-    pub fn note_unserved(&mut self, job: &Handle, attempt: u64) -> Option<HostNews>
-        ensures { spec.reason_of self.new.state ≡ spec.after_left (spec.reason_of self.old.state) (spec.jobs_in self.old.left) job.now }
+    /// After it left this job unserved. What is new of it. If it was not left alone before, it is now if so many new jobs were left in a
+    /// row, and it has served none for 200 milliseconds. That is asked at each job, also at one that others had left before.
+    pub fn note_unserved(&mut self, job: LeftJob, attempt: u64) -> Option<HostNews>
+        ensures reason { spec.reason_of self.new.state ≡ spec.after_left (spec.reason_of self.old.state) self.old.left job }
+        ensures left { IfNone (spec.reason_of self.new.state) (self.new.left ≡ spec.left_with job self.old.left) }
     {
-        let before = self.state.reason();
-        if before.is_some() || self.left.have(job) {
+        if self.state.reason().is_some() {
             return None;
         }
-        match mem::replace(&mut self.left, LeftJobs::Nothing).with(job) {
-            Some(left) => self.left = left,
-            None => {
-                self.state = self
-                    .state
-                    .away(Reason::Unserved, attempt, self.longest_unreached);
-            }
+        self.left = self.left.with(job);
+        if !self.left.mark(job) {
+            return None;
         }
-        self.news_since(before)
+        self.left = LeftJobs::nothing();
+        self.state = self
+            .state
+            .away(Reason::Unserved, attempt, self.longest_unreached);
+        Some(HostNews::Unreached(Reason::Unserved))
     }
 }

@@ -18,7 +18,7 @@ use worker_state::WorkerName;
 pub enum Reason {
     /// A dial failed, and not since files, ports or memory were lacking here.
     Unreachable,
-    /// Three different jobs, one after the other, were not served.
+    /// So many new jobs in a row were not served, and none for a while.
     Unserved,
 }
 

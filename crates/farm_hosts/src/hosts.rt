@@ -2,9 +2,9 @@
 
 use crate::host_entry::{HostEntry, HostNews, MachineSlot};
 use crate::host_state::{BeforeJob, Reason};
+use crate::left_jobs::LeftJob;
 use crate::waits::longest_unreached;
 use devices::DialError;
-use gear_packets::Handle;
 use job_runner::Readiness;
 use plan_model::MachineId;
 use std::alloc::{AllocError, Global};
@@ -21,8 +21,9 @@ struct Table {
 }
 
 /// Which hosts of a farm are reached. A host is left alone if a dial to it failed, unless files, ports or memory were lacking here, until
-/// one succeeds; or if three different jobs, one after the other, were not served, until one is, or until there is no plan for so few
-/// workers. To one that is left alone one worker comes at a time, and of those whose jobs are not served it alone asks for more.
+/// one succeeds; or if as many new jobs in a row as it has workers, 3 to 16, were not served, and none for 200 milliseconds, until one is,
+/// or until there is no plan for so few workers. To one that is left alone one worker comes at a time, and of those whose jobs are not
+/// served it alone asks for more.
 #[derive(Drop)]
 pub struct Hosts {
     table: Mutex<Table>,
@@ -35,9 +36,7 @@ impl Hosts {
     pub fn new(alloc: Global, machines: u32, round_ms: u32) -> Result<Hosts, AllocError> {
         let longest = longest_unreached(round_ms);
         let mut hosts = Vec::new(alloc);
-        for _machine in 0..machines {
-            hosts.push(HostEntry::new(longest))?;
-        }
+        hosts.resize(machines as usize, HostEntry::new(longest))?;
         Ok(Hosts {
             table: Mutex::new(Table { attempt: 1, hosts }),
             news: Mutex::new(()),
@@ -183,20 +182,25 @@ impl Hosts {
         host.note_dial(dialled, attempt)
     }
 
-    /// A job was served by the host of this machine. What is new of the host.
-    pub fn note_served<R: Wait>(&self, rt: &R, machine: MachineId) -> Option<HostNews> {
+    /// A job was served by the host of this machine at this time, in milliseconds. What is new of the host.
+    pub fn note_served<R: Wait>(
+        &self,
+        rt: &R,
+        machine: MachineId,
+        now_ms: Option<u64>,
+    ) -> Option<HostNews> {
         let mut held = self.table.lock(rt);
         let attempt = held.attempt;
         let host = held.hosts.get_mut(machine.number() as usize)?;
-        host.note_served(attempt)
+        host.note_served(attempt, now_ms)
     }
 
-    /// A job was not served by the host of this machine. What is new of the host.
+    /// This job was not served by the host of this machine. What is new of the host.
     pub fn note_unserved<R: Wait>(
         &self,
         rt: &R,
         machine: MachineId,
-        job: &Handle,
+        job: LeftJob,
     ) -> Option<HostNews> {
         let mut held = self.table.lock(rt);
         let attempt = held.attempt;

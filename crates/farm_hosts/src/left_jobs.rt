@@ -1,50 +1,101 @@
 //! The jobs that a host left unserved.
 
-ghost use Rattle.std.specs.Prelude.{◌≡◌, ◌++◌, ◌∷◌, [], IfSome, is_some, length, nat_lt};
-ghost use Rattle.std.specs.List.{list_any};
+ghost use Rattle.std.specs.Prelude.{◌≡◌};
 ghost use Rattle.farm_hosts.specs.Hosts as spec;
 
-use gear_packets::Handle;
+/// How many new jobs in a row mark a host of few workers. Fewer could be a coincidence.
+const FEWEST_JOBS: u32 = 3;
 
-/// Whether the two are handles of one job.
-fn is_same_job(one: &Handle, other: &Handle) -> bool
-    ensures { result ≡ spec.is_same_job one.now other.now }
-{
-    one.bytes() == other.bytes()
+/// How many mark one of many workers. More would take others their time.
+const MOST_JOBS: u32 = 16;
+
+/// For how many milliseconds after it served a job a host is not marked: jobs that nobody can do may come in a burst.
+const BURST_MS: u64 = 200;
+
+/// A job that a host left unserved.
+#[derive(Clone, Copy, Debug, PartialEq, Eq)]
+pub struct LeftJob {
+    /// Whether nobody had left it before. One that was left before may be a job that no host can do, and counts for no host.
+    pub is_new: bool,
+    /// How many workers the host's machine has.
+    pub workers: u32,
+    /// When it was left, in milliseconds, if that is known.
+    pub now_ms: Option<u64>,
 }
 
-/// The jobs that a host left unserved, each once, since it last served one, or since it was last left alone. A third one marks it.
-#[derive(Drop)]
-pub enum LeftJobs {
-    /// There is none.
-    Nothing,
-    /// There is this one.
-    One(Handle),
-    /// There are these two.
-    Two(Handle, Handle),
+/// What a host left unserved since it last served a job, or since it was last left alone.
+#[derive(Clone, Copy, Debug, PartialEq, Eq)]
+pub struct LeftJobs {
+    /// How many new jobs it left.
+    pub new_jobs: u32,
+    /// Before this moment it is not marked, in milliseconds: 200 after it served that job. 0 if it served none, or that is not known.
+    pub spared_until_ms: u64,
+}
+
+/// How many new jobs in a row mark a host with so many workers, if it serves none of them: as many as workers, since each may be at one,
+/// but 3 at least and 16 at most.
+fn jobs_that_mark(workers: u32) -> u32
+    ensures { result ≡ spec.jobs_that_mark workers }
+{
+    workers.clamp(FEWEST_JOBS, MOST_JOBS)
+}
+
+/// Before which moment a host is not marked that served a job at this time.
+fn spared_until(now_ms: Option<u64>) -> u64
+    ensures { result ≡ spec.spared_until now_ms }
+{
+    match now_ms {
+        Some(now) => now.saturating_add(BURST_MS),
+        None => 0,
+    }
 }
 
 impl LeftJobs {
-    /// Whether this job is among them.
-    pub fn have(&self, job: &Handle) -> bool
-        ensures { result ≡ list_any (spec.is_same_job job.now) (spec.jobs_in self.now) }
+    /// It left none, and served none.
+    pub fn nothing() -> LeftJobs
+        ensures { result ≡ spec.left_nothing }
     {
-        match self {
-            LeftJobs::Nothing => false,
-            LeftJobs::One(first) => is_same_job(job, first),
-            LeftJobs::Two(first, second) => is_same_job(job, first) || is_same_job(job, second),
+        LeftJobs {
+            new_jobs: 0,
+            spared_until_ms: 0,
         }
     }
 
-    /// With one more. None if that is the third.
-    pub fn with(self, job: &Handle) -> Option<LeftJobs>
-        ensures one_more { IfSome result (λ left. spec.jobs_in left ≡ spec.jobs_in self ++ job.now ∷ []) }
-        ensures two_at_most { is_some result ≡ nat_lt (length (spec.jobs_in self)) 2 }
+    /// After it served a job at this time, in milliseconds, if that is known.
+    pub fn after_served(now_ms: Option<u64>) -> LeftJobs
+        ensures { result ≡ spec.left_after_served now_ms }
     {
-        match self {
-            LeftJobs::Nothing => Some(LeftJobs::One(job.copy())),
-            LeftJobs::One(first) => Some(LeftJobs::Two(first, job.copy())),
-            LeftJobs::Two(_, _) => None,
+        LeftJobs {
+            new_jobs: 0,
+            spared_until_ms: spared_until(now_ms),
         }
+    }
+
+    /// With one more.
+    pub fn with(self, job: LeftJob) -> LeftJobs
+        ensures { result ≡ spec.left_with job self }
+    {
+        let more = if job.is_new { 1 } else { 0 };
+        LeftJobs {
+            new_jobs: self.new_jobs.saturating_add(more),
+            ..self
+        }
+    }
+
+    /// Whether it served a job less than 200 milliseconds before this time, if both times are known.
+    fn are_spared(self, now_ms: Option<u64>) -> bool
+        ensures { result ≡ spec.are_spared now_ms self }
+    {
+        match now_ms {
+            Some(now) => now < self.spared_until_ms,
+            None => false,
+        }
+    }
+
+    /// Whether they mark the host, the last of which is this job.
+    pub fn mark(self, job: LeftJob) -> bool
+        ensures { result ≡ spec.marks job self }
+    {
+        self.new_jobs >= jobs_that_mark(job.workers) && !self.are_spared(job.now_ms)
     }
 }

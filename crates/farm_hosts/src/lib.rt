@@ -15,4 +15,5 @@ pub use host_entry::{HostNews, MachineSlot};
 pub use host_sign::{HostSign, sign_of};
 pub use host_state::{BeforeJob, Reason, lets_go_on, said_of_host};
 pub use hosts::Hosts;
+pub use left_jobs::LeftJob;
 pub use thread_room::{ThreadNews, ThreadRoom};

@@ -10,7 +10,7 @@ use crate::host::FarmHost;
 use crate::job_lines::{failure_of, line_of, told_part};
 use crate::last_jobs::AnsweredJob;
 use devices::DialError;
-use farm_hosts::{HostNews, HostSign, Hosts, MachineSlot, sign_of};
+use farm_hosts::{HostNews, HostSign, Hosts, LeftJob, MachineSlot, sign_of};
 use farm_notes::JobEnd;
 use gear_packets::{Assignment, Handle};
 use http_jobs::{Reply, ServiceJobs, dial_words, left_too_often};
@@ -160,11 +160,11 @@ fn news_of<R: Wait>(
     rt: &R,
     hosts: &Hosts,
     machine: MachineId,
-    job: &Handle,
+    job: LeftJob,
     sign: HostSign,
 ) -> Option<HostNews> {
     match sign {
-        HostSign::Served => hosts.note_served(rt, machine),
+        HostSign::Served => hosts.note_served(rt, machine, job.now_ms),
         HostSign::Unserved => hosts.note_unserved(rt, machine, job),
         HostSign::Unreached(why) => hosts.note_dial(rt, machine, Err(why)),
         HostSign::Nothing => None,
@@ -249,15 +249,6 @@ pub fn host_line(
     Some(news_line(alloc, farm, machine, news))
 }
 
-/// What a job tells of its host that was left unserved so often, if it was. Only the first time counts: it may be the job that cannot be
-/// served, and then it would tell the same of each host.
-fn sign_after(sign: HostSign, times_left: Option<u32>) -> HostSign {
-    match times_left {
-        Some(times) if times > 1 => HostSign::Nothing,
-        _ => sign,
-    }
-}
-
 /// Notes that the job was left unserved at this time, if it was. How often it was, this time included. None if no time is known. A job that
 /// was served is not known any more: whoever left it before, it comes again no more.
 fn note_left<R: Wait>(
@@ -277,9 +268,19 @@ fn note_left<R: Wait>(
     }
 }
 
+/// What a job is to the host that left it at this time, if it did. If it was left before, it may be one that nobody can do: it would tell
+/// the same of each host. If that is not known it counts as new.
+fn left_job(farm: &Farm, machine: MachineId, times: Option<u32>, now_ms: Option<u64>) -> LeftJob {
+    LeftJob {
+        is_new: times.unwrap_or(1) == 1,
+        workers: farm.settings.workers(machine),
+        now_ms,
+    }
+}
+
 /// How a worker leaves a job.
 #[derive(Clone, Copy)]
-struct LeftJob {
+struct Leaving {
     machine: MachineId,
     worker: WorkerName,
     /// How often services left the job unserved, this time included. None if that is not so, or not known.
@@ -314,7 +315,7 @@ fn settle<R: Wait>(
     alloc: Global,
     books: &Books<'_>,
     job: &Handle,
-    left: LeftJob,
+    left: Leaving,
     done: Result<Option<Reply>, http_jobs::NotDone>,
 ) -> Result<Option<Reply>, http_jobs::NotDone>
     ensures { IsSettled left.retries done result }
@@ -373,13 +374,13 @@ impl<'e, H: FarmHost> Jobs for FarmJobs<'e, H> {
         let sign = sign_of(&served, timeout_ms, farm.services.connect_ms());
         let now_ms = self.host.now_ms();
         let times_left = note_left(self.host, self.books.unserved, &job.handle, sign, now_ms);
-        let sign = sign_after(sign, times_left);
+        let left = left_job(farm, self.machine, times_left, now_ms);
         let turn = self.books.hosts.turn(self.host);
-        let news = news_of(self.host, self.books.hosts, self.machine, &job.handle, sign);
+        let news = news_of(self.host, self.books.hosts, self.machine, left, sign);
         self.host
             .tell_if(host_line(alloc, farm, self.machine, news));
         drop(turn);
-        let left = LeftJob {
+        let left = Leaving {
             machine: self.machine,
             worker: self.worker,
             times: times_left,
