@@ -201,6 +201,15 @@ are_spared None left = false
 abbrev pub marks : LeftJob → LeftJobs → Bool
 marks job left = nat_le (jobs_that_mark job.workers) left.new_jobs && not (are_spared job.now_ms left)
 
+-- for how many milliseconds more a host is spared that left so many new jobs, if the time is known
+abbrev pub doubt_at : Option ℕ → LeftJobs → ℕ
+doubt_at (Some now_ms) left = min (left.spared_until_ms - now_ms) 200
+doubt_at None left = 0
+
+-- the same, and 0 if it left fewer
+abbrev pub doubt_ms : LeftJob → LeftJobs → ℕ
+doubt_ms job left = if nat_le (jobs_that_mark job.workers) left.new_jobs then doubt_at job.now_ms left else 0
+
 -- Why it is left alone after it left this job unserved, by why it was before, and by what it had left.
 abbrev pub after_left : Option Reason → LeftJobs → LeftJob → Option Reason
 after_left (Some why) left job = Some why

@@ -195,6 +195,16 @@ impl Hosts {
         host.note_served(attempt, now_ms)
     }
 
+    /// For how many milliseconds more the host of this machine is spared, which left this job and others: as many new ones in a row as mark
+    /// it, but it served one just before. Until then a job that it leaves is not to come again, since it would be left once more.
+    pub fn doubt_ms<R: Wait>(&self, rt: &R, machine: MachineId, job: LeftJob) -> u64 {
+        let held = self.table.lock(rt);
+        match held.hosts.get(machine.number() as usize) {
+            Some(host) => host.left.doubt_ms(job),
+            None => 0,
+        }
+    }
+
     /// This job was not served by the host of this machine. What is new of the host.
     pub fn note_unserved<R: Wait>(
         &self,

@@ -92,6 +92,18 @@ impl LeftJobs {
         }
     }
 
+    /// For how many milliseconds more the host is spared though it left so many, 200 at most. 0 if it did not, or if no time is known.
+    pub fn doubt_ms(self, job: LeftJob) -> u64
+        ensures { result ≡ spec.doubt_ms job self }
+    {
+        match job.now_ms {
+            Some(now) if self.new_jobs >= jobs_that_mark(job.workers) => {
+                self.spared_until_ms.saturating_sub(now).min(BURST_MS)
+            }
+            _ => 0,
+        }
+    }
+
     /// Whether they mark the host, the last of which is this job.
     pub fn mark(self, job: LeftJob) -> bool
         ensures { result ≡ spec.marks job self }

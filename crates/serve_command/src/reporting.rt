@@ -9,7 +9,7 @@ use crate::host::FarmHost;
 use crate::job_lines::{Uncompleted, line_of, lost_job};
 use crate::last_jobs::AnsweredJob;
 use crate::page_door::PageDoor;
-use farm_hosts::{BeforeJob, lets_go_on, said_of_host};
+use farm_hosts::{BeforeJob, LeftJob, lets_go_on, said_of_host};
 use farm_notes::{Known, PageNotes};
 use farm_page::{FarmView, JobsAgain};
 use http_jobs::try_dial;
@@ -231,6 +231,36 @@ fn give_back<R: Wait>(rt: &R, unserved: &Mutex<UnservedJobs>, worker: WorkerName
     unserved.lock(rt).give_back(worker);
 }
 
+impl<'e, H: FarmHost> Reporting<'e, H> {
+    /// While it is in doubt whether the slot's host serves jobs, a worker keeps the job that it left, since another would leave it too. If
+    /// none was served meanwhile the host is left alone. How many milliseconds that took.
+    fn wait_in_doubt(&self, slot: SlotId) -> u32 {
+        let Some(machine) = self.books.farm.machine_of(slot) else {
+            return 0;
+        };
+        let left = self.left_again(machine);
+        let milliseconds = self.books.hosts.doubt_ms(self, machine, left) as u32;
+        if milliseconds > 0 {
+            self.host.rest(milliseconds);
+            let left = self.left_again(machine);
+            let _turn = self.books.hosts.turn(self.host);
+            let news = self.books.hosts.note_unserved(self, machine, left);
+            self.host
+                .tell_if(host_line(self.alloc, self.books.farm, machine, news));
+        }
+        milliseconds
+    }
+
+    /// A job that the machine's host left before, as one that it leaves now.
+    fn left_again(&self, machine: MachineId) -> LeftJob {
+        LeftJob {
+            is_new: false,
+            workers: self.books.farm.settings.workers(machine),
+            now_ms: self.host.now_ms(),
+        }
+    }
+}
+
 /// For how many milliseconds the link of a worker is to be held that met a job that is too large to be read, if it is.
 fn hold_unread<R: Wait>(rt: &R, unread: &Mutex<UnreadJobs>, now_ms: Option<u64>) -> Option<u32> {
     unread.lock(rt).hold(now_ms?)
@@ -318,9 +348,13 @@ impl<'e, H: FarmHost> Watch for Reporting<'e, H> {
             return;
         }
         let WorkerName { slot, generation } = worker;
+        let doubt_ms = match cause {
+            EndCause::Unserved => self.wait_in_doubt(slot),
+            _ => 0,
+        };
         let held_ms = hold_of(self, self.books.unserved, WorkerName { slot, generation });
         if let Some(milliseconds) = held_ms {
-            self.host.rest(milliseconds);
+            self.host.rest(milliseconds.saturating_sub(doubt_ms));
             give_back(self, self.books.unserved, WorkerName { slot, generation });
         }
     }
