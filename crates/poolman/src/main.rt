@@ -6,7 +6,9 @@ use devices::{InputSource, OutputSink};
 use fault_detail::{Reader, complain};
 use plan_commands::Fault;
 use program::{Lent, program};
-use serve_command::{Edges, FarmSystem, SharedPage, end_with_input, serve_page, write_lines};
+use serve_command::{
+    Edges, FarmSystem, SharedPage, drain_at_signals, end_with_input, serve_page, write_lines,
+};
 use std::alloc::{AllocError, Global};
 use std::fs::{File, OpenOptions};
 use std::hash::RandomState;
@@ -112,18 +114,24 @@ struct Handles {
     own: Arc<Edges>,
     of_lines: Arc<Edges>,
     of_input: Arc<Edges>,
+    of_signals: Arc<Edges>,
     of_page: Arc<SharedPage>,
 }
 
 impl Handles {
-    /// Those of a farm that goes on. The only error is out of memory.
-    fn new(alloc: Global) -> Result<Handles, AllocError> {
-        let edges = Edges::new(alloc)?;
+    /// Those of a farm of this process that goes on, or of none. The only error is out of memory.
+    fn new(rt: &HostRuntime, threads: EdgeThreads) -> Result<Handles, AllocError> {
+        let alloc = rt.alloc();
+        let edges = match threads {
+            EdgeThreads::None => Edges::new(alloc)?,
+            EdgeThreads::Lines | EdgeThreads::LinesAndInput => Edges::of_process(rt)?,
+        };
         let of_page = Arc::try_clone(&edges.page)?;
         let own = Arc::new(alloc, edges)?;
         Ok(Handles {
             of_lines: Arc::try_clone(&own)?,
             of_input: Arc::try_clone(&own)?,
+            of_signals: Arc::try_clone(&own)?,
             of_page,
             own,
         })
@@ -148,6 +156,7 @@ fn start_threads<R: Threads + Wait + Clock + Copy + Send + Sync + Drop + 'static
         own,
         of_lines,
         of_input,
+        of_signals,
         of_page,
     } = handles;
     if threads == EdgeThreads::None {
@@ -166,6 +175,13 @@ fn start_threads<R: Threads + Wait + Clock + Copy + Send + Sync + Drop + 'static
         .ok()?;
     }
     let alloc = host.alloc();
+    if own.drains_at_signals() {
+        thread::spawn(
+            &rt,
+            move || drain_at_signals(&rt, &host, alloc, &of_signals.end),
+        )
+        .ok()?;
+    }
     let keys = RandomState::new(&host).ok()?;
     thread::spawn(&rt, move || serve_page(rt, alloc, keys, &of_page)).ok()?;
     Some(own)
@@ -179,7 +195,7 @@ fn main(rt: HostRuntime) -> ExitCode {
     let threads = edge_threads(&command);
     let reader = reader_of(&rt, &command);
     drop(command);
-    let Ok(handles) = Handles::new(alloc) else {
+    let Ok(handles) = Handles::new(&rt, threads) else {
         return end_lacking(&rt);
     };
     let Some(edges) = start_threads(rt, rt, threads, handles) else {

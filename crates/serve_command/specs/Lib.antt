@@ -1,3 +1,4 @@
 pub mod Farm
+pub mod Manager
 pub mod ServiceJobs
 pub mod Serving

@@ -1,5 +1,6 @@
 //! What a farm is lent by the machine that it is run on.
 
+use crate::manager::Stage;
 use byte_io::{Sink, Source};
 use devices::DialError;
 use farm_page::{FailureView, FarmView};
@@ -88,6 +89,15 @@ pub trait FarmHost: Host {
     fn tell_last(&self, line: Result<String, AllocError>) {
         self.tell(line);
     }
+
+    /// Takes what is to be told before all other lines, as which signals drain the farm.
+    fn tell_start(&self) {}
+
+    /// The farm is so far: a service manager is told what it does not know yet.
+    fn note_stage(&self, _stage: Stage) {}
+
+    /// The farm is alive: a service manager that wants to know it is told so.
+    fn note_alive(&self) {}
 
     /// Lets peers ask for the page of the farm at its address. The error says why it cannot be opened.
     fn open_page(&self, _page: &Page, _times: PageTimes) -> io::Result<()> {

@@ -8,6 +8,7 @@ use crate::farm_jobs::host_line;
 use crate::host::FarmHost;
 use crate::job_lines::{Uncompleted, line_of, lost_job};
 use crate::last_jobs::AnsweredJob;
+use crate::manager::Stage;
 use crate::page_door::PageDoor;
 use farm_hosts::{BeforeJob, LeftJob, lets_go_on, said_of_host};
 use farm_notes::{Known, PageNotes};
@@ -149,6 +150,17 @@ impl<'e, H: Wait> Reporting<'e, H> {
         Some(door)
     }
 
+    /// How far the farm is, which may have to end.
+    pub fn stage(&self, has_to_end: bool) -> Stage {
+        if has_to_end {
+            Stage::Stopping
+        } else if self.shut_door().is_some() {
+            Stage::Starting
+        } else {
+            Stage::Ready
+        }
+    }
+
     /// What the page shows after an attempt at this time. None if there is no page, or no memory.
     fn view(&self, made: &Attempted<'_>, now_ms: Option<u64>) -> Option<FarmView> {
         let notes = self.notes.as_ref()?;
@@ -273,10 +285,13 @@ impl<'e, H: FarmHost> Watch for Reporting<'e, H> {
 
     fn pause(&self, milliseconds: u32) {
         self.host.rest(milliseconds);
+        self.host.note_stage(self.stage(self.host.is_to_end()));
     }
 
     fn pause_until_woken(&self, milliseconds: u32) -> bool {
-        self.host.rest_until_rung(milliseconds)
+        let is_rung = self.host.rest_until_rung(milliseconds);
+        self.host.note_stage(self.stage(self.host.is_to_end()));
+        is_rung
     }
 
     fn wake(&self) {
@@ -374,6 +389,8 @@ impl<'e, H: FarmHost> Progress for Reporting<'e, H> {
             let came = self.host.open_page(door.page, door.times);
             self.host.tell_if(door.note_try(self, self.alloc, &came));
         }
+        self.host.note_stage(self.stage(self.host.is_to_end()));
+        self.host.note_alive();
         self.books.hosts.begin_attempt(self);
         if let Some(news) = self.books.files.begin_attempt(self) {
             self.host.tell(String::from_str(self.alloc, news.line()));
@@ -449,6 +466,7 @@ impl<'e, H: FarmHost> Progress for Reporting<'e, H> {
         if let Some(notes) = &self.notes {
             notes.ended(self, ended.end.cause);
         }
+        self.host.note_stage(self.stage(self.host.is_to_end()));
     }
 
     fn finished(&self, ended: &RunEnd) {

@@ -91,11 +91,13 @@ fn run_until_end<'x, H: FarmHost>(
         .services
         .page()
         .map(|page| PageDoor::new(page, page_times(farm)));
+    host.tell_start();
     if let Some(door) = &door {
         let came = host.open_page(door.page, door.times);
         host.tell_if(door.note_try(host, alloc, &came));
     }
     let watch = Reporting::new(host, alloc, books, door);
+    host.note_stage(watch.stage(host.is_to_end()));
     let lent = Lent {
         rt: &watch,
         alloc,

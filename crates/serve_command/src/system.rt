@@ -3,13 +3,17 @@
 use crate::addresses::Addresses;
 use crate::host::FarmHost;
 use crate::line_queue::LineQueue;
-use devices::{DialError, TcpLink};
+use crate::manager::{FarmManager, Stage};
+use crate::signals::signals_line;
+use devices::{DialError, Folder, TcpLink};
+use end_signals::{EndSignals, SignalsUnread, read_signals};
 use farm_page::{FailureView, FarmView};
 use http_jobs::{CallTimes, SystemClock, TcpDial};
 use page_server::{Door, EndFlag, PageTimes, SharedPage};
 use plan_model::FuncId;
 use pool_settings::Settings;
 use run_command::{Attempted, EndedWorker, Host, Progress, RunEnd, System, Watch, time_in_seconds};
+use service_manager::ManagerError;
 use service_settings::Page;
 use std::alloc::{AllocError, Global};
 use std::io;
@@ -28,10 +32,15 @@ pub struct Edges {
     pub lines: LineQueue,
     /// Its page.
     pub page: Arc<SharedPage>,
+    /// Which signals drain it.
+    pub signals: Result<EndSignals, SignalsUnread>,
+    /// Its service manager, if it has one.
+    pub manager: Result<Option<FarmManager>, ManagerError>,
 }
 
 impl Edges {
-    /// Those of a farm that goes on, before its first line. The only error is out of memory.
+    /// Those of a farm that goes on, before its first line. No signal drains it, and it has no service manager. The only error is out of
+    /// memory.
     pub fn new(alloc: Global) -> Result<Edges, AllocError> {
         let end = Arc::new(alloc, EndFlag::new())?;
         let page = SharedPage::new(alloc, Arc::try_clone(&end)?);
@@ -39,7 +48,31 @@ impl Edges {
             end,
             lines: LineQueue::new(alloc),
             page: Arc::new(alloc, page)?,
+            signals: Ok(EndSignals::Neither),
+            manager: Ok(None),
         })
+    }
+
+    /// The same of a farm that this process runs: the signals drain it that were blocked when the process started, and its service manager
+    /// is the one that the environment names. The only error is out of memory.
+    pub fn of_process<R: Env + Folder + Alloc<A = Global>>(rt: &R) -> Result<Edges, AllocError> {
+        let mut edges = Edges::new(rt.alloc())?;
+        edges.signals = read_signals(rt, rt.alloc()).map(|status| status.blocked);
+        edges.manager = FarmManager::of_environment(rt);
+        Ok(edges)
+    }
+
+    /// Whether a signal drains it.
+    pub fn drains_at_signals(&self) -> bool {
+        matches!(
+            self.signals,
+            Ok(EndSignals::Terminate | EndSignals::Interrupt | EndSignals::Both)
+        )
+    }
+
+    /// Its service manager, if it has one that can be told something.
+    fn manager(&self) -> Option<&FarmManager> {
+        self.manager.as_ref().ok()?.as_ref()
     }
 }
 
@@ -251,6 +284,26 @@ impl<
 
     fn tell_last(&self, line: Result<String, AllocError>) {
         self.edges.lines.put_last(&self.rt, self.stamped(line));
+    }
+
+    fn tell_start(&self) {
+        let alloc = self.rt.alloc();
+        self.tell(signals_line(alloc, &self.edges.signals));
+        if let Err(why) = &self.edges.manager {
+            self.tell(format!(in alloc; "nomanager ({why})"));
+        }
+    }
+
+    fn note_stage(&self, stage: Stage) {
+        if let Some(manager) = self.edges.manager() {
+            manager.note(&self.rt, stage);
+        }
+    }
+
+    fn note_alive(&self) {
+        if let Some(manager) = self.edges.manager() {
+            manager.note_alive();
+        }
     }
 
     fn open_page(&self, page: &Page, times: PageTimes) -> io::Result<()> {
