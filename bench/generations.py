@@ -32,7 +32,7 @@ from clients import ASKED, BAD
 from farm import TOTALS, Client, held, wait_until
 from runs import Run
 from stage import PATIENCE
-from starting import untimed
+from starting import command_of_unit, untimed
 
 # So many workers a slot of the copy has at most, and how the sources say it of the program.
 FEW, LIMIT = 64, ("crates/worker_state/src/limits.rt", "MAX_GENERATION: u32 = 262_143;")
@@ -99,12 +99,12 @@ class Farm(Run):
 
     def keep(self):
         """Starts the farm, and starts it again for as long as its unit does."""
-        words = ["sh", f"{TOP}/examples/systemd/poolman-serve", *[f"{self.folder}/{name}.toml" for name in ("settings", "services")]]
-        environment = {**os.environ, "RUNTIME_DIRECTORY": self.folder, "PATH": f"{self.folder}/bin:{os.environ['PATH']}"}
+        files = [f"{self.folder}/{name}.toml" for name in ("settings", "services")]
+        words = command_of_unit("poolman-serve", self.program, files)
         while not self.statuses or self.unit.starts_again(self.statuses[-1]):
             if self.statuses:
                 time.sleep(self.unit.pause)
-            self.poolman = self.processes.start("poolman", *words, env=environment)
+            self.poolman = self.processes.start("poolman", *words)
             self.statuses.append(self.poolman.wait())
 
     def used_up(self):

@@ -45,6 +45,19 @@ def drain(program, folder):
     return done.returncode, done.stdout, done.stderr
 
 
+def unit_file(name):
+    """The text of a unit of examples/systemd."""
+    with open(f"{TOP}/examples/systemd/{name}.service") as it:
+        return it.read()
+
+
+def command_of_unit(name, program, files):
+    """The words that systemd starts for a unit, with this program, and with these files in the place of its two."""
+    words = re.search(r"^ExecStart=(.+)$", unit_file(name), re.M)[1].split()
+    held(words[-4:-2] == ["/usr/local/bin/poolman", "serve"], f"{name} starts {words}")
+    return [*words[:-4], program, "serve", *files]
+
+
 def untimed(lines):
     """The lines of a farm without their times."""
     found = [LINE.fullmatch(line) for line in lines]

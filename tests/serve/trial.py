@@ -5,8 +5,8 @@ is no HTTP, or send without an end. Clients ask for jobs of six functions. Meanw
 plan but one gives its functions to others, and it is started again and gets jobs; and the server is killed and started again. Each job
 has to be answered rightly, and to be in a service's log. The page has to refuse what is asked wrongly, and to give the evidence of a plan
 that `poolman check` finds shown. A drain in mid job ends the farm, as its page says meanwhile; its totals have to account for each job.
-SIGTERM has to end the unit's script as a drain does, also if it comes twice, and a services file without a URL has to be refused before
-anything is dialled.
+SIGTERM has to end the command of the unit as a drain does, also if it comes twice, and a services file without a URL has to be refused
+before anything is dialled.
 
 With `long` there is only the farm: 100,000 jobs of 20 clients, which begin once the page keeps as many attempts as it ever does. Each host
 is killed three times, and the farm has to hold no more descriptors in the last tenth of the jobs than in the second, and no more memory
@@ -17,7 +17,7 @@ import contextlib
 import dataclasses
 import os
 import re
-import shutil
+import signal
 import socket
 import statistics
 import subprocess
@@ -36,7 +36,7 @@ import hosts
 import suite
 from asking import ask_rightly, mixed_jobs, wanted
 from page import Page
-from starting import PATIENCE, Processes, drain, ports, untimed
+from starting import PATIENCE, Processes, command_of_unit, drain, ports, untimed
 
 
 @dataclasses.dataclass
@@ -100,11 +100,17 @@ class Farm:
         self.answered, self.again, self.lock = [], 0, threading.Lock()
         self.is_quiet, self.is_over = threading.Event(), threading.Event()
 
-    def start(self):
+    def start_hosts(self):
         self.gearmand = self.processes.start_server(self.server)
         self.services = {name: self.start_service(name) for name in HEALTHY}
         self.bad = {name: hosts.Host(self.places[name], misbehave) for name, (misbehave, _) in BAD.items()}
+
+    def start(self):
+        self.start_hosts()
         self.poolman = self.start_poolman(services(self.places, self.page.port), stdin=subprocess.PIPE)
+        self.wait_until_each_has_a_function()
+
+    def wait_until_each_has_a_function(self):
         workers = sum(HEALTHY.values()) + BAD_WORKERS * len(BAD)
         wait_until(lambda: self.workers() == workers, PATIENCE, "each worker has a function at the server")
 
@@ -122,13 +128,8 @@ class Farm:
         return self.processes.start("poolman", self.program, "serve", *self.write_files(services), "--until-input", **more)
 
     def start_as_service(self, services):
-        """The script that systemd starts, with poolman on its path."""
-        folder = self.processes.folder
-        # No link: what a failed part leaves stays in the repository, where `rt ci` refuses one.
-        shutil.copy2(self.program, f"{folder}/poolman")
-        more = {"PATH": f"{folder}:{os.environ['PATH']}", "RUNTIME_DIRECTORY": folder}
-        script = f"{TOP}/examples/systemd/poolman-serve"
-        return self.processes.start("poolman", script, *self.write_files(services), env={**os.environ, **more})
+        """The command of the unit, with this program and these files."""
+        return self.processes.start("poolman", *command_of_unit("poolman-serve", self.program, self.write_files(services)))
 
     def workers(self):
         """How many workers the server has for all functions."""
@@ -369,53 +370,45 @@ def a_refused_file(program, processes):
 
 
 def ends_as_service(program, processes, stop):
-    """Starts the script that systemd starts, and stops it so: it ends with the totals, and the status of a farm that never had a plan, as its
+    """Starts the command of the unit, and stops it so: it ends with the totals, and the status of a farm that never had a plan, as its
     page says. A drain then reaches nobody."""
     farm = Farm(program, processes)
-    script = farm.start_as_service(services(farm.places, farm.page.port))
+    service = farm.start_as_service(services(farm.places, farm.page.port))
     wait_until(farm.page.is_unwell, PATIENCE, "the page says that the farm is not well")
-    stop(farm, script)
-    status = script.wait(PATIENCE)
-    held(status == 5 and TOTALS.fullmatch(farm.lines()[-1]), f"the script ended with status {status}, and {farm.lines()[-1]}")
+    stop(farm, service)
+    status = service.wait(PATIENCE)
+    held(status == 5 and TOTALS.fullmatch(farm.lines()[-1]), f"the service ended with status {status}, and {farm.lines()[-1]}")
     said = drain(program, processes.folder)
     people = "poolman: the page: nobody answers at its address\n"
     held(said == (4, "", f"poolman: page 1 Unreached\n{people}"), f"a drain of a farm that has ended: {said}")
 
 
 def a_service_by_signal(program, processes):
-    ends_as_service(program, processes, lambda farm, script: script.terminate())
+    ends_as_service(program, processes, lambda farm, service: service.terminate())
 
 
 def a_service_by_drain(program, processes):
-    ends_as_service(program, processes, lambda farm, script: farm.drain())
-
-
-# In the place of poolman: says when it has begun and when its input has ended, and ends once it may.
-SLOW = """#!/bin/sh
-: > "$RUNTIME_DIRECTORY/begun"
-cat
-: > "$RUNTIME_DIRECTORY/ending"
-until [ -e "$RUNTIME_DIRECTORY/may_end" ]; do sleep 0.1; done
-exit 5
-"""
+    ends_as_service(program, processes, lambda farm, service: farm.drain())
 
 
 def a_service_that_is_stopped_twice(program, processes):
-    """The script waits for a program that takes long to end, also after a second signal."""
-    folder = processes.folder
-    with open(f"{folder}/poolman", "w") as it:
-        it.write(SLOW)
-    os.chmod(f"{folder}/poolman", 0o755)
-    path = f"{folder}:{os.environ['PATH']}"
-    script = processes.start("script", f"{TOP}/examples/systemd/poolman-serve", env={"PATH": path, "RUNTIME_DIRECTORY": folder})
-    for said in ("begun", "ending"):
-        wait_until(lambda said=said: os.path.exists(f"{folder}/{said}"), PATIENCE, f"the program is {said}")
-        script.terminate()
-    # Time for a script that would end now. One that waits is not hurried by it.
-    time.sleep(0.2)
-    open(f"{folder}/may_end", "w").close()
-    status = script.wait(PATIENCE)
-    held(status == 5, f"the script ended with status {status}")
+    """A worker finishes its job, though a second signal comes meanwhile."""
+    farm = Farm(program, processes)
+    farm.start_hosts()
+    farm.poolman = farm.start_as_service(services(farm.places, farm.page.port))
+    farm.wait_until_each_has_a_function()
+    with contextlib.closing(Client(farm.server, PATIENCE)) as client:
+        name = farm.hold_a_job(client)
+        farm.poolman.terminate()
+        wait_until(farm.page.says_the_end, PATIENCE, "the page says that the farm ends")
+        farm.poolman.send_signal(signal.SIGINT)
+        farm.poolman.terminate()
+        # Time for a farm that would end now. One that waits for its worker is not hurried by it.
+        time.sleep(0.5)
+        held(farm.poolman.poll() is None and farm.page.says_the_end(), "a second signal ended the farm")
+        farm.services[name].kill()
+        status = farm.poolman.wait(PATIENCE)
+    held(status in (0, 1) and TOTALS.fullmatch(farm.lines()[-1]), f"the service ended with status {status}, and {farm.lines()[-1]}")
 
 
 # The C library keeps nothing for a thread, gives back the end of its heap at once, and takes each block of a page from the system.

@@ -99,6 +99,7 @@ PARTS = (
     Part("serve", 1.0, 1.0, words=("edges",), wants_program=True),
     Part("serve", 1.0, 0.5, words=("starved",), wants_program=True),
     Part("serve", 1.0, 0.5, words=("trial",), wants_program=True),
+    Part("serve", 0.5, 0.5, words=("handover",), wants_program=True),
     Part("pages", 0.5, 0.9, wants_program=True),
     Part("limits", 0.5, 0.3, wants_program=True),
     Part("package", 0.5, 0.3, wants_program=True),
