@@ -18,7 +18,7 @@ use std::alloc::{AllocError, Global};
 use std::convert::AsStr;
 
 /// The version of the program.
-const VERSION: &str = "0.2.0";
+const VERSION: &str = "0.3.0";
 
 /// A word that has to be there.
 fn operand<'a>(alloc: Global, id: &'a str, help: &'a str) -> Arg<'a>
