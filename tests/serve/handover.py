@@ -92,8 +92,12 @@ class Systemd:
         return 1
 
     def stop(self, name):
+        """Ends an instance by SIGTERM. One that does not end is killed."""
         child, _ = self.running[name]
         child.send_signal(signal.SIGTERM)
+        with contextlib.suppress(subprocess.TimeoutExpired):
+            child.wait(PATIENCE)
+        child.kill()
         self.ended.append((name, child.wait()))
         del self.running[name]
         return 0
