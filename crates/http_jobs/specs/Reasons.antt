@@ -55,8 +55,8 @@ NotRefused limits max deadline seen old new (Not (why.Status status)) = HasStatu
 NotRefused limits max deadline seen old new (Not other) = ⊥
 NotRefused limits max deadline seen old new Memory = Unit {0}
 
--- Why a request was not sent, by the times that were shown and by the sink before and after. A failed write is told as one only after
--- a look at the clock before it and one after it, at neither of which the deadline had come.
+-- Why a request was not sent, by the times that were shown and by the sink before and after. A write failed, the clock was looked at twice
+-- or more, and at no look the deadline had come. Or it had come at the last look, and at none before.
 abbrev pub NotSent : Option ℕ → List (Option ℕ) → Output → Output → Unsent → Type 0
 NotSent deadline times old new unsent.Write = (new.failures ≡ old.failures + 1) × InTime deadline times × (2 ≤ length times)
 NotSent deadline times old new unsent.Late = IsLate deadline times
