@@ -34,7 +34,9 @@ use Rattle.http1.proofs.NumeralLemmas.{numeral_reads_back, decimal_is_number, de
 use Rattle.gear_packets.specs.Response.{AssignedJob}
 use Rattle.http_jobs.specs.declared.service.Service.{Service}
 use Rattle.http_jobs.specs.declared.request.TheConstants.{UNRESERVED}
-use Rattle.http_jobs.specs.Request.{sent_header, headers_of, target_of}
+use Rattle.http_jobs.specs.declared.request.Attempt.{Attempt}
+use Rattle.http_jobs.specs.declared.request.Attempt.TheVariants as attempt
+use Rattle.http_jobs.specs.Request.{attempt_header, sent_header, headers_of, target_of}
 use Rattle.http_jobs.specs.Post.{AreOrdinary, CanBeSent}
 use Rattle.http_jobs.specs.Values.{is_sent, is_visible}
 use Rattle.http_jobs.proofs.Asking.{POST, absent, adds_length, no_codings, length_is_no_coding, ordinary_headers}
@@ -128,14 +130,25 @@ unfolding eq_ignore_case
 host_is_host value = refl
 
 -- the headers after the host
-abbrev pub further_of : Service → AssignedJob → List Header
-further_of s j =
+abbrev pub further_of : Service → AssignedJob → Attempt → List Header
+further_of s j a =
     (((codes "content-type", codes "application/octet-stream") ∷ [] ++ sent_header (codes "gearman-handle") j.handle)
     ++ sent_header (codes "gearman-unique") j.unique
     ++ sent_header (codes "poolman-worker") (string_bytes s.worker))
+    ++ attempt_header a
 
-further_headers : (s : Service) (j : AssignedJob) → AreFurther (further_of s j)
-further_headers s j =
+attempt_token : is_token (codes "poolman-attempt") ≡ true
+unfolding is_token_byte
+attempt_token = refl
+
+further_attempt : (a : Attempt) → AreFurther (attempt_header a)
+unfolding eq_ignore_case
+further_attempt attempt.First = tt
+further_attempt attempt.Second =
+    (record { host = refl; valid = and_from (is_token (codes "poolman-attempt")) (is_trimmed_value (codes "2")) attempt_token refl }, tt)
+
+further_headers : (s : Service) (j : AssignedJob) (a : Attempt) → AreFurther (further_of s j a)
+further_headers s j a =
     let octets = codes "application/octet-stream" in
     let worker = string_bytes s.worker in
     let one : List Header = (codes "content-type", octets) ∷ [] in
@@ -144,7 +157,8 @@ further_headers s j =
     let kind : AreFurther one = (record { host = type_is_no_host octets; valid = and_from (is_token (codes "content-type")) (is_trimmed_value octets) type_token refl }, tt) in
     let with_handle = further_both one (sent_header (codes "gearman-handle") j.handle) kind (further_sent (codes "gearman-handle") j.handle (handle_is_no_host j.handle) handle_token) in
     let with_unique = further_both two (sent_header (codes "gearman-unique") j.unique) with_handle (further_sent (codes "gearman-unique") j.unique (unique_is_no_host j.unique) unique_token) in
-    further_both three (sent_header (codes "poolman-worker") worker) with_unique (further_sent (codes "poolman-worker") worker (worker_is_no_host worker) worker_token)
+    let with_worker = further_both three (sent_header (codes "poolman-worker") worker) with_unique (further_sent (codes "poolman-worker") worker (worker_is_no_host worker) worker_token) in
+    further_both (three ++ sent_header (codes "poolman-worker") worker) (attempt_header a) with_worker (further_attempt a)
 
 no_hosts : (hs : List Header) → AreFurther hs → count_by (is_named (codes "host")) hs ≡ 0
 no_hosts [] o = refl
@@ -285,17 +299,17 @@ unfolding is_token_byte
 post_token = refl
 
 -- the request of a job can be sent
-pub job_can_be_sent : (s : Service) (j : AssignedJob) → is_sent (string_bytes s.host) ≡ true → is_visible (string_bytes s.path) ≡ true → CanBeSent (target_of s j) (headers_of s j)
-job_can_be_sent s j hosted visible =
+pub job_can_be_sent : (s : Service) (j : AssignedJob) (a : Attempt) → is_sent (string_bytes s.host) ≡ true → is_visible (string_bytes s.path) ≡ true → CanBeSent (target_of s j) (headers_of s j a)
+job_can_be_sent s j a hosted visible =
     let p = is_named (codes "host") in
     let host : Header = (codes "host", string_bytes s.host) in
-    let more = further_of s j in
-    let further = further_headers s j in
+    let more = further_of s j a in
+    let further = further_headers s j a in
     record {
       aimed = visible_target s j visible;
       valid = and_from _ _ (and_from _ _ host_token (both_true _ _ hosted).1) (all_valid more further);
       hosted = counts p host more (host_is_host (string_bytes s.host)) ∙ ap (λ (k : ℕ). 1 + k) (no_hosts more further);
-      ordinary = ordinary_headers s j;
+      ordinary = ordinary_headers s j a;
     }
 
 -- ---- nothing is refused

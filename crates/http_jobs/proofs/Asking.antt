@@ -32,7 +32,9 @@ use Rattle.http_jobs.specs.declared.service.Service.{Service}
 use Rattle.gear_packets.specs.Response.{AssignedJob}
 use Rattle.http_jobs.specs.Values.{is_sent}
 use Rattle.http_jobs.specs.Post.{AreOrdinary, IsOrdinary}
-use Rattle.http_jobs.specs.Request.{sent_header, headers_of}
+use Rattle.http_jobs.specs.declared.request.Attempt.{Attempt}
+use Rattle.http_jobs.specs.declared.request.Attempt.TheVariants as attempt
+use Rattle.http_jobs.specs.Request.{attempt_header, sent_header, headers_of}
 use Rattle.http_jobs.specs.Reading.{HasAsked}
 
 ordinary_both : (xs ys : List Header) → AreOrdinary xs → AreOrdinary ys → AreOrdinary (xs ++ ys)
@@ -66,16 +68,23 @@ ordinary_worker : (value : List ℕ) → IsOrdinary (codes "poolman-worker", val
 unfolding eq_ignore_case
 ordinary_worker value = record { framing = refl; upgrade = refl }
 
-pub ordinary_headers : (s : Service) (j : AssignedJob) → AreOrdinary (headers_of s j)
-ordinary_headers s j =
+ordinary_attempt : (a : Attempt) → AreOrdinary (attempt_header a)
+unfolding eq_ignore_case
+ordinary_attempt attempt.First = tt
+ordinary_attempt attempt.Second = (record { framing = refl; upgrade = refl }, tt)
+
+pub ordinary_headers : (s : Service) (j : AssignedJob) (a : Attempt) → AreOrdinary (headers_of s j a)
+ordinary_headers s j a =
     let host : List Header = (codes "host", string_bytes s.host) ∷ (codes "content-type", codes "application/octet-stream") ∷ [] in
     let first : AreOrdinary host = (ordinary_host (string_bytes s.host), (ordinary_type (codes "application/octet-stream"), tt)) in
     let handle = sent_header (codes "gearman-handle") j.handle in
     let unique = sent_header (codes "gearman-unique") j.unique in
     let worker = sent_header (codes "poolman-worker") (string_bytes s.worker) in
+    let named =
     ordinary_both ((host ++ handle) ++ unique) worker
     (ordinary_both (host ++ handle) unique (ordinary_both host handle first (ordinary_sent _ j.handle (ordinary_handle _))) (ordinary_sent _ j.unique (ordinary_unique _)))
-    (ordinary_sent _ (string_bytes s.worker) (ordinary_worker _))
+    (ordinary_sent _ (string_bytes s.worker) (ordinary_worker _)) in
+    ordinary_both (((host ++ handle) ++ unique) ++ worker) (attempt_header a) named (ordinary_attempt a)
 
 -- ---- what http1 makes of such headers
 

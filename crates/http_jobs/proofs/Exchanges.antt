@@ -14,9 +14,11 @@ use Rattle.http_jobs.specs.declared.sending.Unsent.{Unsent}
 use Rattle.http_jobs.specs.declared.sending.Unsent.TheVariants as unsent
 use Rattle.byte_io.specs.Deadline.{is_past}
 use Rattle.http_jobs.specs.Clock.{shown_then, InTime, IsLate}
-use Rattle.http_jobs.specs.Reasons.{Seen, NotReceived, NotSent}
+use Rattle.http_jobs.specs.declared.fault.Came.{Came}
+use Rattle.http_jobs.specs.declared.fault.Unanswered.{Unanswered}
+use Rattle.http_jobs.specs.Reasons.{HasCame, Seen, NotReceived, NotSent, came_of, why_of}
 use Rattle.http_jobs.specs.Reading.{StepFails, FillFails}
-use Rattle.http_jobs.specs.Exchange.{Sees, IsReceived, Explains}
+use Rattle.http_jobs.specs.Exchange.{Sees, Explains, ExplainsUnanswered}
 use Rattle.http_jobs.specs.Response.{head_limits}
 
 pub has_status : {status : Option ℕ} {code : ℕ} → status ≡ Some code → IsSome status
@@ -86,7 +88,7 @@ pub in_time_more : (deadline : Option ℕ) (times : List (Option ℕ)) (time : O
 in_time_more deadline [] time before e = (e, tt)
 in_time_more deadline (t ∷ times) time before e = (before.0, in_time_more deadline times time before.1 e)
 
-in_time_both : (deadline : Option ℕ) (times more : List (Option ℕ)) → InTime deadline times → InTime deadline more → InTime deadline (times ++ more)
+pub in_time_both : (deadline : Option ℕ) (times more : List (Option ℕ)) → InTime deadline times → InTime deadline more → InTime deadline (times ++ more)
 in_time_both deadline [] more before after = after
 in_time_both deadline (t ∷ times) more before after = (before.0, in_time_both deadline times more before.1 after)
 
@@ -106,6 +108,12 @@ step_fails limits deadline seen old new (Not (why.NoResponse e)) h = h
 step_fails limits deadline seen old new (Not (why.Status status)) h = h
 step_fails limits deadline seen old new (Not why.Endless) h = absurd h
 step_fails limits deadline seen old new Memory h = tt
+
+-- the same, with what came
+pub told : (limits : Limits) (deadline : Option ℕ) (seen : Seen) (old new : Input) (why : NotDone) (came : Came) (e : Unanswered) → NotReceived limits deadline seen old new why
+    → why_of e ≡ why → HasCame came e → came ≡ came_of seen.read → NotReceived limits deadline seen old new (why_of e) × HasCame (came_of seen.read) e
+told limits deadline seen old new why came e h is has same =
+    (subst (λ (w : NotDone). NotReceived limits deadline seen old new w) (sym is) h, subst (λ (k : Came). HasCame k e) same has)
 
 pub fill_fails : (limits : Limits) (deadline : Option ℕ) (seen : Seen) (first old new : Input) (e : NotDone) → old.failures ≡ first.failures → FillFails limits seen.read old new e → NotReceived limits deadline seen first new e
 fill_fails limits deadline seen first old new (Not (why.Unreachable reason)) same h = absurd h
@@ -152,12 +160,7 @@ not_received max deadline seen old new (Not why.Endless) h = h
 not_received max deadline seen old new Memory h = tt
 
 -- the result of a receive is that of the whole call
-pub received : (deadline : Option ℕ) (times : List (Option ℕ)) (max : ℕ) (seen : Seen) (old mid new : Link) (r : Result Received NotDone) → InTime deadline times → mid.input ≡ old.input → MatchResult r (IsReceived head_limits max seen.read) (NotReceived head_limits deadline seen mid.input new.input) → MatchResult r (IsReceived head_limits max seen.read) (Explains max deadline (before_it times seen) old new)
-received deadline times max seen old mid new (Ok done) before same h = h
-received deadline times max seen old mid new (Err e) before same h =
-    not_received max deadline (before_it times seen) old new e (not_received_after deadline times seen old.input mid.input new.input e before same h)
-
--- the limits are those of the client
-pub received_at : (limits now : Limits) (max : ℕ) (deadline : Option ℕ) (seen : Seen) (old new : Input) (r : Result Received NotDone) → limits ≡ now → MatchResult r (IsReceived limits max seen.read) (NotReceived limits deadline seen old new) → MatchResult r (IsReceived now max seen.read) (NotReceived now deadline seen old new)
-received_at limits now max deadline seen old new r same h =
-    subst (λ (l : Limits). MatchResult r (IsReceived l max seen.read) (NotReceived l deadline seen old new)) same h
+pub received : (deadline : Option ℕ) (times : List (Option ℕ)) (max : ℕ) (seen : Seen) (old mid new : Link) (e : Unanswered) → InTime deadline times → mid.input ≡ old.input
+    → NotReceived head_limits deadline seen mid.input new.input (why_of e) → HasCame (came_of seen.read) e → ExplainsUnanswered max deadline (before_it times seen) old new e
+received deadline times max seen old mid new e before same h has =
+    (not_received max deadline (before_it times seen) old new (why_of e) (not_received_after deadline times seen old.input mid.input new.input (why_of e) before same h), has)

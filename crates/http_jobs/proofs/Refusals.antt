@@ -5,12 +5,13 @@ use Rattle.byte_io.specs.Sides.{Input}
 use Rattle.job_runner.specs.Run.{Link}
 use Rattle.http_jobs.specs.declared.answers.Received.{Received}
 use Rattle.http_jobs.specs.declared.fault.NotDone.{NotDone}
+use Rattle.http_jobs.specs.declared.fault.Unanswered.{Unanswered}
 use Rattle.http_jobs.specs.declared.fault.NotDone.TheVariants.{Unserved as Not, Memory}
 use Rattle.http_jobs.specs.declared.fault.Unserved.TheVariants as why
 use Rattle.http_jobs.specs.Clock.{InTime}
-use Rattle.http_jobs.specs.Reasons.{Seen, HoldsNoRefusal, NotRefused}
+use Rattle.http_jobs.specs.Reasons.{HasCame, Seen, HoldsNoRefusal, NotRefused, came_of, why_of}
 use Rattle.http_jobs.specs.Response.{head_limits}
-use Rattle.http_jobs.specs.Exchange.{Explains, IsReceived}
+use Rattle.http_jobs.specs.Exchange.{Explains, ExplainsUnanswered, IsReceived}
 use Rattle.http_jobs.proofs.Exchanges.{before_it, not_received_after}
 
 -- times that were shown before
@@ -33,12 +34,9 @@ module _ (max : ℕ) (deadline : Option ℕ) (times : List (Option ℕ)) (seen :
   not_refused Memory h = tt
 
   -- what came after a write failed is that of the whole call
-  pub refused : (r : Result Received NotDone) → MatchResult r (IsReceived head_limits max seen.read) (NotRefused head_limits max deadline seen mid.input new.input)
-      → MatchResult r (IsReceived head_limits max seen.read) (Explains max deadline (before_it times seen) old new)
-  refused (Ok done) h = h
-  refused (Err e) h = not_refused e h
-
--- the limits are those of the client
-pub refused_at : (limits now : Limits) (max : ℕ) (deadline : Option ℕ) (seen : Seen) (old new : Input) (r : Result Received NotDone) → limits ≡ now → MatchResult r (IsReceived limits max seen.read) (NotRefused limits max deadline seen old new) → MatchResult r (IsReceived now max seen.read) (NotRefused now max deadline seen old new)
-refused_at limits now max deadline seen old new r same h =
-    subst (λ (l : Limits). MatchResult r (IsReceived l max seen.read) (NotRefused l max deadline seen old new)) same h
+  pub refused : (limits : Limits) (r : Result Received Unanswered) → limits ≡ head_limits
+      → MatchResult r (IsReceived limits max seen.read) (λ e. NotRefused limits max deadline seen mid.input new.input (why_of e) × HasCame (came_of seen.read) e)
+      → MatchResult r (IsReceived head_limits max seen.read) (ExplainsUnanswered max deadline (before_it times seen) old new)
+  refused limits (Ok received) limited h = subst (λ (l : Limits). IsReceived l max seen.read received) limited h
+  refused limits (Err e) limited h =
+      (not_refused (why_of e) (subst (λ (l : Limits). NotRefused l max deadline seen mid.input new.input (why_of e)) limited h.0), h.1)

@@ -12,10 +12,11 @@ use Rattle.http_jobs.specs.declared.answers.Received.TheVariants as received
 use Rattle.http_jobs.specs.declared.exchanging.Done.{Done}
 use Rattle.http_jobs.specs.declared.fault.NotDone.{NotDone}
 use Rattle.http_jobs.specs.declared.fault.NotDone.TheVariants.{Unserved as Not, Memory}
+use Rattle.http_jobs.specs.declared.fault.Unanswered.{Unanswered}
 use Rattle.http_jobs.specs.declared.fault.Unserved.TheVariants as why
 use Rattle.http_jobs.specs.declared.outcome.Failure.TheVariants.{Status, TooLarge}
 use Rattle.http_jobs.specs.Clock.{IsLate, shown_then}
-use Rattle.http_jobs.specs.Reasons.{Seen, HasStatus, HoldsNoRefusal}
+use Rattle.http_jobs.specs.Reasons.{Seen, HasCame, HasStatus, HoldsNoRefusal, came_of, why_of}
 use Rattle.http_jobs.specs.Response.{Answers, Replied, Reports, OnlyLarger, HoldsNoAnswer, NeverAnswers, failed_with, is_success}
 use Rattle.http_jobs.specs.Response.{ends_with_connection, head_limits, is_unserved, keeps_connection, reply_of}
 
@@ -90,3 +91,7 @@ Explains max deadline seen old new (Not (why.NoResponse e)) = NeverAnswers head_
 Explains max deadline seen old new (Not (why.Status status)) = HasStatus head_limits seen.read status
 Explains max deadline seen old new (Not why.Endless) = 2 ^ 64 - 1 ≤ length seen.read + seen.lulls
 Explains max deadline seen old new Memory = Unit {0}
+
+-- The same of a request without a response, and whether anything came.
+abbrev pub ExplainsUnanswered : ℕ → Option ℕ → Seen → Link → Link → Unanswered → Type 0
+ExplainsUnanswered max deadline seen old new e = Explains max deadline seen old new (why_of e) × HasCame (came_of seen.read) e

@@ -1,11 +1,15 @@
 -- Why a job was not done.
-use Rattle.std.specs.Prelude.{◌≡◌, ℕ, ◌+◌, ◌-◌, ◌^◌, ◌≤◌, ◌⊎◌, List, length, Option, true, IsTrue}
+use Rattle.std.specs.Prelude.{◌≡◌, ℕ, ◌+◌, ◌-◌, ◌^◌, ◌≤◌, ◌⊎◌, List, [], ◌∷◌, length, Option, true, IsTrue}
 use Rattle.httparse.specs.Grammar.{ResponseHead, status_code}
 use Rattle.http1.specs.Message.{Response}
 use Rattle.http1.specs.declared.conn.Limits.{Limits}
 use Rattle.byte_io.specs.Sides.{Input, Output}
 use Rattle.http_jobs.specs.declared.fault.NotDone.{NotDone}
 use Rattle.http_jobs.specs.declared.fault.NotDone.TheVariants.{Unserved as Not, Memory}
+use Rattle.http_jobs.specs.declared.fault.Came.{Came}
+use Rattle.http_jobs.specs.declared.fault.Came.TheVariants as came
+use Rattle.http_jobs.specs.declared.fault.Unanswered.{Unanswered}
+use Rattle.http_jobs.specs.declared.fault.Unanswered.TheVariants as unanswered
 use Rattle.http_jobs.specs.declared.fault.Unserved.{Unserved}
 use Rattle.http_jobs.specs.declared.fault.Unserved.TheVariants as why
 use Rattle.http_jobs.specs.declared.sending.Unsent.{Unsent}
@@ -18,6 +22,21 @@ pub record Seen : Type 0 where
   pub read : List ℕ
   pub lulls : ℕ
   pub times : List (Option ℕ)
+
+-- whether these bytes are any
+abbrev pub came_of : List ℕ → Came
+came_of [] = came.Nothing
+came_of (b ∷ bytes) = came.Bytes
+
+-- why a request has no response
+abbrev pub why_of : Unanswered → NotDone
+why_of (unanswered.Unserved reason came) = Not reason
+why_of unanswered.Memory = Memory
+
+-- so much came, as the reason says
+abbrev pub HasCame : Came → Unanswered → Type 0
+HasCame so_much (unanswered.Unserved reason came) = came ≡ so_much
+HasCame so_much unanswered.Memory = Unit {0}
 
 -- A status that answers no job came, in a head that is whole.
 abbrev pub HasStatus : Limits → List ℕ → ℕ → Type 0

@@ -8,6 +8,8 @@ use Rattle.http1.specs.Fields.{Header}
 use Rattle.http_jobs.specs.Post.{post_text}
 use Rattle.http_jobs.specs.Values.{is_sent}
 use Rattle.http_jobs.specs.declared.service.Service.{Service}
+use Rattle.http_jobs.specs.declared.request.Attempt.{Attempt}
+use Rattle.http_jobs.specs.declared.request.Attempt.TheVariants as attempt
 use Rattle.http_jobs.specs.declared.request.TheConstants.{UNRESERVED}
 
 -- the path of the service, a slash, and the function with all but unreserved characters percent-encoded
@@ -22,17 +24,23 @@ has_no_path name = (length name == 0) || (bytes_eq name (codes ".") || bytes_eq 
 abbrev pub sent_header : List ℕ → List ℕ → List Header
 sent_header name value = if is_sent value then (name, value) ∷ [] else []
 
+-- what says that a job is sent once more
+abbrev pub attempt_header : Attempt → List Header
+attempt_header attempt.First = []
+attempt_header attempt.Second = (codes "poolman-attempt", codes "2") ∷ []
+
 -- the headers, without the length
-abbrev pub headers_of : Service → AssignedJob → List Header
-headers_of s j =
+abbrev pub headers_of : Service → AssignedJob → Attempt → List Header
+headers_of s j attempt =
     (codes "host", string_bytes s.host) ∷ (codes "content-type", codes "application/octet-stream") ∷ []
     ++ sent_header (codes "gearman-handle") j.handle
     ++ sent_header (codes "gearman-unique") j.unique
     ++ sent_header (codes "poolman-worker") (string_bytes s.worker)
+    ++ attempt_header attempt
 
--- the request, head and body
-abbrev pub request_of : Service → AssignedJob → List ℕ
-request_of s j = post_text (target_of s j) (headers_of s j) j.payload
+-- the request, head and body, of a job that is sent for this time
+abbrev pub request_of : Service → AssignedJob → Attempt → List ℕ
+request_of s j attempt = post_text (target_of s j) (headers_of s j attempt) j.payload
 
 -- the most bytes of a body that a packet can hold beside the job's handle and the NUL that ends it
 abbrev pub most_body : AssignedJob → ℕ

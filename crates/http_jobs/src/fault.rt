@@ -1,5 +1,8 @@
 //! Why a job was not done.
 
+ghost use Rattle.std.specs.Prelude.{◌≡◌};
+ghost use Rattle.http_jobs.specs.Reasons.{HasCame, why_of};
+
 use devices::DialError;
 use http1::ReadError;
 use std::alloc::AllocError;
@@ -43,6 +46,63 @@ pub enum NotDone {
     /// There was no memory.
     #[error("out of memory")]
     Memory,
+}
+
+/// Whether anything came over a connection since a request was begun.
+#[derive(Clone, Copy, Debug, PartialEq, Eq)]
+pub enum Came {
+    /// Not a byte.
+    Nothing,
+    /// A byte at least.
+    Bytes,
+}
+
+/// Why a request has no response, and whether anything came.
+#[derive(Clone, Copy, Debug, PartialEq, Eq)]
+pub enum Unanswered {
+    /// The service did not serve it, for this reason, and so much came.
+    Unserved(Unserved, Came),
+    /// There was no memory.
+    Memory,
+}
+
+impl Unanswered {
+    /// A request was not answered, for this reason, and so much came.
+    pub(crate) fn of(why: NotDone, came: Came) -> Unanswered
+        ensures why { why_of result ≡ why }
+        ensures came { HasCame came result }
+    {
+        match why {
+            NotDone::Unserved(reason) => Unanswered::Unserved(reason, came),
+            NotDone::Memory => Unanswered::Memory,
+        }
+    }
+}
+
+impl From<AllocError> for Unanswered {
+    ghost use Rattle.std.specs.Prelude.{◌≡◌};
+    ghost use Rattle.http_jobs.specs.declared.fault.Unanswered.TheVariants.{Memory};
+
+    ghost from_gives = { λ _ e. e ≡ Memory };
+
+    fn from(_: AllocError) -> Unanswered {
+        Unanswered::Memory
+    }
+}
+
+/// It says no more whether anything came.
+impl From<Unanswered> for NotDone {
+    ghost use Rattle.std.specs.Prelude.{◌≡◌};
+    ghost use Rattle.http_jobs.specs.Reasons.{why_of};
+
+    ghost from_gives = { λ unanswered e. e ≡ why_of unanswered };
+
+    fn from(unanswered: Unanswered) -> NotDone {
+        match unanswered {
+            Unanswered::Unserved(reason, _) => NotDone::Unserved(reason),
+            Unanswered::Memory => NotDone::Memory,
+        }
+    }
 }
 
 impl From<AllocError> for NotDone {

@@ -4,9 +4,10 @@ ghost use Rattle.std.specs.Prelude.{◌≡◌, ◌++◌, ◌<◌, ◌≤◌, ◌
 ghost use Rattle.http1.specs.declared.conn.Limits.{Limits as Heads};
 ghost use Rattle.byte_io.specs.Sides.{and_then, counted};
 ghost use Rattle.http_jobs.specs.Reading.{Advanced, Closed, Filled, IsPartway, Stepped, Wants};
+ghost use Rattle.http_jobs.specs.Reasons.{came_of};
 ghost use Rattle.http_jobs.specs.Response.{is_unserved, most_fields};
 
-use crate::fault::{NotDone, Unserved};
+use crate::fault::{Came, NotDone, Unserved};
 use byte_io::{Source, Took};
 use http1::{Client, Event, ReadError};
 use httparse::spans::HeaderSpan;
@@ -28,6 +29,8 @@ pub struct ResponseReader {
     pub status: Option<u16>,
     /// What has come of its body.
     pub body: Vec<u8>,
+    /// Whether anything was read.
+    pub came: Came,
 }
 
 /// What one step came to.
@@ -78,6 +81,7 @@ impl ResponseReader {
         ensures at { result.at ≡ 0 }
         ensures status { result.status ≡ None }
         ensures body { result.body.items ≡ [] }
+        ensures came { result.came ≡ came_of [] }
     {
         ResponseReader {
             client,
@@ -85,6 +89,7 @@ impl ResponseReader {
             at: 0,
             status: None,
             body: Vec::new(alloc),
+            came: Came::Nothing,
         }
     }
 
@@ -94,6 +99,7 @@ impl ResponseReader {
         requires spans { length spans.old ≡ most_fields }
         ensures within { self.new.at ≤ length self.new.unread.items }
         ensures unread { self.new.unread.items ≡ self.old.unread.items }
+        ensures came { self.new.came ≡ self.old.came }
         ensures progress { result ≡ Ok Step.Continues → self.old.at < self.new.at }
         ensures steps { (limits : Heads) (read : List ℕ) → IsPartway limits read self.old → Stepped limits max_body read self.new result }
     {
@@ -146,6 +152,7 @@ impl ResponseReader {
         requires within { self.old.at ≤ length self.old.unread.items }
         requires spans { length spans.old ≡ most_fields }
         ensures within { self.new.at ≤ length self.new.unread.items }
+        ensures came { self.new.came ≡ self.old.came }
         ensures steps { (limits : Heads) (read : List ℕ) → IsPartway limits read self.old → Advanced limits max_body read self.new result }
     {
         loop {
@@ -167,6 +174,7 @@ impl ResponseReader {
         ensures within { self.new.at ≤ length self.new.unread.items }
         ensures fills { (more : List ℕ) × (lulls : ℕ) × ((L.input link.new).given ≡ and_then (L.input link.old).given more)
             × ((L.input link.new).lulls ≡ counted (L.input link.old).lulls lulls) × (result ≡ Ok Fill.More → 1 ≤ length more + lulls)
+            × ((read : List ℕ) → self.old.came ≡ came_of read → self.new.came ≡ came_of (read ++ more))
             × ((limits : Heads) (read : List ℕ) → IsPartway limits read self.old → Wants limits read self.old
             → Filled limits (read ++ more) self.new (L.input link.old) (L.input link.new) result) }
         ensures output { L.output link.new ≡ L.output link.old }
@@ -182,6 +190,7 @@ impl ResponseReader {
                 Err(NotDone::Unserved(Unserved::Ended))
             }
             Ok(Took::Bytes(count)) => {
+                self.came = Came::Bytes;
                 self.keep(&buffer[..count])?;
                 Ok(Fill::More)
             }
@@ -194,6 +203,7 @@ impl ResponseReader {
         ensures within { self.new.at ≤ length self.new.unread.items }
         ensures closes { (limits : Heads) (read : List ℕ) → IsPartway limits read self.old → Wants limits read self.old
             → Closed limits read self.new result }
+        ensures came { self.new.came ≡ self.old.came }
     {
         match self.client.read_eof() {
             Ok(Event::End(_)) => true,
@@ -207,6 +217,7 @@ impl ResponseReader {
         ensures within { self.new.at ≤ length self.new.unread.items }
         ensures few { self.new.at < 16384 }
         ensures keeps { (limits : Heads) (read : List ℕ) → IsPartway limits read self.old → IsPartway limits read self.new }
+        ensures came { self.new.came ≡ self.old.came }
     {
         if self.at == self.unread.len() {
             self.unread.clear();
@@ -223,6 +234,7 @@ impl ResponseReader {
         ensures within { self.new.at ≤ length self.new.unread.items }
         ensures keeps { OnOk result ((limits : Heads) (read : List ℕ) → IsPartway limits read self.old
             → IsPartway limits (read ++ piece.now) self.new) }
+        ensures came { self.new.came ≡ self.old.came }
     {
         self.drop_consumed();
         self.unread.extend_from_slice(piece)?;

@@ -3,7 +3,7 @@
 ghost use Rattle.std.specs.Prelude.{◌≡◌, ◌++◌, string_bytes, IfOk, OnOk};
 ghost use Rattle.http1.specs.Head.{pairs};
 ghost use Rattle.gear_packets.specs.Reading.{job_of};
-ghost use Rattle.http_jobs.specs.Request.{target_of, sent_header, headers_of, has_no_path, most_body};
+ghost use Rattle.http_jobs.specs.Request.{attempt_header, target_of, sent_header, headers_of, has_no_path, most_body};
 
 use crate::service::Service;
 use crate::values::is_sent;
@@ -23,6 +23,15 @@ pub const UNRESERVED: AsciiSet = ascii_set!(
         .remove(b'_')
         .remove(b'~')
 );
+
+/// Which time a job is sent.
+#[derive(Clone, Copy, Debug, PartialEq, Eq)]
+pub enum Attempt {
+    /// The first time.
+    First,
+    /// Once more, over a new connection: the kept one ended or failed before a byte of a response came.
+    Second,
+}
 
 /// Whether a function of this name has no path of its own: the empty name, and `.` and `..`, of which servers make other paths.
 pub fn has_no_path(name: &[u8]) -> bool
@@ -62,13 +71,30 @@ fn push_sent<'h>(
     Ok(())
 }
 
+/// Adds the header that says that a job is sent once more, if it is.
+fn push_attempt(headers: &mut Vec<Header<'_>>, attempt: Attempt) -> Result<(), AllocError>
+    ensures { OnOk result (pairs headers.new.items ≡ pairs headers.old.items ++ attempt_header attempt) }
+{
+    match attempt {
+        Attempt::First => Ok(()),
+        Attempt::Second => {
+            headers.push(Header {
+                name: b"poolman-attempt",
+                value: b"2",
+            })?;
+            Ok(())
+        }
+    }
+}
+
 /// The headers of a job's request, without its length.
 pub fn headers<'h>(
     alloc: Global,
     service: &'h Service,
     job: &'h Assignment,
+    attempt: Attempt,
 ) -> Result<Vec<Header<'h>>, AllocError>
-    ensures { IfOk result (λ headers. pairs headers.items ≡ headers_of service.now (job_of job.now)) }
+    ensures { IfOk result (λ headers. pairs headers.items ≡ headers_of service.now (job_of job.now) attempt) }
 {
     let mut headers = Vec::new(alloc);
     headers.push(Header {
@@ -82,5 +108,6 @@ pub fn headers<'h>(
     push_sent(&mut headers, b"gearman-handle", job.handle.bytes())?;
     push_sent(&mut headers, b"gearman-unique", job.unique.as_slice())?;
     push_sent(&mut headers, b"poolman-worker", service.worker.as_bytes())?;
+    push_attempt(&mut headers, attempt)?;
     Ok(headers)
 }

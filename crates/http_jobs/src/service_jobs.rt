@@ -6,16 +6,18 @@ ghost use Rattle.http_jobs.specs.Response.{reply_of};
 ghost use Rattle.std.specs.Option.{option_map};
 ghost use Rattle.job_runner.specs.Run.{seen_link};
 ghost use Rattle.byte_io.specs.Deadline as spec;
-ghost use Rattle.http_jobs.specs.Serving.{DialCall, IsNew, IsOpened, Leaves, NotServed, Opens, Reuses, Tells, Tries, closed, closings};
-ghost use Rattle.http_jobs.specs.Serving.{dialled, failed, kept_failures, visible, then_called};
+ghost use Rattle.http_jobs.specs.Serving as serving;
+ghost use Rattle.http_jobs.specs.Serving.{AnsweredNew, AnsweredOver, DialCall, DropsKept, IsNew, IsOpened, Leaves, NotAnswered, NotServed};
+ghost use Rattle.http_jobs.specs.Serving.{Served, TakesKept, Tells, Tries, UnansweredNew, UnansweredOver, Visible, closed, dialled};
+ghost use Rattle.http_jobs.specs.Serving.{kept_failures, visible, then_called};
 ghost use Rattle.http_jobs.specs.Clock.{shown_then};
 
-use crate::clock::Clock;
-use crate::exchanging::exchange;
-use crate::fault::NotDone;
+use crate::clock::{Clock, is_late};
+use crate::exchanging::{Sending, exchange};
+use crate::fault::{Came, NotDone, Unanswered, Unserved};
 use crate::look::Look;
 use crate::outcome::Reply;
-use crate::request::has_no_path;
+use crate::request::{Attempt, has_no_path};
 use crate::service::Service;
 use byte_io::{Sink, Source, deadline_from, is_past};
 use devices::DialError;
@@ -93,13 +95,48 @@ struct Start {
     is_idle: bool,
 }
 
+/// Whether a job is sent once more that was cut off over the kept connection before a byte of a response came.
+#[derive(Clone, Copy, Debug, PartialEq, Eq)]
+pub enum Resend {
+    /// It is, over a new connection, and its request says so.
+    Once,
+    /// It is not.
+    Never,
+}
+
+/// What holds for a job.
+#[derive(Clone, Copy, Debug, PartialEq, Eq)]
+pub struct JobTerms {
+    /// How many milliseconds it has, from its start until its response is whole.
+    pub timeout_ms: u64,
+    /// Whether it is sent once more.
+    pub resend: Resend,
+}
+
+/// Whether the connection ended, or a read or a write of it failed.
+fn is_cut(reason: Unserved) -> bool
+    ensures { result ≡ serving.is_cut reason }
+{
+    matches!(reason, Unserved::Ended | Unserved::Read | Unserved::Write)
+}
+
+/// Whether a job that was not answered over the kept connection is sent once more.
+fn is_sent_again(resend: Resend, unanswered: Unanswered) -> bool
+    ensures { result ≡ serving.is_sent_again resend unanswered }
+{
+    match (resend, unanswered) {
+        (Resend::Once, Unanswered::Unserved(reason, Came::Nothing)) => is_cut(reason),
+        _ => false,
+    }
+}
+
 /// The jobs of a service, which does each by one request and one response. The connection is kept from one to the next if it can be.
 #[derive(Drop)]
 pub struct ServiceJobs<L: Source + Sink, D, C> {
     service: Service,
     dial: D,
     clock: C,
-    timeout_ms: u64,
+    terms: JobTerms,
     kept: Option<L>,
     /// When the kept connection was opened, or its last job began, if that is known.
     used_at: Option<u64>,
@@ -107,33 +144,33 @@ pub struct ServiceJobs<L: Source + Sink, D, C> {
 }
 
 impl<L: Source + Sink + Look + Drop, D: Dial<L>, C: Clock> ServiceJobs<L, D, C> {
-    /// Jobs for which no connection was opened yet. A job has so many milliseconds, from its start until its response is whole.
-    pub fn new(service: Service, dial: D, clock: C, timeout_ms: u64) -> ServiceJobs<L, D, C>
+    /// Jobs for which no connection was opened yet, and the terms of the first ones.
+    pub fn new(service: Service, dial: D, clock: C, terms: JobTerms) -> ServiceJobs<L, D, C>
         ensures service { result.service ≡ service }
         ensures dial { result.dial ≡ dial }
         ensures clock { result.clock ≡ clock }
-        ensures timeout { result.timeout_ms ≡ timeout_ms }
+        ensures terms { result.terms ≡ terms }
         ensures kept { result.kept ≡ None }
     {
         ServiceJobs {
             service,
             dial,
             clock,
-            timeout_ms,
+            terms,
             kept: None,
             used_at: None,
         }
     }
 
-    /// Gives the jobs that come so many milliseconds each.
-    pub fn set_timeout(&mut self, timeout_ms: u64)
-        ensures timeout { self.new.timeout_ms ≡ timeout_ms }
+    /// Gives the jobs that come these terms.
+    pub fn set_terms(&mut self, terms: JobTerms)
+        ensures terms { self.new.terms ≡ terms }
         ensures service { self.new.service ≡ self.old.service }
         ensures dial { self.new.dial ≡ self.old.dial }
         ensures clock { self.new.clock ≡ self.old.clock }
         ensures kept { self.new.kept ≡ self.old.kept }
     {
-        self.timeout_ms = timeout_ms;
+        self.terms = terms;
     }
 
     /// Opens a connection, if none is kept. The error says why none could be opened.
@@ -142,7 +179,7 @@ impl<L: Source + Sink + Look + Drop, D: Dial<L>, C: Clock> ServiceJobs<L, D, C> 
             (visible L.input L.output L.quiet self.new.kept (D.calls self.new.dial) (C.shown self.new.clock)) result }
         ensures host { D.host self.new.dial ≡ D.host self.old.dial }
         ensures service { self.new.service ≡ self.old.service }
-        ensures timeout { self.new.timeout_ms ≡ self.old.timeout_ms }
+        ensures terms { self.new.terms ≡ self.old.terms }
     {
         if self.kept.is_some() {
             return Ok(());
@@ -166,10 +203,14 @@ impl<L: Source + Sink + Look + Drop, D: Dial<L>, C: Clock> ServiceJobs<L, D, C> 
         ensures sound { kept_failures L.input L.output result ≡ 0 }
         ensures clock { self.new.clock ≡ self.old.clock }
         ensures service { self.new.service ≡ self.old.service }
-        ensures timeout { self.new.timeout_ms ≡ self.old.timeout_ms }
-        ensures reuses { (calls : List DialCall) × (D.calls self.new.dial ≡ then_called (D.calls self.old.dial) calls)
-            × Reuses (visible L.input L.output L.quiet self.old.kept (D.calls self.old.dial) (C.shown self.old.clock)) calls
-            (option_map (seen_link L.input L.output) result) }
+        ensures terms { self.new.terms ≡ self.old.terms }
+        ensures taken { IfSome result (λ link. TakesKept
+            (visible L.input L.output L.quiet self.old.kept (D.calls self.old.dial) (C.shown self.old.clock))
+            (seen_link L.input L.output link)
+            (visible L.input L.output L.quiet self.new.kept (D.calls self.new.dial) (C.shown self.new.clock))) }
+        ensures dropped { result ≡ None → DropsKept
+            (visible L.input L.output L.quiet self.old.kept (D.calls self.old.dial) (C.shown self.old.clock))
+            (visible L.input L.output L.quiet self.new.kept (D.calls self.new.dial) (C.shown self.new.clock)) }
         ensures host { D.host self.new.dial ≡ D.host self.old.dial }
     {
         let link = self.kept.take()?;
@@ -178,26 +219,6 @@ impl<L: Source + Sink + Look + Drop, D: Dial<L>, C: Clock> ServiceJobs<L, D, C> 
         }
         hang_up(&mut self.dial, link);
         None
-    }
-
-    /// The kept connection, or a new one. The error says why none was opened.
-    fn connect(&mut self, start: Start) -> Result<L, DialError>
-        ensures kept { self.new.kept ≡ None }
-        ensures sound { IfOk result (λ link. (L.input link).failures + (L.output link).failures ≡ 0) }
-        ensures clock { self.new.clock ≡ self.old.clock }
-        ensures service { self.new.service ≡ self.old.service }
-        ensures timeout { self.new.timeout_ms ≡ self.old.timeout_ms }
-        ensures opens { IfOk result (λ link. (calls : List DialCall) × (D.calls self.new.dial ≡ then_called (D.calls self.old.dial) calls)
-            × Opens (visible L.input L.output L.quiet self.old.kept (D.calls self.old.dial) (C.shown self.old.clock)) calls
-            (seen_link L.input L.output link)) }
-        ensures fails { IfErr result (λ why. D.calls self.new.dial
-            ≡ then_called (D.calls self.old.dial) (closings (option_map (seen_link L.input L.output) self.old.kept) ++ failed why ∷ [])) }
-        ensures host { D.host self.new.dial ≡ D.host self.old.dial }
-    {
-        if let Some(link) = self.reuse(start.is_idle) {
-            return Ok(link);
-        }
-        self.dial.dial(start.deadline)
     }
 
     /// Keeps a connection after its job, or closes it.
@@ -209,7 +230,7 @@ impl<L: Source + Sink + Look + Drop, D: Dial<L>, C: Clock> ServiceJobs<L, D, C> 
         ensures host { D.host self.new.dial ≡ D.host self.old.dial }
         ensures clock { self.new.clock ≡ self.old.clock }
         ensures service { self.new.service ≡ self.old.service }
-        ensures timeout { self.new.timeout_ms ≡ self.old.timeout_ms }
+        ensures terms { self.new.terms ≡ self.old.terms }
     {
         if is_kept {
             self.kept = Some(link);
@@ -221,61 +242,178 @@ impl<L: Source + Sink + Look + Drop, D: Dial<L>, C: Clock> ServiceJobs<L, D, C> 
     /// Starts a job now.
     fn start(&mut self) -> Start
         ensures shown { (time : Option ℕ) × (C.shown self.new.clock ≡ shown_then (C.shown self.old.clock) (time ∷ []))
-            × (result.deadline ≡ spec.deadline_from self.old.timeout_ms time) }
+            × (result.deadline ≡ spec.deadline_from self.old.terms.timeout_ms time) }
         ensures kept { self.new.kept ≡ self.old.kept }
         ensures dial { self.new.dial ≡ self.old.dial }
         ensures service { self.new.service ≡ self.old.service }
-        ensures timeout { self.new.timeout_ms ≡ self.old.timeout_ms }
+        ensures terms { self.new.terms ≡ self.old.terms }
     {
         let now = self.clock.now_ms();
         let is_idle = is_past(deadline_from(IDLE_MS, self.used_at), now);
         // The connection has this job next, or is closed. The end of the job would cost another look at the clock.
         self.used_at = now;
         Start {
-            deadline: deadline_from(self.timeout_ms, now),
+            deadline: deadline_from(self.terms.timeout_ms, now),
             is_idle,
         }
     }
 
-    /// Does a job. None if its function has no path of its own: then nothing is sent.
-    ///
-    /// It is sent once at most: over the kept connection, or over a new one if there is none, or if that has ended, holds a byte that
-    /// nobody asked for, or was not used for 15 seconds. Unserved says that no answer came, and why.
-    pub fn serve(&mut self, alloc: Global, job: &Assignment) -> Result<Option<Reply>, NotDone>
-        ensures served { IfOk result (λ reply. Tells self.old.service self.old.timeout_ms
+    /// Sends a job over this connection, and reads the response to it. Then the connection is kept, or closed.
+    fn serve_over(
+        &mut self,
+        alloc: Global,
+        link: L,
+        job: &Assignment,
+        sending: Sending,
+    ) -> Result<Reply, Unanswered>
+        requires free { self.old.kept ≡ None }
+        requires sound { (L.input link).failures + (L.output link).failures ≡ 0 }
+        ensures answered { IfOk result (λ reply. AnsweredOver self.old.service sending
             (visible L.input L.output L.quiet self.old.kept (D.calls self.old.dial) (C.shown self.old.clock))
             (visible L.input L.output L.quiet self.new.kept (D.calls self.new.dial) (C.shown self.new.clock))
-            (job_of job.now) (option_map reply_of reply)) }
-        ensures failed { IfErr result (NotServed self.old.service self.old.timeout_ms
+            (job_of job.now) (seen_link L.input L.output link) (reply_of reply)) }
+        ensures unanswered { IfErr result (UnansweredOver self.old.service sending
             (visible L.input L.output L.quiet self.old.kept (D.calls self.old.dial) (C.shown self.old.clock))
             (visible L.input L.output L.quiet self.new.kept (D.calls self.new.dial) (C.shown self.new.clock))
-            (job_of job.now)) }
+            (job_of job.now) (seen_link L.input L.output link)) }
+        ensures closed { IfErr result (λ _. self.new.kept ≡ None) }
         ensures host { D.host self.new.dial ≡ D.host self.old.dial }
         ensures service { self.new.service ≡ self.old.service }
-        ensures timeout { self.new.timeout_ms ≡ self.old.timeout_ms }
+        ensures terms { self.new.terms ≡ self.old.terms }
     {
-        if has_no_path(job.function.as_slice()) {
-            return Ok(None);
-        }
-        let start = self.start();
-        let mut link = self.connect(start)?;
-        limit_untimed(&mut link, start.deadline, self.timeout_ms);
+        let mut link = link;
+        limit_untimed(&mut link, sending.deadline, self.terms.timeout_ms);
         match exchange(
             alloc,
             &mut link,
             &mut self.clock,
             &self.service,
             job,
-            start.deadline,
+            sending,
         ) {
             Ok(done) => {
                 self.leave(link, done.is_kept);
-                Ok(Some(done.reply))
+                Ok(done.reply)
             }
             Err(e) => {
                 self.leave(link, false);
                 Err(e)
             }
+        }
+    }
+
+    /// Does a job over a new connection.
+    fn serve_new(
+        &mut self,
+        alloc: Global,
+        job: &Assignment,
+        sending: Sending,
+    ) -> Result<Reply, NotDone>
+        requires free { self.old.kept ≡ None }
+        ensures answered { IfOk result (λ reply. AnsweredNew self.old.service sending
+            (visible L.input L.output L.quiet self.old.kept (D.calls self.old.dial) (C.shown self.old.clock))
+            (visible L.input L.output L.quiet self.new.kept (D.calls self.new.dial) (C.shown self.new.clock))
+            (job_of job.now) (reply_of reply)) }
+        ensures unanswered { IfErr result (UnansweredNew self.old.service sending
+            (visible L.input L.output L.quiet self.old.kept (D.calls self.old.dial) (C.shown self.old.clock))
+            (visible L.input L.output L.quiet self.new.kept (D.calls self.new.dial) (C.shown self.new.clock))
+            (job_of job.now)) }
+        ensures host { D.host self.new.dial ≡ D.host self.old.dial }
+        ensures service { self.new.service ≡ self.old.service }
+        ensures terms { self.new.terms ≡ self.old.terms }
+    {
+        let link = match self.dial.dial(sending.deadline) {
+            Ok(link) => link,
+            Err(why) => return Err(NotDone::from(why)),
+        };
+        match self.serve_over(alloc, link, job, sending) {
+            Ok(reply) => Ok(reply),
+            Err(unanswered) => Err(NotDone::from(unanswered)),
+        }
+    }
+
+    /// Does a job over the connection that was kept. If it was cut off there before a byte of a response came, and may be sent once more, it is
+    /// done over a new one.
+    fn serve_kept(
+        &mut self,
+        alloc: Global,
+        link: L,
+        job: &Assignment,
+        deadline: Option<u64>,
+    ) -> Result<Reply, NotDone>
+        requires free { self.old.kept ≡ None }
+        requires sound { (L.input link).failures + (L.output link).failures ≡ 0 }
+        ensures answered { (old : Visible) → TakesKept old (seen_link L.input L.output link)
+            (visible L.input L.output L.quiet self.old.kept (D.calls self.old.dial) (C.shown self.old.clock))
+            → IfOk result (λ reply. Served self.old.service self.old.terms.resend deadline old
+            (visible L.input L.output L.quiet self.new.kept (D.calls self.new.dial) (C.shown self.new.clock))
+            (job_of job.now) (reply_of reply)) }
+        ensures unanswered { (old : Visible) → TakesKept old (seen_link L.input L.output link)
+            (visible L.input L.output L.quiet self.old.kept (D.calls self.old.dial) (C.shown self.old.clock))
+            → IfErr result (NotAnswered self.old.service self.old.terms.resend deadline old
+            (visible L.input L.output L.quiet self.new.kept (D.calls self.new.dial) (C.shown self.new.clock))
+            (job_of job.now)) }
+        ensures host { D.host self.new.dial ≡ D.host self.old.dial }
+        ensures service { self.new.service ≡ self.old.service }
+        ensures terms { self.new.terms ≡ self.old.terms }
+    {
+        let first = Sending {
+            attempt: Attempt::First,
+            deadline,
+        };
+        let unanswered = match self.serve_over(alloc, link, job, first) {
+            Ok(reply) => return Ok(reply),
+            Err(unanswered) => unanswered,
+        };
+        if !is_sent_again(self.terms.resend, unanswered) {
+            return Err(NotDone::from(unanswered));
+        }
+        if is_late(&mut self.clock, deadline) {
+            return Err(NotDone::from(unanswered));
+        }
+        let second = Sending {
+            attempt: Attempt::Second,
+            deadline,
+        };
+        self.serve_new(alloc, job, second)
+    }
+
+    /// Does a job. None if its function has no path of its own: then nothing is sent.
+    ///
+    /// It is sent over the kept connection, or over a new one if there is none, or if that has ended, holds a byte that nobody asked for, or
+    /// was not used for 15 seconds. If the kept connection ends or fails before a byte of a response, as one does that the service closed when
+    /// the job came, the job is sent once more, over a new one and by the same deadline, and its request says so by a header. That is not done
+    /// if its terms say so. Unserved says that no answer came, and why the last time.
+    pub fn serve(&mut self, alloc: Global, job: &Assignment) -> Result<Option<Reply>, NotDone>
+        ensures served { IfOk result (λ reply. Tells self.old.service self.old.terms
+            (visible L.input L.output L.quiet self.old.kept (D.calls self.old.dial) (C.shown self.old.clock))
+            (visible L.input L.output L.quiet self.new.kept (D.calls self.new.dial) (C.shown self.new.clock))
+            (job_of job.now) (option_map reply_of reply)) }
+        ensures failed { IfErr result (NotServed self.old.service self.old.terms
+            (visible L.input L.output L.quiet self.old.kept (D.calls self.old.dial) (C.shown self.old.clock))
+            (visible L.input L.output L.quiet self.new.kept (D.calls self.new.dial) (C.shown self.new.clock))
+            (job_of job.now)) }
+        ensures host { D.host self.new.dial ≡ D.host self.old.dial }
+        ensures service { self.new.service ≡ self.old.service }
+        ensures terms { self.new.terms ≡ self.old.terms }
+    {
+        if has_no_path(job.function.as_slice()) {
+            return Ok(None);
+        }
+        let start = self.start();
+        let done = match self.reuse(start.is_idle) {
+            Some(link) => self.serve_kept(alloc, link, job, start.deadline),
+            None => {
+                let first = Sending {
+                    attempt: Attempt::First,
+                    deadline: start.deadline,
+                };
+                self.serve_new(alloc, job, first)
+            }
+        };
+        match done {
+            Ok(reply) => Ok(Some(reply)),
+            Err(e) => Err(e),
         }
     }
 }
@@ -284,15 +422,15 @@ impl<L: Source + Sink + Look + Drop, D: Dial<L>, C: Clock> ServiceJobs<L, D, C> 
 impl<L: Source + Sink + Look + Drop, D: Dial<L>, C: Clock> Jobs for ServiceJobs<L, D, C> {
     ghost use Rattle.http_jobs.specs.Serving.{IsDoneBy, IsNotDoneBy, visible};
 
-    ghost tells = { λ before after job told. IsDoneBy before.service before.timeout_ms
+    ghost tells = { λ before after job told. IsDoneBy before.service before.terms
         (visible L.input L.output L.quiet before.kept (D.calls before.dial) (C.shown before.clock))
         (visible L.input L.output L.quiet after.kept (D.calls after.dial) (C.shown after.clock))
-        after.service after.timeout_ms job told };
+        after.service after.terms job told };
 
-    ghost fails = { λ before after job error. IsNotDoneBy before.service before.timeout_ms
+    ghost fails = { λ before after job error. IsNotDoneBy before.service before.terms
         (visible L.input L.output L.quiet before.kept (D.calls before.dial) (C.shown before.clock))
         (visible L.input L.output L.quiet after.kept (D.calls after.dial) (C.shown after.clock))
-        after.service after.timeout_ms job error };
+        after.service after.terms job error };
 
     fn run(
         &mut self,

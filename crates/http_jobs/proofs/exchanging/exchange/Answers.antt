@@ -13,20 +13,20 @@ use Rattle.http_jobs.proofs.exchanging.exchange.Goals as goal
 pub returns-in_err-target-clause-exchanged : goal.returns-in_err-target-clause-exchanged
 returns-in_err-target-clause-exchanged g c =
     let p = err_from_is_err_and c.from_residual.result c.from_residual.ensures.1 in
-    (nothing, sees_nothing (g.L.Device.input c.args.link.now) (g.C.Clock.shown c.args.clock.now), rw p.1 tt, rw (p.1, p.2) tt)
+    (nothing, sees_nothing (g.L.Device.input c.args.link.now) (g.C.Clock.shown c.args.clock.now), rw p.1 tt, rw (p.1, p.2) (tt, tt))
 
 pub returns-in_err-headers-clause-exchanged : goal.returns-in_err-headers-clause-exchanged
 returns-in_err-headers-clause-exchanged g c =
     let p = err_from_is_err_and c.from_residual-in_err-headers.result c.from_residual-in_err-headers.ensures.1 in
-    (nothing, sees_nothing (g.L.Device.input c.args.link.now) (g.C.Clock.shown c.args.clock.now), rw p.1 tt, rw (p.1, p.2) tt)
+    (nothing, sees_nothing (g.L.Device.input c.args.link.now) (g.C.Clock.shown c.args.clock.now), rw p.1 tt, rw (p.1, p.2) (tt, tt))
 
-pub ask-requires-clause-sendable : goal.ask-requires-clause-sendable
-ask-requires-clause-sendable g c =
+pub answer_to-requires-clause-sendable : goal.answer_to-requires-clause-sendable
+answer_to-requires-clause-sendable g c =
     let service = c.args.service.now in
     let job = job_of c.args.job.now in
     let same_target : c.as_bytes.result.now ≡ target_of service job = c.as_bytes.ensures.value ∙ c.in_ok-target.ensures in
-    let same_headers : pairs c.as_slice.result.now ≡ headers_of service job = ap pairs c.as_slice.ensures.value ∙ c.in_ok-headers.ensures in
-    subst₂ CanBeSent (sym same_target) (sym same_headers) (job_can_be_sent service job service.hosted service.visible)
+    let same_headers : pairs c.as_slice.result.now ≡ headers_of service job c.args.sending.attempt = ap pairs c.as_slice.ensures.value ∙ c.in_ok-headers.ensures in
+    subst₂ CanBeSent (sym same_target) (sym same_headers) (job_can_be_sent service job c.args.sending.attempt service.hosted service.visible)
 
 pub returns-clause-exchanged : goal.returns-clause-exchanged
 returns-clause-exchanged g c =
