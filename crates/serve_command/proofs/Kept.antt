@@ -11,7 +11,7 @@ use Rattle.http_jobs.specs.declared.outcome.Reply.{Reply}
 use Rattle.http_jobs.specs.declared.service.Service.{Service}
 use Rattle.job_runner.specs.Told.{Told}
 use Rattle.job_runner.specs.declared.jobs.NotDone as session
-use Rattle.serve_command.specs.Farm.{Farm, retries_in, timeout_in}
+use Rattle.serve_command.specs.Farm.{Farm, retries_in, terms_in}
 use Rattle.serve_command.specs.ServiceJobs.{Does, IsSettled}
 
 pub of_ok : {A E : Type 0} (P : A → Type 0) (r : Result A E) (x : A) → r ≡ Ok x → IfOk r P → P x
@@ -31,8 +31,8 @@ heard C D E F G H P r why (Err error) c d e f g h failed told p =
 -- what a job told that was settled
 pub told_if_settled : (farm : Farm) (service : Service) (before after : Visible) (job : AssignedJob) (served settled : Result (Option Reply) NotDone)
     (reply : Option Reply) (told : Option Told)
-    → IfOk served (λ r. Tells service (timeout_in farm job.function) before after job (option_map reply_of r))
-    → IfErr served (NotServed service (timeout_in farm job.function) before after job)
+    → IfOk served (λ r. Tells service (terms_in farm job.function) before after job (option_map reply_of r))
+    → IfErr served (NotServed service (terms_in farm job.function) before after job)
     → IsSettled (retries_in farm job.function) served settled → settled ≡ Ok reply → told ≡ told_in (option_map reply_of reply)
     → Does farm service before after job told
 told_if_settled farm service before after job served settled reply told answered failed (inl same) is tells =

@@ -4,24 +4,25 @@ use Rattle.std.specs.Prelude.{IfSome}
 use Rattle.gear_packets.specs.Response.{AssignedJob}
 use Rattle.http_jobs.specs.Serving.{HasNew, IsNotDoneBy, NotServed, Visible}
 use Rattle.http_jobs.specs.declared.service.Service.{Service}
+use Rattle.http_jobs.specs.declared.service_jobs.JobTerms.{JobTerms}
 use Rattle.job_runner.specs.Run.{EndTold, IsLeftBy}
 use Rattle.job_runner.specs.Told.{AreTold, Telling, Told}
 use Rattle.job_runner.specs.declared.end.EndCause.{EndCause}
 use Rattle.job_runner.specs.declared.jobs.NotDone as session
 use Rattle.pool_supervisor.proofs.Sessions.{all_covered}
 use Rattle.pool_supervisor.specs.Sessions.{AllHad, HadJobs, PastSession}
-use Rattle.serve_command.specs.Farm.{Farm, IsServiceOf, timeout_in}
+use Rattle.serve_command.specs.Farm.{Farm, IsServiceOf, terms_in}
 use Rattle.serve_command.specs.ServiceJobs.{Does, DoesNot, HadServiceJobs}
 use Rattle.worker_state.specs.declared.slot.WorkerName.{WorkerName}
 
--- what a value that does jobs has of its farm, its worker, its service and its time, which host it dials, and what it shows
+-- what a value that does jobs has of its farm, its worker, its service and its terms, which host it dials, and what it shows
 pub record Parts (J F : Type 0) : Type 0 where
   pub farm : J → F
   pub worker : J → WorkerName
   pub machine : J → ℕ
   pub now : F → Farm
   pub service : J → Service
-  pub time : J → ℕ
+  pub terms : J → JobTerms
   pub host : J → Option (List ℕ)
   pub see : J → Visible
 
@@ -30,13 +31,13 @@ tells_of p before after job told =
     (p.farm after ≡ p.farm before) × (p.worker after ≡ p.worker before) × (p.machine after ≡ p.machine before)
     × (p.host after ≡ p.host before)
     × Does (p.now (p.farm before)) (p.service before) (p.see before) (p.see after) job told
-    × (p.service after ≡ p.service before) × (p.time after ≡ timeout_in (p.now (p.farm before)) job.function)
+    × (p.service after ≡ p.service before) × (p.terms after ≡ terms_in (p.now (p.farm before)) job.function)
 
 abbrev pub fails_of : {J F : Type 0} → Parts J F → J → J → AssignedJob → session.NotDone → Type 0
 fails_of p before after job error =
     (p.farm after ≡ p.farm before) × (p.worker after ≡ p.worker before) × (p.machine after ≡ p.machine before)
     × (p.host after ≡ p.host before)
-    × IsNotDoneBy (p.service before) (timeout_in (p.now (p.farm before)) job.function) (p.see before) (p.see after) (p.service after) (p.time after) job error
+    × IsNotDoneBy (p.service before) (terms_in (p.now (p.farm before)) job.function) (p.see before) (p.see after) (p.service after) (p.terms after) job error
 
 abbrev pub gives_of : {J F : Type 0} → Parts J F → F → WorkerName → J → Type 0
 gives_of p farm worker given = (p.farm given ≡ farm) × IsServiceOf (p.now farm) worker (p.service given) × HasNew (p.see given).kept
@@ -65,11 +66,11 @@ is_left p farm service last new reason own is (inl rests) = inl (ap p.see rests.
 is_left p farm service last new reason own is (inr failed) =
     let job = failed.0 in
     let not_done = failed.2.4 in
-    let not_served = subst (λ f. NotServed (p.service last) (timeout_in (p.now f) job.function) (p.see last) (p.see new) job not_done.0) own not_done.1 in
+    let not_served = subst (λ f. NotServed (p.service last) (terms_in (p.now f) job.function) (p.see last) (p.see new) job not_done.0) own not_done.1 in
     inr (
       job,
       failed.1,
-      (not_done.0, subst (λ s. NotServed s (timeout_in (p.now farm) job.function) (p.see last) (p.see new) job not_done.0) is not_served, not_done.2),
+      (not_done.0, subst (λ s. NotServed s (terms_in (p.now farm) job.function) (p.see last) (p.see new) job not_done.0) is not_served, not_done.2),
       failed.3,
     )
 

@@ -5,6 +5,8 @@ use Rattle.std.specs.Option.{option_map_or}
 use Rattle.http_jobs.specs.Service.{address_of}
 use Rattle.http_jobs.specs.Serving.{DialCall, opened}
 use Rattle.http_jobs.specs.declared.service.Service.{Service}
+use Rattle.http_jobs.specs.declared.service_jobs.JobTerms.{JobTerms}
+use Rattle.http_jobs.specs.declared.service_jobs.Resend.TheVariants.{Once}
 use Rattle.plan_commands.specs.Mistake.{Reads}
 use Rattle.plan_commands.specs.ServicesMistake.{ReadsServices}
 use Rattle.plan_commands.specs.declared.fault.Fault.{Fault}
@@ -41,6 +43,10 @@ IsRefused settings_text services_text f =
 abbrev pub timeout_in : Farm → List ℕ → ℕ
 timeout_in farm name = option_map_or (λ f. slice_index farm.services.timeouts f) (place_of farm.settings.functions name)
     farm.settings.job_timeout_ms
+
+-- The terms of a job of this function: its time, and that it is sent once more if it is cut off over the kept connection.
+abbrev pub terms_in : Farm → List ℕ → JobTerms
+terms_in farm name = record { timeout_ms = timeout_in farm name; resend = Once }
 
 -- how many times a job of this function that services leave unserved comes again before it fails, if that is bounded
 abbrev pub retries_in : Farm → List ℕ → Option ℕ

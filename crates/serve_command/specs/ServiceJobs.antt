@@ -12,13 +12,13 @@ use Rattle.job_runner.specs.Run.{EndTold}
 use Rattle.job_runner.specs.Told.{Told}
 use Rattle.job_runner.specs.declared.jobs.NotDone as session
 use Rattle.pool_supervisor.specs.Sessions.{PastSession}
-use Rattle.serve_command.specs.Farm.{Farm, IsServiceOf, retries_in, timeout_in}
+use Rattle.serve_command.specs.Farm.{Farm, IsServiceOf, retries_in, terms_in}
 
 -- The service was asked for the job over some connection, wherever that leads, at no look at the clock was the time of its function over,
 -- and the job reported what came back. Or its function has no path, and nothing was asked.
 abbrev pub TellsAnswer : Farm → Service → Visible → Visible → AssignedJob → Option Told → Type 0
 TellsAnswer farm service before after job told =
-    (reply : Option Replied) × Tells service (timeout_in farm job.function) before after job reply × (told ≡ told_in reply)
+    (reply : Option Replied) × Tells service (terms_in farm job.function) before after job reply × (told ≡ told_in reply)
 
 -- A job failed since services left it unserved, the last time for this reason, and more times than it may come again.
 pub record FailsForGood (retries : Option ℕ) (last : Unserved) (reply : Replied) : Type 0 where
@@ -31,7 +31,7 @@ pub record FailsForGood (retries : Option ℕ) (last : Unserved) (reply : Replie
 -- The service did not serve the job, and it failed for good by the bound of its function.
 abbrev pub GivesUp : Farm → Service → Visible → Visible → AssignedJob → Option Told → Type 0
 GivesUp farm service before after job told =
-    (last : Unserved) × (reply : Replied) × NotServed service (timeout_in farm job.function) before after job (Not last)
+    (last : Unserved) × (reply : Replied) × NotServed service (terms_in farm job.function) before after job (Not last)
     × FailsForGood (retries_in farm job.function) last reply × (told ≡ Some reply.told)
 
 -- The job was answered, or failed for good.
@@ -51,7 +51,7 @@ IsSettled retries done settled =
 -- The service did not do it, and the session heard of the reason as `as_of_session` says.
 abbrev pub DoesNot : Farm → Service → Visible → Visible → AssignedJob → session.NotDone → Type 0
 DoesNot farm service before after job error =
-    (why : NotDone) × NotServed service (timeout_in farm job.function) before after job why × (error ≡ as_of_session why)
+    (why : NotDone) × NotServed service (terms_in farm job.function) before after job why × (error ≡ as_of_session why)
 
 -- If the session was given jobs, it began with a new connection, which was kept. The service of its worker's machine was asked for its
 -- jobs, one after the other, each over the kept connection or a new one. Each told what was answered, or failed for good; and one that was

@@ -5,7 +5,7 @@ ghost use Rattle.pool_settings.specs.Slots.{machine_of, slots};
 ghost use Rattle.serve_command.specs.Farm as spec;
 ghost use Rattle.service_settings.specs.Keys.{connect_ms_of};
 
-use http_jobs::{CallTimes, Service};
+use http_jobs::{CallTimes, JobTerms, Resend, Service};
 use plan_commands::{Fault, read_services, read_settings};
 use plan_model::{MachineId, SlotId};
 use pool_settings::Settings;
@@ -64,6 +64,16 @@ impl Farm {
         match self.settings.function_named(function) {
             Some(function) => self.services.timeout_ms(function),
             None => self.settings.job_timeout_ms(),
+        }
+    }
+
+    /// The terms of a job of this function.
+    pub fn terms(&self, function: &[u8]) -> JobTerms
+        ensures { result ≡ spec.terms_in self.now function.now }
+    {
+        JobTerms {
+            timeout_ms: self.timeout_ms(function) as u64,
+            resend: Resend::Once,
         }
     }
 

@@ -13,7 +13,7 @@ use devices::DialError;
 use farm_hosts::{HostNews, HostSign, Hosts, LeftJob, MachineSlot, sign_of};
 use farm_notes::JobEnd;
 use gear_packets::{Assignment, Handle};
-use http_jobs::{Reply, ServiceJobs, dial_words, left_too_often};
+use http_jobs::{JobTerms, Reply, Resend, ServiceJobs, dial_words, left_too_often};
 use job_runner::{End, Jobs, NotDone, Outcome, Readiness};
 use plan_model::{FuncId, MachineId, SlotId};
 use pool_supervisor::JobSource;
@@ -21,6 +21,12 @@ use std::alloc::{AllocError, Global};
 use std::sync::{Mutex, Wait};
 use unserved_jobs::{UnservedJobs, is_left_too_often};
 use worker_state::WorkerName;
+
+/// The terms of a worker that has had no job yet. Each job has its own.
+const BEFORE_A_JOB: JobTerms = JobTerms {
+    timeout_ms: 0,
+    resend: Resend::Never,
+};
 
 /// Gives each worker of a farm the jobs of its machine's service.
 #[derive(Drop)]
@@ -95,7 +101,7 @@ impl<'e, H: FarmHost> JobSource for FarmSource<'e, H> {
             return None;
         };
         let dials = self.host.dials(host, farm.call_times());
-        let mut jobs = ServiceJobs::new(service, dials, self.host.times(), 0);
+        let mut jobs = ServiceJobs::new(service, dials, self.host.times(), BEFORE_A_JOB);
         let opened = jobs.open();
         self.books.files.note_opening(self.host);
         let turn = self.books.hosts.turn(self.host);
@@ -337,7 +343,7 @@ fn settle<R: Wait>(
 impl<'e, H: FarmHost> Jobs for FarmJobs<'e, H> {
     ghost use Rattle.std.specs.Prelude.{◌≡◌};
     ghost use Rattle.http_jobs.specs.Serving.{IsNotDoneBy, visible};
-    ghost use Rattle.serve_command.specs.Farm.{timeout_in};
+    ghost use Rattle.serve_command.specs.Farm.{terms_in};
     ghost use Rattle.serve_command.specs.ServiceJobs.{Does};
 
     ghost tells = { λ before after job told. (after.books.farm ≡ before.books.farm)
@@ -349,24 +355,24 @@ impl<'e, H: FarmHost> Jobs for FarmJobs<'e, H> {
         (visible H.Call.input H.Call.output H.Call.quiet after.jobs.kept (H.Dials.calls after.jobs.dial)
         (H.Times.shown after.jobs.clock)) job told
         × (after.jobs.service ≡ before.jobs.service)
-        × (after.jobs.timeout_ms ≡ timeout_in before.books.farm.now job.function) };
+        × (after.jobs.terms ≡ terms_in before.books.farm.now job.function) };
 
     ghost fails = { λ before after job error. (after.books.farm ≡ before.books.farm)
         × (after.worker ≡ before.worker) × (after.machine ≡ before.machine)
         × (H.Dials.host after.jobs.dial ≡ H.Dials.host before.jobs.dial)
-        × IsNotDoneBy before.jobs.service (timeout_in before.books.farm.now job.function)
+        × IsNotDoneBy before.jobs.service (terms_in before.books.farm.now job.function)
         (visible H.Call.input H.Call.output H.Call.quiet before.jobs.kept (H.Dials.calls before.jobs.dial)
         (H.Times.shown before.jobs.clock))
         (visible H.Call.input H.Call.output H.Call.quiet after.jobs.kept (H.Dials.calls after.jobs.dial)
         (H.Times.shown after.jobs.clock))
-        after.jobs.service after.jobs.timeout_ms job error };
+        after.jobs.service after.jobs.terms job error };
 
     fn run(&mut self, alloc: Global, job: Assignment) -> Result<Option<Outcome>, NotDone> {
         let farm = self.books.farm;
         let function = farm.settings.function_named(&job.function);
         self.books.tally.begin(self.host, function);
         let timeout_ms = self.books.farm.timeout_ms(&job.function);
-        self.jobs.set_timeout(timeout_ms as u64);
+        self.jobs.set_terms(self.books.farm.terms(&job.function));
         self.next_look = Mutex::new(NextLook::AfterJob);
         self.books.hosts.begin_job(self.host, self.machine);
         let served = self.jobs.serve(alloc, &job);

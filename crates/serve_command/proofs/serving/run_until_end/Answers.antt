@@ -29,7 +29,7 @@ returns g c =
       machine = λ j. j.machine;
       now = λ f. f.now;
       service = λ j. j.jobs.service;
-      time = λ j. j.jobs.timeout_ms;
+      terms = λ j. j.jobs.terms;
       host = λ j. g.H.Dials.Dial.host j.jobs.dial;
       see = λ j. visible g.H.Call.Device.input g.H.Call.Device.output g.H.Call.Look.quiet j.jobs.kept (g.H.Dials.Dial.calls j.jobs.dial) (g.H.Times.Clock.shown j.jobs.clock);
     } in
