@@ -2,7 +2,7 @@
 use Rattle.std.specs.Prelude.{ℕ, List, map}
 use Rattle.file_keys.specs.Keys.{AreInRange, Key, name_of, number_named, row_view}
 use Rattle.service_settings.specs.Services.{Services}
-use Rattle.service_settings.specs.declared.keys.TheConstants.{CONNECT_MS, FUNCTIONS, FUNCTION_KEYS, HOSTS, LISTEN, MACHINES, MACHINE_KEYS}
+use Rattle.service_settings.specs.declared.keys.TheConstants.{BACKLOG, CONNECT_MS, FUNCTIONS, FUNCTION_KEYS, HOSTS, LISTEN, MACHINES, MACHINE_KEYS}
 use Rattle.service_settings.specs.declared.keys.TheConstants.{PAGE, PAGE_KEYS, RETRIES, TIMEOUT_MS, TOP_KEYS, URL, VERSION}
 
 abbrev pub version_row : Key
@@ -34,6 +34,9 @@ listen_row = row_view (λ t. t.now) LISTEN
 
 abbrev pub hosts_row : Key
 hosts_row = row_view (λ t. t.now) HOSTS
+
+abbrev pub backlog_row : Key
+backlog_row = row_view (λ t. t.now) BACKLOG
 
 abbrev pub top_keys : List Key
 top_keys = map (row_view (λ t. t.now)) TOP_KEYS

@@ -13,7 +13,7 @@ use Rattle.pool_settings.specs.Settings.{Settings}
 use Rattle.pool_settings.specs.declared.place.Place.TheVariants as at
 use Rattle.pool_settings.specs.declared.place.Section.{Section}
 use Rattle.pool_settings.specs.declared.place.Section.TheVariants as section
-use Rattle.service_settings.specs.Keys.{function_keys, functions_row, hosts_row, listen_row, machine_keys, machines_row, page_keys}
+use Rattle.service_settings.specs.Keys.{backlog_row, function_keys, functions_row, hosts_row, listen_row, machine_keys, machines_row, page_keys}
 use Rattle.service_settings.specs.Keys.{page_row, retries_row, timeout_ms_row, top_keys, url_row, version_row}
 use Rattle.service_settings.specs.Services.{Page, Services, Url}
 use Rattle.service_settings.specs.Url.{is_https, url_of}
@@ -219,8 +219,12 @@ retries_for tree name = option_and_then (number_of retries_row) (entry_table sec
 abbrev pub hosts_in : Members → List (List ℕ)
 hosts_in page = filter_map as_str (option_map_or values_in (get_member hosts_key page) [])
 
+-- the backlog that is wanted: from 1, and none without the key
+abbrev pub backlog_in : Members → Option ℕ
+backlog_in page = number_of backlog_row page
+
 abbrev pub page_of : Members → Option Page
-page_of table = option_map (λ address. record { listen = address; hosts = hosts_in table }) (listen_in table)
+page_of table = option_map (λ address. record { listen = address; hosts = hosts_in table; backlog = backlog_in table }) (listen_in table)
 
 abbrev pub page_in : Members → Option Page
 page_in tree = option_and_then page_of (table_at page_key tree)

@@ -22,6 +22,8 @@ pub record Page : Type 0 where
   pub listen : List ℕ
   -- further names under which it is asked for
   pub hosts : List (List ℕ)
+  -- how many jobs may wait for each worker of a function, if the page is to say how many workers are missing
+  pub backlog : Option ℕ
 
 -- Machines and functions are numbered as in the settings.
 pub record Services : Type 0 where

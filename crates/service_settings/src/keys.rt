@@ -89,6 +89,16 @@ pub const HOSTS: Key = Row {
     help: "further names or addresses under which the page may be asked for",
 };
 
+pub const BACKLOG: Key = Row {
+    name: "backlog",
+    value: KeyValue::Number {
+        least: 1,
+        most: 4_294_967_295,
+    },
+    absent: Absent::Words("none"),
+    help: "how many jobs may wait for each worker of a function: with it the page says how many workers are missing",
+};
+
 /// How many keys the top table has.
 pub const TOP: usize = 6;
 
@@ -105,7 +115,7 @@ pub static FUNCTION_KEYS: [Key; 2] = [TIMEOUT_MS, RETRIES];
 pub static MACHINE_KEYS: [Key; 1] = [MACHINE_URL];
 
 /// The keys of the table `page`.
-pub static PAGE_KEYS: [Key; 2] = [LISTEN, HOSTS];
+pub static PAGE_KEYS: [Key; 3] = [LISTEN, HOSTS, BACKLOG];
 
 /// A row of a table for each key: its name and where it stands, what its value has to be, what a file without it means, and what it is for.
 /// The only error is out of memory.

@@ -1,6 +1,7 @@
 //! The page of a farm: where it is, and how it is asked for.
 
 ghost use Rattle.std.specs.Prelude.{◌≡◌, IfOk, IfSome, [], map, option_map, string_bytes, true};
+ghost use Rattle.std.specs.Int.NonZero.{non_zero_u32_get};
 ghost use Rattle.std.specs.List.{filter_map};
 ghost use Rattle.std.specs.Option.{option_map_or};
 ghost use Rattle.toml.specs.Data.{as_str, get_member};
@@ -9,11 +10,12 @@ ghost use Rattle.file_keys.specs.Hosts.{is_socket};
 ghost use Rattle.file_keys.specs.Tree.{values_in, values_of};
 ghost use Rattle.service_settings.specs.Reading as spec;
 
-use crate::keys::{HOSTS, LISTEN, PAGE};
+use crate::keys::{BACKLOG, HOSTS, LISTEN, PAGE};
 use crate::tree::table_at;
-use file_keys::{as_address, value_at};
+use file_keys::{as_address, number_of, value_at};
 use std::alloc::{AllocError, Global};
 use std::marker::Model;
+use std::num::NonZeroU32;
 use toml::{Table, Value};
 
 /// The page of a farm.
@@ -21,16 +23,22 @@ use toml::{Table, Value};
 pub struct Page {
     listen: String,
     hosts: Vec<String>,
+    backlog: Option<NonZeroU32>,
 }
 
 impl Model for Page {
-    ghost use Rattle.std.specs.Prelude.{◌≡◌, map, string_bytes, true};
+    ghost use Rattle.std.specs.Prelude.{◌≡◌, map, option_map, string_bytes, true};
+    ghost use Rattle.std.specs.Int.NonZero.{non_zero_u32_get};
     ghost use Rattle.file_keys.specs.Hosts.{is_socket};
     ghost use Rattle.service_settings.specs.Services as meant;
 
     ghost Value = { meant.Page };
 
-    ghost view = { λ p. record { listen = string_bytes p.listen; hosts = map (λ s. string_bytes s) p.hosts.items } };
+    ghost view = { λ p. record {
+      listen = string_bytes p.listen;
+      hosts = map (λ s. string_bytes s) p.hosts.items;
+      backlog = option_map non_zero_u32_get p.backlog;
+    } };
 
     ghost invariant = { λ p. is_socket (string_bytes p.listen) ≡ true };
 }
@@ -48,7 +56,11 @@ impl Page {
         };
         let listen = String::from_str(alloc, address)?;
         let hosts = hosts_of(alloc, table)?;
-        Ok(Some(Page { listen, hosts }))
+        Ok(Some(Page {
+            listen,
+            hosts,
+            backlog: backlog_in(table),
+        }))
     }
 
     /// The address and the port that the page is at: a text that is read as a socket's address, as `127.0.0.1:4780` or `[::1]:4780`.
@@ -65,6 +77,21 @@ impl Page {
     {
         &self.hosts
     }
+
+    /// How many jobs may wait for each worker of a function. With it the page says how many workers are missing; None: it does not.
+    pub fn backlog(&self) -> Option<NonZeroU32>
+        ensures { option_map non_zero_u32_get result ≡ self.now.backlog }
+    {
+        self.backlog
+    }
+}
+
+/// The backlog that is wanted, if a page has one.
+fn backlog_in(page: &Table) -> Option<NonZeroU32>
+    ensures { option_map non_zero_u32_get result ≡ spec.backlog_in (table_view page.now) }
+{
+    let number = number_of(&BACKLOG, page)?;
+    NonZeroU32::new(number)
 }
 
 /// The address that a page has, if it is one.

@@ -51,9 +51,14 @@ listen_line address = ended (codes "page listen " ++ address)
 abbrev pub host_line : List ℕ → List ℕ
 host_line host = ended (codes "page host " ++ host)
 
--- where the page is, and a line for each further name of it
+-- how many jobs may wait for each worker of a function
+abbrev pub backlog_line : ℕ → List ℕ
+backlog_line backlog = ended (codes "page backlog " ++ decimal backlog)
+
+-- where the page is, a line for each further name of it, and one of the wanted backlog, if there is one
 abbrev pub page_lines : Page → List ℕ
-page_lines page = listen_line page.listen ++ flat_map host_line page.hosts
+page_lines page =
+    listen_line page.listen ++ flat_map host_line page.hosts ++ option_map_or backlog_line page.backlog []
 
 -- what services mean, of which the file gives the keys of this tree
 abbrev pub services_meaning : Members → Settings → Services → List ℕ

@@ -1,6 +1,7 @@
 //! What services mean, as lines of one fact each.
 
-ghost use Rattle.std.specs.Prelude.{◌≡◌, ◌++◌, ◌<◌, [], OnOk, length, map, string_bytes};
+ghost use Rattle.std.specs.Prelude.{◌≡◌, ◌++◌, ◌<◌, [], OnOk, length, map, option_map, string_bytes};
+ghost use Rattle.std.specs.Int.NonZero.{non_zero_u32_get};
 ghost use Rattle.std.specs.List.{flat_map};
 ghost use Rattle.std.specs.Option.{option_map_or};
 ghost use Rattle.toml.specs.View.{table_view};
@@ -15,6 +16,7 @@ use pool_settings::Settings;
 use service_settings::{Page, Services, ServicesFile, TOP_KEYS};
 use std::alloc::AllocError;
 use std::fmt::Write;
+use std::num::NonZeroU32;
 
 fn push_number_line(out: &mut String, name: &str, number: u32, mark: &str) -> Result<(), AllocError>
     ensures { OnOk result (string_bytes out.new ≡ string_bytes out.old ++ spec.number_line name.now number mark.now) }
@@ -160,11 +162,29 @@ fn push_hosts(out: &mut String, hosts: &[String]) -> Result<(), AllocError>
     Ok(())
 }
 
+fn push_backlog_line(out: &mut String, backlog: u32) -> Result<(), AllocError>
+    ensures { OnOk result (string_bytes out.new ≡ string_bytes out.old ++ spec.backlog_line backlog) }
+{
+    write!(out, "page backlog {backlog}\n")
+}
+
+/// The wanted backlog, if there is one.
+fn push_backlog(out: &mut String, backlog: Option<NonZeroU32>) -> Result<(), AllocError>
+    ensures { OnOk result (string_bytes out.new
+        ≡ string_bytes out.old ++ option_map_or spec.backlog_line (option_map non_zero_u32_get backlog) []) }
+{
+    match backlog {
+        Some(backlog) => push_backlog_line(out, backlog.get()),
+        None => Ok(()),
+    }
+}
+
 fn push_page(out: &mut String, page: &Page) -> Result<(), AllocError>
     ensures { OnOk result (string_bytes out.new ≡ string_bytes out.old ++ spec.page_lines page.now) }
 {
     push_listen(out, page.listen())?;
-    push_hosts(out, page.hosts())
+    push_hosts(out, page.hosts())?;
+    push_backlog(out, page.backlog())
 }
 
 /// The page, if there is one.
