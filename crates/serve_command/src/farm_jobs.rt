@@ -293,6 +293,8 @@ struct Leaving {
     times: Option<u32>,
     /// How many times it may come again.
     retries: Option<u32>,
+    /// Whether it is in doubt if the machine's host serves jobs.
+    is_in_doubt: bool,
 }
 
 /// What a job comes to that was left unserved so often, if that is too often: it failed. None also if memory is refused: then it comes
@@ -315,7 +317,7 @@ fn given_up(
 
 /// What a job comes to that its worker leaves unserved. If it was left too often it failed, and is not known any more. Else the worker
 /// holds it for a while once its session has ended, if it was left before. Neither is so if the host is left alone: then the host fails
-/// and not the job, and another host may do it.
+/// and not the job, and another host may do it. While that is in doubt no job fails.
 fn settle<R: Wait>(
     rt: &R,
     alloc: Global,
@@ -332,9 +334,11 @@ fn settle<R: Wait>(
     if books.hosts.is_left_alone(rt, left.machine) {
         return done;
     }
-    if let Some(reply) = given_up(alloc, times, left.retries, &done) {
-        books.unserved.lock(rt).forget(job);
-        return Ok(Some(reply));
+    if !left.is_in_doubt {
+        if let Some(reply) = given_up(alloc, times, left.retries, &done) {
+            books.unserved.lock(rt).forget(job);
+            return Ok(Some(reply));
+        }
     }
     let _milliseconds = books.unserved.lock(rt).hold(left.worker, job);
     done
@@ -391,6 +395,7 @@ impl<'e, H: FarmHost> Jobs for FarmJobs<'e, H> {
             worker: self.worker,
             times: times_left,
             retries: farm.retries(&job.function),
+            is_in_doubt: self.books.hosts.doubt_ms(self.host, self.machine, left) > 0,
         };
         let done = settle(self.host, alloc, &self.books, &job.handle, left, served);
         self.books.tally.end(self.host, function, end_of(&done));
