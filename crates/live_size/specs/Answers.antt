@@ -52,6 +52,11 @@ pub record IsFarmOf (settings : Settings) (farm : Farm) : Type 0 where
   pub of_these : IsOf settings input
   pub is_its : farm ≡ farm_of settings unbounded input level
 
+-- A farm and its settings.
+pub record Posed : Type 0 where
+  pub settings : Settings
+  pub farm : Farm
+
 -- What is told is of the farm of a problem of some settings.
 pub record IsOfAFarm (answer : Answer) : Type 0 where
   pub settings : Settings

@@ -37,7 +37,11 @@ impl Model for LiveSize {
 }
 
 /// What the size of a farm of these settings says.
-fn size_of(alloc: Global, settings: &Settings, farm: &Farm) -> Result<LiveSize, AllocError>
+pub(crate) fn size_of(
+    alloc: Global,
+    settings: &Settings,
+    farm: &Farm,
+) -> Result<LiveSize, AllocError>
     requires { spec.IsFarmOf settings.now farm.now }
     ensures { IfOk result (spec.IsSizeOf settings.now farm.now) }
 {

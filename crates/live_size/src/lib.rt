@@ -7,9 +7,11 @@
 mod answer;
 mod farm;
 mod missing;
+mod posed;
 mod unbounded;
 
 pub use answer::LiveSize;
 pub use farm::farm_of;
 pub use missing::{ByMachine, Missing};
+pub use posed::PosedSize;
 pub use unbounded::Unbounded;
