@@ -5,6 +5,8 @@ use Rattle.std.specs.Fmt.{decimal}
 use Rattle.std.specs.List.{flat_map}
 use Rattle.farm_page.specs.declared.view.Evidence.{Evidence}
 use Rattle.farm_page.specs.declared.view.RelaxedPlan.{RelaxedPlan}
+use Rattle.farm_page.specs.declared.view.SizeView.{SizeView}
+use Rattle.farm_page.specs.declared.view.SizeView.TheVariants as size
 use Rattle.text_pieces.specs.Lines.{ended}
 
 -- each worker after a space
@@ -29,8 +31,15 @@ abbrev pub relaxed_text : Option RelaxedPlan → List ℕ
 relaxed_text None = []
 relaxed_text (Some plan) = plan_text plan
 
--- the number of the attempt, and what belongs to it: the lost workers, the status text, the report, and what is in force in place of a plan
-abbrev pub evidence_text : Evidence → Option RelaxedPlan → List ℕ
-evidence_text evidence relaxed =
+abbrev pub size_part : SizeView → List ℕ
+size_part size.NotAsked = []
+size_part size.NoRound = []
+size_part size.NoMemory = []
+size_part (size.Text attempt text) = part (codes "size") text.items
+
+-- The number of the attempt, and what belongs to it: the lost workers, the status text, the report, what is in force in place of a plan,
+-- and how many workers are missing.
+abbrev pub evidence_text : Evidence → Option RelaxedPlan → SizeView → List ℕ
+evidence_text evidence relaxed size =
     attempt_text evidence ++ part (codes "status") evidence.status.items ++ part (codes "report") evidence.report.items
-    ++ relaxed_text relaxed
+    ++ relaxed_text relaxed ++ size_part size

@@ -1,5 +1,5 @@
 -- What is measured of a farm, of a function and of a host.
-use Rattle.std.specs.Prelude.{ℕ, Bool, Option, Some, None, if◌then◌else◌, is_none, length, option_map}
+use Rattle.std.specs.Prelude.{ℕ, Bool, true, false, Option, Some, None, if◌then◌else◌, is_none, length, option_map}
 use Rattle.std.specs.Option.{option_map_or}
 use Rattle.farm_page.specs.Health.{is_ending, is_late}
 use Rattle.farm_page.specs.View.{has_plan}
@@ -13,6 +13,8 @@ use Rattle.farm_page.specs.declared.measured.HostNumber.TheVariants as host
 use Rattle.farm_page.specs.declared.view.FarmView.{FarmView}
 use Rattle.farm_page.specs.declared.view.FunctionView.{FunctionView}
 use Rattle.farm_page.specs.declared.view.HostView.{HostView}
+use Rattle.farm_page.specs.declared.view.MissingView.{MissingView}
+use Rattle.farm_page.specs.declared.view.MissingView.TheVariants as missing
 use Rattle.farm_page.specs.declared.view.Outcome.{Outcome}
 use Rattle.farm_page.specs.declared.view.Outcome.TheVariants.{Backlog, NoPlan, NoRound, Unreadable, Unserved}
 
@@ -39,6 +41,15 @@ unserved_of (NoRound why) = None
 abbrev pub let_off : FarmView → ℕ
 let_off view = option_map_or (λ plan. length plan.let_off.items) view.relaxed 0
 
+-- an addition of workers reaches the wanted backlog, also one of nobody
+abbrev pub is_found : MissingView → Option Bool
+is_found missing.NotAsked = None
+is_found missing.NoLoad = None
+is_found missing.NoMemory = None
+is_found (missing.Workers all) = Some true
+is_found (missing.Never function) = Some false
+is_found (missing.TooMany least) = Some false
+
 abbrev pub farm_value : FarmView → Moment → FarmNumber → Option ℕ
 farm_value view moment farm.Attempts = Some view.attempt
 farm_value view moment farm.HasPlan = Some (number (has_plan view.outcome))
@@ -53,6 +64,7 @@ farm_value view moment farm.SlotWorkers = Some view.turnover.most_used
 farm_value view moment farm.AgainTimes = Some view.again.times
 farm_value view moment farm.HeldConnections = Some view.again.held
 farm_value view moment farm.LetOff = Some (let_off view)
+farm_value view moment farm.SizeFound = option_map number (is_found view.missing)
 
 abbrev pub function_value : FunctionView → FunctionNumber → Option ℕ
 function_value f function.Waiting = f.waiting
@@ -68,3 +80,4 @@ abbrev pub host_value : HostView → HostNumber → Option ℕ
 host_value h host.Reached = Some (number (is_none h.unreached))
 host_value h host.Alive = h.alive
 host_value h host.Workers = Some h.all
+host_value h host.Missing = h.missing

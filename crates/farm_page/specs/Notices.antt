@@ -1,13 +1,17 @@
 -- What a page says of a farm below its sentence, with what to do.
-use Rattle.std.specs.Prelude.{ℕ, ◌*◌, ◌==◌, List, [], ◌∷◌, ◌++◌, Bool, nat_lt, Option, Some, None, String}
+use Rattle.std.specs.Prelude.{ℕ, ◌*◌, ◌==◌, List, [], ◌∷◌, ◌++◌, Bool, false, ◌&&◌, is_some, nat_lt, Option, Some, None, String, string_bytes}
 use Rattle.std.specs.Prelude.{codes, if◌then◌else◌}
 use Rattle.std.specs.Global.{Global}
 use Rattle.std.specs.Fmt.{decimal}
+use Rattle.std.specs.List.{list_any}
 use Rattle.std.specs.Option.{option_map_or}
 use Rattle.farm_page.specs.Condition.{first_names}
 use Rattle.farm_page.specs.Escaping.{page_text}
 use Rattle.farm_page.specs.declared.view.FarmView.{FarmView}
+use Rattle.farm_page.specs.declared.view.HostView.{HostView}
 use Rattle.farm_page.specs.declared.view.JobsAgain.{JobsAgain}
+use Rattle.farm_page.specs.declared.view.MissingView.{MissingView}
+use Rattle.farm_page.specs.declared.view.MissingView.TheVariants as missing
 use Rattle.farm_page.specs.declared.view.Outcome.{Outcome}
 use Rattle.farm_page.specs.declared.view.Outcome.TheVariants.{Backlog, NoPlan, NoRound, Unreadable, Unserved}
 use Rattle.farm_page.specs.declared.view.RelaxedPlan.{RelaxedPlan}
@@ -40,6 +44,41 @@ let_off_words names =
 abbrev pub let_off_notice : Option RelaxedPlan → Option (List ℕ)
 let_off_notice None = None
 let_off_notice (Some plan) = Some (let_off_words plan.let_off.items)
+
+-- ---- workers are missing
+
+-- workers are missing on a host that is not reached
+abbrev pub misses_unreached : HostView → Bool
+misses_unreached h = is_some h.unreached && option_map_or (λ missing. nat_lt 0 missing) h.missing false
+
+abbrev pub any_misses_unreached : List HostView → Bool
+any_misses_unreached hosts = list_any misses_unreached hosts
+
+abbrev pub workers_words : ℕ → List ℕ
+workers_words workers =
+    codes "Workers missing for the wanted backlog: " ++ decimal workers ++ codes ". The table of hosts has how many are missing on each."
+
+abbrev pub missing_words : ℕ → List HostView → List ℕ
+missing_words workers hosts =
+    workers_words workers
+    ++ (if any_misses_unreached hosts
+    then codes " Some are missing on a host that is not reached: add none there before it is reached again." else [])
+
+abbrev pub never_words : List ℕ → List ℕ
+never_words function =
+    codes "No addition of workers reaches the wanted backlog, as function " ++ function ++ codes " shows. /size has why."
+
+abbrev pub too_many_words : ℕ → List ℕ
+too_many_words workers =
+    codes "No addition of workers reaches the wanted backlog: " ++ decimal workers ++ codes " at least, and a farm has at most 4096."
+
+abbrev pub missing_notice : MissingView → List HostView → Option (List ℕ)
+missing_notice missing.NotAsked hosts = None
+missing_notice missing.NoLoad hosts = Some (codes "How many workers are missing is not known: no load was read.")
+missing_notice missing.NoMemory hosts = Some (codes "How many workers are missing is not known: there was no memory for it.")
+missing_notice (missing.Workers workers) hosts = Some (missing_words workers hosts)
+missing_notice (missing.Never function) hosts = Some (never_words (string_bytes function))
+missing_notice (missing.TooMany workers) hosts = Some (too_many_words workers)
 
 -- ---- a job comes again
 
@@ -96,5 +135,6 @@ notice words = option_map_or paragraph words []
 
 abbrev pub notices : FarmView → List ℕ
 notices view =
-    notice (unreadable_notice view.outcome) ++ notice (let_off_notice view.relaxed) ++ notice (again_notice view.again)
+    notice (unreadable_notice view.outcome) ++ notice (let_off_notice view.relaxed)
+    ++ notice (missing_notice view.missing view.hosts.items) ++ notice (again_notice view.again)
     ++ notice (room_notice view.without_room.items) ++ notice (worn_notice view.turnover.most_used)

@@ -30,6 +30,8 @@ use Rattle.farm_page.specs.declared.request.Refusal.TheVariants as refusal
 use Rattle.farm_page.specs.declared.sections.Share.TheVariants.{Busy, Quiet}
 use Rattle.farm_page.specs.declared.view.Evidence.{Evidence}
 use Rattle.farm_page.specs.declared.view.RelaxedPlan.{RelaxedPlan}
+use Rattle.farm_page.specs.declared.view.SizeView.{SizeView}
+use Rattle.farm_page.specs.declared.view.SizeView.TheVariants as size
 
 abbrev pub text_of : Status → List ℕ → Told
 text_of status words = record { status = status; content = content.Text; attempt = None; allowed = None; body = words }
@@ -48,21 +50,21 @@ refused refusal.NoDrain = text_of status.Forbidden (codes "403: a drain comes fr
 
 -- ---- the evidence
 
-abbrev pub part_text : Part → Evidence → Option RelaxedPlan → List ℕ
-part_text part.Whole evidence plan = evidence_text evidence plan
-part_text part.Report evidence plan = evidence.report.items
-part_text part.Status evidence plan = evidence.status.items
-part_text part.Lost evidence plan = lost_text evidence
+abbrev pub part_text : Part → Evidence → Option RelaxedPlan → SizeView → List ℕ
+part_text part.Whole evidence plan size = evidence_text evidence plan size
+part_text part.Report evidence plan size = evidence.report.items
+part_text part.Status evidence plan size = evidence.status.items
+part_text part.Lost evidence plan size = lost_text evidence
 
 -- the text, with the number of the attempt that it is of
-abbrev pub part_answer : Part → Option Evidence → Option RelaxedPlan → Told
-part_answer part None plan = text_of status.Unavailable (codes "503: there was no round yet\n")
-part_answer part (Some evidence) plan = record {
+abbrev pub part_answer : Part → Option Evidence → Option RelaxedPlan → SizeView → Told
+part_answer part None plan size = text_of status.Unavailable (codes "503: there was no round yet\n")
+part_answer part (Some evidence) plan size = record {
   status = status.Ok;
   content = content.Text;
   attempt = Some evidence.attempt;
   allowed = None;
-  body = part_text part evidence plan;
+  body = part_text part evidence plan size;
 }
 
 abbrev pub relaxed_part : RelaxedPart → RelaxedPlan → List ℕ
@@ -80,6 +82,19 @@ relaxed_answer part (Some evidence) (Some plan) = record {
   allowed = None;
   body = relaxed_part part plan;
 }
+
+-- ---- the size
+
+abbrev pub size_text_answer : ℕ → List ℕ → Told
+size_text_answer attempt text =
+    record { status = status.Ok; content = content.Text; attempt = Some attempt; allowed = None; body = text }
+
+-- how many workers are missing, and nothing if no backlog is wanted
+abbrev pub size_answer : SizeView → Told
+size_answer size.NotAsked = refused refusal.NoSuchPath
+size_answer size.NoRound = text_of status.Unavailable (codes "503: there was no round yet\n")
+size_answer size.NoMemory = text_of status.Unavailable (codes "503: there was no memory for the size\n")
+size_answer (size.Text attempt text) = size_text_answer attempt text.items
 
 -- ---- the farm
 
@@ -123,7 +138,7 @@ pub record IsPage (seen : Seen) (refresh : Refresh) (answer : Told) : Type 0 whe
 -- ---- all together
 
 abbrev pub part_of : Seen → Part → Told
-part_of seen part = part_answer part seen.farm.now.evidence seen.farm.now.relaxed
+part_of seen part = part_answer part seen.farm.now.evidence seen.farm.now.relaxed seen.farm.now.size
 
 abbrev pub relaxed_of : Seen → RelaxedPart → Told
 relaxed_of seen part = relaxed_answer part seen.farm.now.evidence seen.farm.now.relaxed
@@ -137,6 +152,7 @@ RepliesAt seen refresh place.Status reply = reply ≡ told (part_of seen part.St
 RepliesAt seen refresh place.Lost reply = reply ≡ told (part_of seen part.Lost)
 RepliesAt seen refresh place.RelaxedSettings reply = reply ≡ told (relaxed_of seen relaxed.Settings)
 RepliesAt seen refresh place.RelaxedReport reply = reply ≡ told (relaxed_of seen relaxed.Report)
+RepliesAt seen refresh place.Size reply = reply ≡ told (size_answer seen.farm.now.size)
 RepliesAt seen refresh place.Health reply = reply ≡ told (health_answer seen)
 RepliesAt seen refresh place.Live reply = reply ≡ told (live_answer seen)
 RepliesAt seen refresh place.Drain reply = reply ≡ Drain

@@ -60,6 +60,7 @@ place_at path =
     else if bytes_eq path (codes "/lost") then Some place.Lost
     else if bytes_eq path (codes "/relaxed/settings") then Some place.RelaxedSettings
     else if bytes_eq path (codes "/relaxed/report") then Some place.RelaxedReport
+    else if bytes_eq path (codes "/size") then Some place.Size
     else if bytes_eq path (codes "/health") then Some place.Health
     else if bytes_eq path (codes "/live") then Some place.Live
     else if bytes_eq path (codes "/drain") then Some place.Drain
@@ -86,6 +87,7 @@ is_drain place.Status = false
 is_drain place.Lost = false
 is_drain place.RelaxedSettings = false
 is_drain place.RelaxedReport = false
+is_drain place.Size = false
 is_drain place.Health = false
 is_drain place.Live = false
 is_drain place.Drain = true

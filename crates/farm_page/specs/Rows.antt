@@ -1,5 +1,5 @@
 -- The rows of a page's tables.
-use Rattle.std.specs.Prelude.{ℕ, ◌*◌, ◌/◌, ◌==◌, Bool, List, [], ◌++◌, Option, None, min, nat_lt}
+use Rattle.std.specs.Prelude.{ℕ, ◌-◌, ◌*◌, ◌/◌, ◌==◌, Bool, List, [], ◌++◌, Option, None, min, nat_lt}
 use Rattle.std.specs.Prelude.{codes, if◌then◌else◌, option_map, string_bytes}
 use Rattle.std.specs.Fmt.{decimal}
 use Rattle.std.specs.Int.{div_ceil}
@@ -110,10 +110,21 @@ unreached_cell why = codes "<td class=\"words bad\">not reached: " ++ page_text 
 abbrev pub reached_cell : HostView → List ℕ
 reached_cell h = option_map_or (λ why. unreached_cell (string_bytes why)) h.unreached (codes "<td class=\"words\">reached</td>")
 
+-- how many of a host's workers are not alive
+abbrev pub not_alive : HostView → Option ℕ
+not_alive h = option_map (λ alive. h.all - alive) h.alive
+
+abbrev pub not_alive_cell : HostView → List ℕ
+not_alive_cell h = cell_if (not_alive h) Unknown
+
+-- how many workers are missing on a host
+abbrev pub missing_cell : HostView → List ℕ
+missing_cell h = cell_if (host_value h host.Missing) Unknown
+
 abbrev pub host_row : HostView → List ℕ
 host_row h =
     row_name (string_bytes h.name) ++ cell_if (host_value h host.Alive) Unknown ++ cell Plain h.all ++ bar_if h.alive h.all h.all
-    ++ reached_cell h ++ codes "</tr>\n"
+    ++ not_alive_cell h ++ missing_cell h ++ reached_cell h ++ codes "</tr>\n"
 
 -- a number that is to be looked at
 abbrev pub mark_of : Bool → Mark

@@ -3,7 +3,7 @@
 ghost use Rattle.std.specs.Prelude.{◌≡◌, ◌++◌, IfOk, OnOk};
 ghost use Rattle.farm_page.specs.Evidence as spec;
 
-use crate::view::{Evidence, RelaxedPlan};
+use crate::view::{Evidence, RelaxedPlan, SizeView};
 use crate::writing::{put_bytes, put_number, put_text};
 use std::alloc::{AllocError, Global};
 
@@ -74,8 +74,19 @@ fn put_relaxed(out: &mut Vec<u8>, relaxed: &Option<RelaxedPlan>) -> Result<(), A
     }
 }
 
+/// Adds the text of the size, if there is one.
+fn put_size(out: &mut Vec<u8>, size: &SizeView) -> Result<(), AllocError>
+    ensures { OnOk result (out.new.items ≡ out.old.items ++ spec.size_part size.now) }
+{
+    match size {
+        SizeView::Text { text, .. } => put_part(out, "size", text),
+        SizeView::NotAsked | SizeView::NoRound | SizeView::NoMemory => Ok(()),
+    }
+}
+
 /// All that a plan can be checked with, beside the settings, in one text. If no plan meets all least numbers, and one that leaves some out
-/// is in force, it has that too, with settings that leave them out. The only error is out of memory.
+/// is in force, it has that too, with settings that leave them out. At its end is the size, if the services file wants a backlog and there
+/// was memory for it. The only error is out of memory.
 ///
 /// ```text
 /// attempt 17
@@ -88,18 +99,22 @@ fn put_relaxed(out: &mut Vec<u8>, relaxed: &Option<RelaxedPlan>) -> Result<(), A
 /// ..                        settings in which some least numbers are 0
 /// relaxed report
 /// ..                        the report of the plan in force, to its line `end`
+/// size
+/// ..                        how many workers are missing, to its line `end`
 /// ```
 pub fn evidence_text(
     alloc: Global,
     evidence: &Evidence,
     relaxed: &Option<RelaxedPlan>,
+    size: &SizeView,
 ) -> Result<Vec<u8>, AllocError>
-    ensures { IfOk result (λ text. text.items ≡ spec.evidence_text evidence.now relaxed.now) }
+    ensures { IfOk result (λ text. text.items ≡ spec.evidence_text evidence.now relaxed.now size.now) }
 {
     let mut out = Vec::new(alloc);
     put_attempt(&mut out, evidence)?;
     put_part(&mut out, "status", &evidence.status)?;
     put_part(&mut out, "report", &evidence.report)?;
     put_relaxed(&mut out, relaxed)?;
+    put_size(&mut out, size)?;
     Ok(out)
 }

@@ -57,5 +57,5 @@ pub use request::{Asked, Method, Place, Refusal, Site, place_asked};
 pub use style::POLICY;
 pub use view::{
     AttemptView, EndView, Evidence, FailureEnd, FailureView, FarmView, FunctionView, HostView,
-    JobEnds, JobsAgain, Outcome, RelaxedPlan, Shortage, Turnover, Workers,
+    JobEnds, JobsAgain, MissingView, Outcome, RelaxedPlan, Shortage, SizeView, Turnover, Workers,
 };

@@ -4,7 +4,7 @@ ghost use Rattle.std.specs.Prelude.{◌≡◌};
 ghost use Rattle.farm_page.specs.Measured as spec;
 
 use crate::health::Moment;
-use crate::view::{FarmView, FunctionView, HostView, Outcome};
+use crate::view::{FarmView, FunctionView, HostView, MissingView, Outcome};
 
 /// A number of a farm.
 #[derive(Clone, Copy)]
@@ -35,6 +35,8 @@ pub enum FarmNumber {
     HeldConnections,
     /// Functions whose least numbers are left out.
     LetOff,
+    /// Whether an addition of workers reaches the wanted backlog.
+    SizeFound,
 }
 
 /// A number of a function.
@@ -67,6 +69,19 @@ pub enum HostNumber {
     Alive,
     /// Its workers of the settings.
     Workers,
+    /// Its workers that are missing.
+    Missing,
+}
+
+/// Whether an addition of workers reaches the wanted backlog, also one of nobody. None if that is not known.
+fn is_found(missing: &MissingView) -> Option<bool>
+    ensures { result ≡ spec.is_found missing.now }
+{
+    match missing {
+        MissingView::Workers(_) => Some(true),
+        MissingView::Never(_) | MissingView::TooMany(_) => Some(false),
+        MissingView::NotAsked | MissingView::NoLoad | MissingView::NoMemory => None,
+    }
 }
 
 /// How many functions a plan in force leaves out of account.
@@ -98,6 +113,7 @@ pub fn farm_value(view: &FarmView, moment: Moment, number: FarmNumber) -> Option
         (FarmNumber::AgainTimes, _) => Some(u64::from(view.again.times)),
         (FarmNumber::HeldConnections, _) => Some(u64::from(view.again.held)),
         (FarmNumber::LetOff, _) => Some(let_off(view)),
+        (FarmNumber::SizeFound, _) => Some(u64::from(is_found(&view.missing)?)),
         _ => None,
     }
 }
@@ -126,5 +142,6 @@ pub fn host_value(host: &HostView, number: HostNumber) -> Option<u64>
         HostNumber::Reached => Some(u64::from(host.unreached.is_none())),
         HostNumber::Alive => Some(u64::from(host.alive?)),
         HostNumber::Workers => Some(u64::from(host.all)),
+        HostNumber::Missing => Some(u64::from(host.missing?)),
     }
 }

@@ -70,7 +70,7 @@ pub struct Row<T> {
 pub type Metric = Row<&'static str>;
 
 /// All metrics, in the order in which they are told.
-pub static METRICS: [Metric; 25] = [
+pub static METRICS: [Metric; 27] = [
     Row {
         name: "poolman_attempts_total",
         kind: MetricKind::Counter,
@@ -150,6 +150,12 @@ pub static METRICS: [Metric; 25] = [
         help: "Functions short of workers, whose least numbers the plan in force leaves out.",
     },
     Row {
+        name: "poolman_size_found",
+        kind: MetricKind::Gauge,
+        value: Value::Farm(FarmNumber::SizeFound),
+        help: "1 if an addition of workers, also of none, reaches the wanted backlog, 0 if none does.",
+    },
+    Row {
         name: "poolman_function_waiting_jobs",
         kind: MetricKind::Gauge,
         value: Value::Function(FunctionNumber::Waiting),
@@ -214,6 +220,12 @@ pub static METRICS: [Metric; 25] = [
         kind: MetricKind::Gauge,
         value: Value::Host(HostNumber::Workers),
         help: "Workers of the host by the settings.",
+    },
+    Row {
+        name: "poolman_missing_workers",
+        kind: MetricKind::Gauge,
+        value: Value::Host(HostNumber::Missing),
+        help: "Workers to add to the host for the wanted backlog.",
     },
     Row {
         name: "poolman_ended_workers_total",

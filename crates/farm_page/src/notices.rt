@@ -5,7 +5,7 @@ ghost use Rattle.farm_page.specs.Notices as spec;
 
 use crate::condition::push_first_names;
 use crate::markup::Markup;
-use crate::view::{FarmView, JobsAgain, Outcome};
+use crate::view::{FarmView, HostView, JobsAgain, MissingView, Outcome};
 use std::alloc::{AllocError, Global};
 use std::fmt::Write;
 
@@ -171,6 +171,103 @@ fn worn_notice(alloc: Global, most_used: u32) -> Result<Option<String>, AllocErr
     }
 }
 
+/// Whether workers are missing on a host that is not reached.
+fn misses_unreached(host: &HostView) -> bool
+    ensures { result ≡ spec.misses_unreached host.now }
+{
+    host.unreached.is_some() && host.missing.map_or(false, |missing| missing > 0)
+}
+
+/// Whether workers are missing on hosts that are not reached.
+fn any_misses_unreached(hosts: &[HostView]) -> bool
+    ensures { result ≡ spec.any_misses_unreached hosts.now }
+{
+    hosts.iter().any(|host| misses_unreached(host))
+}
+
+/// Adds how many workers are missing.
+fn push_missing(out: &mut String, workers: u64) -> Result<(), AllocError>
+    ensures { OnOk result (string_bytes out.new ≡ string_bytes out.old ++ spec.workers_words workers) }
+{
+    write!(
+        out,
+        "Workers missing for the wanted backlog: {workers}. The table of hosts has how many are missing on each."
+    )
+}
+
+/// How many workers are missing, and whether some are on a host that is not reached.
+fn missing_words(alloc: Global, workers: u64, hosts: &[HostView]) -> Result<String, AllocError>
+    ensures { IfOk result (λ words. string_bytes words ≡ spec.missing_words workers hosts.now) }
+{
+    let mut out = String::new(alloc);
+    push_missing(&mut out, workers)?;
+    if any_misses_unreached(hosts) {
+        out.push_str(
+            " Some are missing on a host that is not reached: add none there before it is reached again.",
+        )?;
+    }
+    Ok(out)
+}
+
+/// Adds which function shows that no addition helps.
+fn push_never(out: &mut String, function: &str) -> Result<(), AllocError>
+    ensures { OnOk result (string_bytes out.new ≡ string_bytes out.old ++ spec.never_words function.now) }
+{
+    write!(
+        out,
+        "No addition of workers reaches the wanted backlog, as function {function} shows. /size has why."
+    )
+}
+
+/// Adds how many workers would have to be added.
+fn push_too_many(out: &mut String, workers: u64) -> Result<(), AllocError>
+    ensures { OnOk result (string_bytes out.new ≡ string_bytes out.old ++ spec.too_many_words workers) }
+{
+    write!(
+        out,
+        "No addition of workers reaches the wanted backlog: {workers} at least, and a farm has at most 4096."
+    )
+}
+
+/// That no addition of workers helps, as this function shows.
+fn never_words(alloc: Global, function: &str) -> Result<String, AllocError>
+    ensures { IfOk result (λ words. string_bytes words ≡ spec.never_words function.now) }
+{
+    let mut out = String::new(alloc);
+    push_never(&mut out, function)?;
+    Ok(out)
+}
+
+/// That more workers are missing than a farm can have.
+fn too_many_words(alloc: Global, workers: u64) -> Result<String, AllocError>
+    ensures { IfOk result (λ words. string_bytes words ≡ spec.too_many_words workers) }
+{
+    let mut out = String::new(alloc);
+    push_too_many(&mut out, workers)?;
+    Ok(out)
+}
+
+/// What a page says of workers that are missing, if a backlog is wanted.
+fn missing_notice(alloc: Global, view: &FarmView) -> Result<Option<String>, AllocError>
+    ensures { IfOk result (λ words. option_map string_bytes words ≡ spec.missing_notice view.now.missing view.now.hosts.items) }
+{
+    let words = match &view.missing {
+        MissingView::NotAsked => return Ok(None),
+        MissingView::NoLoad => String::from_str(
+            alloc,
+            "How many workers are missing is not known: no load was read.",
+        )?,
+        MissingView::NoMemory => String::from_str(
+            alloc,
+            "How many workers are missing is not known: there was no memory for it.",
+        )?,
+        MissingView::Workers(workers) => missing_words(alloc, *workers, &view.hosts)?,
+        MissingView::Never(function) => never_words(alloc, function.as_str())?,
+        MissingView::TooMany(workers) => too_many_words(alloc, *workers)?,
+    };
+    Ok(Some(words))
+}
+
 /// Adds words as a paragraph.
 fn put_paragraph(out: &mut Markup, words: &str) -> Result<(), AllocError>
     ensures { OnOk result (out.new ≡ out.old ++ spec.paragraph words.now) }
@@ -190,8 +287,8 @@ fn put_notice(out: &mut Markup, words: &Option<String>) -> Result<(), AllocError
     }
 }
 
-/// What a page says below its sentence: that the status text cannot be read, which functions are let off, that a job comes again, which
-/// machines have no workers for want of files or threads, and that a slot has had most of its workers; each with what to do, if it is so.
+/// What a page says below its sentence: that the status text cannot be read, which functions are let off, how many workers are missing,
+/// that a job comes again, which machines have no workers for want of files or threads, and that a slot has had most of its workers; each with what to do, if it is so.
 /// The only error is out of memory.
 pub fn notices_of(alloc: Global, view: &FarmView) -> Result<Markup, AllocError>
     ensures { IfOk result (λ part. part ≡ spec.notices view.now) }
@@ -199,6 +296,7 @@ pub fn notices_of(alloc: Global, view: &FarmView) -> Result<Markup, AllocError>
     let mut out = Markup::new(alloc);
     put_notice(&mut out, &unreadable_notice(alloc, view)?)?;
     put_notice(&mut out, &let_off_notice(alloc, view)?)?;
+    put_notice(&mut out, &missing_notice(alloc, view)?)?;
     put_notice(&mut out, &again_notice(alloc, view.again)?)?;
     put_notice(&mut out, &room_notice(alloc, view)?)?;
     put_notice(&mut out, &worn_notice(alloc, view.turnover.most_used)?)?;

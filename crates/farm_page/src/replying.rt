@@ -10,7 +10,7 @@ use crate::health::{Moment, health_text, is_healthy, is_live};
 use crate::metrics::metrics_text;
 use crate::page::{Refresh, page_text};
 use crate::request::{Asked, Place, Refusal, Site, place_asked};
-use crate::view::{Evidence, FarmView, RelaxedPlan};
+use crate::view::{Evidence, FarmView, RelaxedPlan, SizeView};
 use std::alloc::{AllocError, Global};
 
 /// What a request is answered.
@@ -92,12 +92,13 @@ fn part_text(
     alloc: Global,
     evidence: &Evidence,
     relaxed: &Option<RelaxedPlan>,
+    size: &SizeView,
     part: Part,
 ) -> Result<Vec<u8>, AllocError>
-    ensures { IfOk result (λ text. text.items ≡ spec.part_text part evidence.now relaxed.now) }
+    ensures { IfOk result (λ text. text.items ≡ spec.part_text part evidence.now relaxed.now size.now) }
 {
     match part {
-        Part::Whole => evidence_text(alloc, evidence, relaxed),
+        Part::Whole => evidence_text(alloc, evidence, relaxed, size),
         Part::Report => Vec::from_slice(alloc, &evidence.report),
         Part::Status => Vec::from_slice(alloc, &evidence.status),
         Part::Lost => lost_text(alloc, evidence),
@@ -106,7 +107,7 @@ fn part_text(
 
 /// The answer of a part of the evidence, with the number of its attempt.
 fn part_answer(alloc: Global, farm: &FarmView, part: Part) -> Result<Answer, AllocError>
-    ensures { IfOk result (λ answer. answer ≡ spec.part_answer part farm.now.evidence farm.now.relaxed) }
+    ensures { IfOk result (λ answer. answer ≡ spec.part_answer part farm.now.evidence farm.now.relaxed farm.now.size) }
 {
     let Some(evidence) = &farm.evidence else {
         return words(alloc, Status::Unavailable, "503: there was no round yet\n");
@@ -116,7 +117,7 @@ fn part_answer(alloc: Global, farm: &FarmView, part: Part) -> Result<Answer, All
         content: Content::Text,
         attempt: Some(evidence.attempt),
         allowed: None,
-        body: part_text(alloc, evidence, &farm.relaxed, part)?,
+        body: part_text(alloc, evidence, &farm.relaxed, &farm.size, part)?,
     })
 }
 
@@ -155,6 +156,35 @@ fn relaxed_answer(alloc: Global, farm: &FarmView, part: RelaxedPart) -> Result<A
         allowed: None,
         body: relaxed_text(alloc, plan, part)?,
     })
+}
+
+/// The answer of the size's text, with the number of its attempt.
+fn size_text_answer(alloc: Global, attempt: u32, text: &[u8]) -> Result<Answer, AllocError>
+    ensures { IfOk result (λ answer. answer ≡ spec.size_text_answer attempt text.now) }
+{
+    Ok(Answer {
+        status: Status::Ok,
+        content: Content::Text,
+        attempt: Some(attempt),
+        allowed: None,
+        body: Vec::from_slice(alloc, text)?,
+    })
+}
+
+/// The answer of the size: there is nothing if the services file wants no backlog.
+fn size_answer(alloc: Global, size: &SizeView) -> Result<Answer, AllocError>
+    ensures { IfOk result (λ answer. answer ≡ spec.size_answer size.now) }
+{
+    match size {
+        SizeView::NotAsked => refused(alloc, Refusal::NoSuchPath),
+        SizeView::NoRound => words(alloc, Status::Unavailable, "503: there was no round yet\n"),
+        SizeView::NoMemory => words(
+            alloc,
+            Status::Unavailable,
+            "503: there was no memory for the size\n",
+        ),
+        SizeView::Text { attempt, text } => size_text_answer(alloc, *attempt, text),
+    }
 }
 
 /// The answer of the page.
@@ -230,6 +260,7 @@ fn reply_at(
         Place::Lost => part_answer(alloc, farm, Part::Lost)?,
         Place::RelaxedSettings => relaxed_answer(alloc, farm, RelaxedPart::Settings)?,
         Place::RelaxedReport => relaxed_answer(alloc, farm, RelaxedPart::Report)?,
+        Place::Size => size_answer(alloc, &farm.size)?,
         Place::Health => health_answer(alloc, seen)?,
         Place::Live => live_answer(alloc, seen)?,
     };

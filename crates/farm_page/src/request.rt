@@ -68,6 +68,8 @@ pub enum Place {
     RelaxedSettings,
     /// The report of that plan.
     RelaxedReport,
+    /// The size: how many workers are missing.
+    Size,
     /// Whether the farm is well.
     Health,
     /// Whether the farm makes attempts.
@@ -172,6 +174,8 @@ fn place_at(path: &[u8]) -> Option<Place>
         Some(Place::RelaxedSettings)
     } else if path == b"/relaxed/report".as_slice() {
         Some(Place::RelaxedReport)
+    } else if path == b"/size".as_slice() {
+        Some(Place::Size)
     } else if path == b"/health".as_slice() {
         Some(Place::Health)
     } else if path == b"/live".as_slice() {

@@ -108,6 +108,28 @@ fn put_reached(out: &mut Markup, host: &HostView) -> Result<(), AllocError>
     }
 }
 
+/// How many of a host's workers are not alive. None if that is not known.
+fn not_alive(host: &HostView) -> Option<u64>
+    ensures { result ≡ spec.not_alive host.now }
+{
+    let alive = host.alive?;
+    Some(u64::from(host.all.saturating_sub(alive)))
+}
+
+/// Adds how many of a host's workers are not alive.
+fn put_not_alive(out: &mut Markup, host: &HostView) -> Result<(), AllocError>
+    ensures { OnOk result (out.new ≡ out.old ++ spec.not_alive_cell host.now) }
+{
+    put_cell_if(out, not_alive(host), Gap::Unknown)
+}
+
+/// Adds how many workers are missing on a host.
+fn put_missing(out: &mut Markup, host: &HostView) -> Result<(), AllocError>
+    ensures { OnOk result (out.new ≡ out.old ++ spec.missing_cell host.now) }
+{
+    put_cell_if(out, host_value(host, HostNumber::Missing), Gap::Unknown)
+}
+
 /// Adds the row of a host.
 pub fn put_host(out: &mut Markup, host: &HostView) -> Result<(), AllocError>
     ensures { OnOk result (out.new ≡ out.old ++ spec.host_row host.now) }
@@ -117,6 +139,8 @@ pub fn put_host(out: &mut Markup, host: &HostView) -> Result<(), AllocError>
     put_cell_if(out, alive, Gap::Unknown)?;
     put_cell(out, Mark::Plain, u64::from(host.all))?;
     put_bar_if(out, host.alive, host.all, host.all)?;
+    put_not_alive(out, host)?;
+    put_missing(out, host)?;
     put_reached(out, host)?;
     out.put_tags("</tr>\n")
 }

@@ -168,7 +168,8 @@ const FOLD_END: &str = "</tbody></table></div></details></section>\n";
 /// The head of the table of hosts.
 const HOSTS: &str = "<section><h2>Hosts</h2><div class=\"wide\"><table><thead><tr>\
 <th class=\"words\" scope=\"col\">host</th><th scope=\"col\">workers alive</th><th scope=\"col\">workers</th>\
-<th scope=\"col\">share alive</th><th class=\"words\" scope=\"col\">service</th></tr></thead><tbody>\n";
+<th scope=\"col\">share alive</th><th scope=\"col\">not alive</th><th scope=\"col\">missing</th>\
+<th class=\"words\" scope=\"col\">service</th></tr></thead><tbody>\n";
 
 /// The head of the table of all workers.
 const WORKERS: &str = "<section><h2>Workers</h2><div class=\"wide\"><table><thead><tr>\

@@ -35,6 +35,41 @@ impl Outcome {
     }
 }
 
+/// How many workers are missing, so that no more jobs wait for each worker of a function than the services file wants.
+#[derive(Drop)]
+pub enum MissingView {
+    /// The services file wants no backlog.
+    NotAsked,
+    /// The attempt read no load.
+    NoLoad,
+    /// There was no memory for it.
+    NoMemory,
+    /// So many workers, on all hosts together. Each host has its number.
+    Workers(u64),
+    /// No addition of workers helps, as the function of this name shows.
+    Never(String),
+    /// So many workers at least, and with those of the settings they are more than 4,096.
+    TooMany(u64),
+}
+
+/// The text of a size, of an attempt.
+#[derive(Drop)]
+pub enum SizeView {
+    /// The services file wants no backlog.
+    NotAsked,
+    /// There was no round yet.
+    NoRound,
+    /// There was no memory for it.
+    NoMemory,
+    /// This text.
+    Text {
+        /// The number of its attempt.
+        attempt: u32,
+        /// The text, as `poolman size` writes it.
+        text: Vec<u8>,
+    },
+}
+
 /// What a page draws of an attempt.
 #[derive(Clone, Copy)]
 pub struct AttemptView {
@@ -115,6 +150,8 @@ pub struct HostView {
     pub all: u32,
     /// Why it is not reached. None if it is.
     pub unreached: Option<String>,
+    /// How many workers are missing on it. None if that is not known.
+    pub missing: Option<u32>,
 }
 
 /// A cause for which workers end.
@@ -223,6 +260,10 @@ pub struct FarmView {
     pub evidence: Option<Evidence>,
     /// The plan of that attempt that is in force in place of one that meets all least numbers, if there is none of these.
     pub relaxed: Option<RelaxedPlan>,
+    /// How many workers are missing at this attempt.
+    pub missing: MissingView,
+    /// The text of the size of the attempt that the evidence is of.
+    pub size: SizeView,
     /// The last attempts, this one last.
     pub attempts: Attempts,
 }

@@ -12,8 +12,8 @@ use crate::places::Ticket;
 use crate::shared_page::{PageTimes, SharedPage};
 use bytes::{BufMut, Bytes};
 use farm_page::{
-    Asked, Attempts, Failures, FarmPhase, FarmView, JobsAgain, Moment, Outcome, Reply, Seen, Site,
-    Turnover, Workers, reply_to,
+    Asked, Attempts, Failures, FarmPhase, FarmView, JobsAgain, MissingView, Moment, Outcome, Reply,
+    Seen, Site, SizeView, Turnover, Workers, reply_to,
 };
 use http::{Request, StatusCode};
 use http_server::{Response, Service};
@@ -65,6 +65,8 @@ fn before_attempts(alloc: Global) -> Result<FarmView, AllocError> {
         failures: Failures::new(alloc),
         evidence: None,
         relaxed: None,
+        missing: MissingView::NotAsked,
+        size: SizeView::NotAsked,
         attempts: Attempts::new(alloc),
     })
 }
