@@ -8,9 +8,20 @@ ghost use Rattle.pool_supervisor.specs.Steps.{IsMadeOf};
 use crate::kept_evidence::KeptEvidence;
 use crate::kept_relaxed::KeptRelaxed;
 use farm_page::Shortage;
+use live_size::{LiveSize, PosedSize, Unbounded};
 use plan_model::{Answer, Certified, FuncSet, Input, Plan, TOP_LEVEL, count_neighbours};
 use pool_settings::Settings;
 use std::alloc::{AllocError, Global};
+use std::num::NonZeroU32;
+
+/// The backlog that a services file wants, and what its settings leave unbounded.
+#[derive(Clone, Copy)]
+pub struct Wanted<'w> {
+    /// The functions for which the settings file gives no greatest number.
+    pub unbounded: &'w Unbounded,
+    /// How many jobs may wait for each worker of a function.
+    pub backlog: NonZeroU32,
+}
 
 /// What a page shows of the answer to an attempt.
 #[derive(Drop)]
@@ -29,6 +40,23 @@ pub struct Found {
     pub alive: Vec<u32>,
     /// The plan that was posted instead if the answer is none.
     pub relaxed: Option<KeptRelaxed>,
+    /// The farm of the attempt, until its size is found. None if no backlog is wanted, or if there was no memory.
+    pub posed: Option<PosedSize>,
+    /// Its size. None until it is found, and if no backlog is wanted or there was no memory.
+    pub size: Option<LiveSize>,
+}
+
+/// The farm of an attempt that plans for this problem, if a backlog is wanted. Without memory there is none, and the plan stays.
+fn posed_of(
+    alloc: Global,
+    settings: &Settings,
+    input: &Input,
+    wanted: Option<Wanted<'_>>,
+) -> Option<PosedSize>
+    requires of_these { IsMadeOf settings.now input.now }
+{
+    let Wanted { unbounded, backlog } = wanted?;
+    PosedSize::of(alloc, settings, unbounded, input, backlog).ok()
 }
 
 /// How many jobs wait for all functions together.
@@ -113,6 +141,7 @@ impl Found {
         alloc: Global,
         settings: &Settings,
         certified: &Certified,
+        wanted: Option<Wanted<'_>>,
     ) -> Result<Found, AllocError>
         requires of_these { IsMadeOf settings.now certified.now.input }
         ensures evidence { IfOk result (λ found. spec.IsEvidenceOf settings.now certified.now found.evidence) }
@@ -155,6 +184,8 @@ impl Found {
             workers,
             alive: alive_by_machine(alloc, input)?,
             relaxed: None,
+            posed: posed_of(alloc, settings, input, wanted),
+            size: None,
         })
     }
 
@@ -177,6 +208,8 @@ impl Found {
             workers: self.workers,
             alive: self.alive,
             relaxed: self.relaxed,
+            posed: self.posed,
+            size: self.size,
         }
     }
 }

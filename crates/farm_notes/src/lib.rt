@@ -10,7 +10,7 @@ mod relaxed_settings;
 mod tally;
 
 pub use evidence::{evidence_of, status_text};
-pub use found::Found;
+pub use found::{Found, Wanted};
 pub use kept_evidence::KeptEvidence;
 pub use kept_relaxed::KeptRelaxed;
 pub use notes::{Known, PageNotes};

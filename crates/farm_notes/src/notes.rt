@@ -7,15 +7,17 @@ ghost use Rattle.farm_page.specs.Kept.{last_of};
 ghost use Rattle.pool_supervisor.specs.Rounds as rounds;
 ghost use Rattle.pool_supervisor.specs.Steps.{IsLetOffOf, IsMadeOf};
 
-use crate::found::Found;
+use crate::found::{Found, Wanted};
 use crate::kept_relaxed::KeptRelaxed;
 use crate::tally::FunctionJobs;
 use farm_page::{
     AttemptView, Attempts, EndView, Evidence, Failures, FarmView, FunctionView, HostView,
-    JobsAgain, Outcome, RelaxedPlan, Shortage, Turnover, Workers,
+    JobsAgain, MissingView, Outcome, RelaxedPlan, Shortage, SizeView, Turnover, Workers,
 };
 use job_runner::EndCause;
+use live_size::{ByMachine, LiveSize, Missing, PosedSize};
 use plan_model::{Certified, FuncId, MachineId};
+use plan_sizing::Obstacle;
 use pool_settings::Settings;
 use pool_supervisor::{Attempt, Attempted, EndCounts, attempt_words};
 use refusal::Labelled;
@@ -36,6 +38,8 @@ pub struct Known<'a> {
     pub again: JobsAgain,
     /// The machines that have no worker for want of files or threads.
     pub without_room: &'a [MachineId],
+    /// Whether the services file wants a backlog.
+    pub wants_backlog: bool,
 }
 
 /// What is kept.
@@ -155,6 +159,63 @@ fn relaxed_shown(
     match relaxed {
         Some(relaxed) => Ok(Some(relaxed.copy(alloc)?)),
         None => Ok(None),
+    }
+}
+
+/// The text of the size of what was found last. The only error is out of memory.
+fn size_shown(
+    alloc: Global,
+    found: &Option<Found>,
+    known: &Known<'_>,
+) -> Result<SizeView, AllocError> {
+    if !known.wants_backlog {
+        return Ok(SizeView::NotAsked);
+    }
+    let Some(found) = found else {
+        return Ok(SizeView::NoRound);
+    };
+    match &found.size {
+        Some(size) => Ok(SizeView::Text {
+            attempt: found.evidence.attempt(),
+            text: Vec::from_slice(alloc, size.text())?,
+        }),
+        None => Ok(SizeView::NoMemory),
+    }
+}
+
+/// How many workers are missing on all machines together.
+fn all_missing(missing: &ByMachine) -> u64 {
+    let mut workers = 0u64;
+    for number in missing.numbers() {
+        workers = workers.saturating_add(u64::from(*number));
+    }
+    workers
+}
+
+/// The name of the function that shows that no addition helps. The only error is out of memory.
+fn shown_by(alloc: Global, settings: &Settings, obstacle: Obstacle) -> Result<String, AllocError> {
+    let function = match obstacle {
+        Obstacle::AboveMost { function, .. } | Obstacle::NoMachine { function, .. } => function,
+    };
+    if function.number() < settings.functions() {
+        String::from_str(alloc, settings.function_name(function))
+    } else {
+        Ok(String::new(alloc))
+    }
+}
+
+/// How many workers are missing, as a page shows it. The only error is out of memory.
+fn missing_view(
+    alloc: Global,
+    settings: &Settings,
+    size: &LiveSize,
+) -> Result<MissingView, AllocError> {
+    match size.missing() {
+        Missing::Workers(numbers) => Ok(MissingView::Workers(all_missing(numbers))),
+        Missing::Never(obstacle) => {
+            Ok(MissingView::Never(shown_by(alloc, settings, *obstacle)?))
+        }
+        Missing::TooMany(workers) => Ok(MissingView::TooMany(*workers)),
     }
 }
 
@@ -281,6 +342,53 @@ impl Kept {
         Ok(functions)
     }
 
+    /// The size that was found in the attempt of this number.
+    fn size(&self, attempt: u32) -> Option<&LiveSize> {
+        match &self.last {
+            Some(found) if found.is_of(attempt) => found.size.as_ref(),
+            _ => None,
+        }
+    }
+
+    /// How many workers are missing on a machine, if this was found in the attempt of this number.
+    fn missing_on(&self, attempt: u32, machine: MachineId) -> Option<u32> {
+        match self.size(attempt)?.missing() {
+            Missing::Workers(numbers) => Some(numbers.on(machine)),
+            Missing::Never(_) | Missing::TooMany(_) => None,
+        }
+    }
+
+    /// How many workers are missing at an attempt. The only error is out of memory.
+    fn missing(
+        &self,
+        alloc: Global,
+        made: &Attempted<'_>,
+        known: &Known<'_>,
+    ) -> Result<MissingView, AllocError> {
+        if !known.wants_backlog {
+            return Ok(MissingView::NotAsked);
+        }
+        match self.size(made.number) {
+            Some(size) => missing_view(alloc, made.settings, size),
+            None if is_round(made.attempt) => Ok(MissingView::NoMemory),
+            None => Ok(MissingView::NoLoad),
+        }
+    }
+
+    /// Takes the farm of the last round, whose size is not found yet.
+    fn take_posed(&mut self) -> Option<PosedSize> {
+        self.last.as_mut()?.posed.take()
+    }
+
+    /// Keeps the size of the last round.
+    fn keep_size(&mut self, size: Option<LiveSize>) {
+        if let Some(found) = &mut self.last {
+            if size.is_some() {
+                found.size = size;
+            }
+        }
+    }
+
     /// What a page shows of a machine.
     fn host(
         &self,
@@ -301,6 +409,7 @@ impl Kept {
             alive: self.alive(made.number, machine),
             all: settings.workers(machine),
             unreached,
+            missing: self.missing_on(made.number, machine),
         })
     }
 
@@ -383,6 +492,8 @@ impl Kept {
             failures: known.failures.copy()?,
             evidence,
             relaxed: relaxed_shown(alloc, &self.last, made)?,
+            missing: self.missing(alloc, made, known)?,
+            size: size_shown(alloc, &self.last, known)?,
             attempts: self.attempts.copy()?,
         })
     }
@@ -403,17 +514,19 @@ impl PageNotes {
         }
     }
 
-    /// An answer was found. If there is no memory for what a page shows of it, the page goes on to show the answer before.
+    /// An answer was found, and this backlog is wanted, if one is. If there is no memory for what a page shows of it, the page goes on to
+    /// show the answer before.
     pub fn planned<R: Wait>(
         &self,
         rt: &R,
         alloc: Global,
         settings: &Settings,
         certified: &Certified,
+        wanted: Option<Wanted<'_>>,
     )
         requires of_these { IsMadeOf settings.now certified.now.input }
     {
-        let found = Found::of(alloc, settings, certified).ok();
+        let found = Found::of(alloc, settings, certified, wanted).ok();
         self.kept.lock(rt).found = found;
     }
 
@@ -432,7 +545,8 @@ impl PageNotes {
     }
 
     /// What a page shows after an attempt. If it has evidence, that is of an answer that is shown for its input, whole; and so is a
-    /// plan that leaves out least numbers. Its time is left open. The only error is out of memory.
+    /// plan that leaves out least numbers. Its time is left open. The size of the attempt is found here, and while nobody waits for
+    /// the notes. The only error is out of memory.
     pub fn view<R: Wait>(
         &self,
         rt: &R,
@@ -444,8 +558,17 @@ impl PageNotes {
         ensures relaxed { IfOk result (λ view. ShowsARelaxedPlan view.relaxed) }
         ensures attempt { IfOk result (λ view. view.attempt ≡ made.now.number) }
     {
+        let posed = self.note(rt, made)?;
+        let size = posed.and_then(|posed| posed.size(alloc).ok());
+        let mut held = self.kept.lock(rt);
+        held.keep_size(size);
+        held.view(alloc, made, known)
+    }
+
+    /// Keeps what an attempt came to, and takes the farm whose size is to be found. The only error is out of memory.
+    fn note<R: Wait>(&self, rt: &R, made: &Attempted<'_>) -> Result<Option<PosedSize>, AllocError> {
         let mut held = self.kept.lock(rt);
         held.note(made)?;
-        held.view(alloc, made, known)
+        Ok(held.take_posed())
     }
 }
