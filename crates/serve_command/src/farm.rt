@@ -5,8 +5,10 @@ ghost use Rattle.pool_settings.specs.Slots.{machine_of, slots};
 ghost use Rattle.serve_command.specs.Farm as spec;
 ghost use Rattle.service_settings.specs.Keys.{connect_ms_of};
 
+use farm_notes::Wanted;
 use http_jobs::{CallTimes, JobTerms, Resend, Service};
-use plan_commands::{Fault, read_services, read_settings};
+use live_size::Unbounded;
+use plan_commands::{Fault, read_services, read_settings, read_settings_file};
 use plan_model::{MachineId, SlotId};
 use pool_settings::Settings;
 use service_settings::{ServiceUrl, Services};
@@ -33,6 +35,8 @@ pub struct Farm {
     pub(crate) settings: Settings,
     /// The services.
     pub(crate) services: Services,
+    /// The functions for which the settings file gives no greatest number.
+    unbounded: Unbounded,
 }
 
 impl Model for Farm {
@@ -45,6 +49,15 @@ impl Model for Farm {
     ghost invariant = { λ f. meant.IsWhole f.settings f.services };
 }
 
+/// The functions for which a settings file gives no greatest number. The file has been read as these settings, so only memory can be
+/// refused now.
+fn unbounded_of(alloc: Global, text: &[u8], settings: &Settings) -> Result<Unbounded, AllocError> {
+    match read_settings_file(alloc, text) {
+        Ok(file) => Unbounded::of(alloc, &file, settings),
+        Err(_) => Err(AllocError),
+    }
+}
+
 impl Farm {
     /// The farm of these texts. The settings are read first. The fault is the first mistake of the text that has one, or out of memory.
     pub fn read(alloc: Global, texts: FarmTexts<'_>) -> Result<Farm, Fault>
@@ -53,7 +66,22 @@ impl Farm {
     {
         let settings = read_settings(alloc, texts.settings)?;
         let services = read_services(alloc, texts.services, &settings)?;
-        Ok(Farm { settings, services })
+        let unbounded = unbounded_of(alloc, texts.settings, &settings)?;
+        Ok(Farm {
+            settings,
+            services,
+            unbounded,
+        })
+    }
+
+    /// The backlog that the page is to say the missing workers for, if one is wanted.
+    pub fn wanted(&self) -> Option<Wanted<'_>> {
+        let page = self.services.page()?;
+        let backlog = page.backlog()?;
+        Some(Wanted {
+            unbounded: &self.unbounded,
+            backlog,
+        })
     }
 
     /// How long a job of this function may take, in milliseconds: what the services say, and `job_timeout_ms` for a function that the

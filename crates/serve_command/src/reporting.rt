@@ -174,6 +174,7 @@ impl<'e, H: Wait> Reporting<'e, H> {
             failures: &failures,
             again: jobs_again(self, &self.books, now_ms),
             without_room: &without_room,
+            wants_backlog: self.books.farm.wanted().is_some(),
         };
         notes.view(self, self.alloc, made, &known).ok()
     }
@@ -419,7 +420,8 @@ impl<'e, H: FarmHost> Progress for Reporting<'e, H> {
     fn planned(&self, settings: &Settings, certified: &Certified) {
         *self.last_plan.lock(self) = LastPlan::OfAll;
         if let Some(notes) = &self.notes {
-            notes.planned(self, self.alloc, settings, certified);
+            let wanted = self.books.farm.wanted();
+            notes.planned(self, self.alloc, settings, certified, wanted);
         }
     }
 
