@@ -1,0 +1,102 @@
+"""A farm whose page says how many workers are missing: sized.py PROGRAM FOLDER
+
+tests/serve/run calls this. Jobs come, wait while their host is down, and are done once it is back. At each attempt that is seen, the size of
+its evidence is shown by `poolman check-size`. What its processes write is in the folder.
+"""
+
+import contextlib
+import html
+import os
+import re
+import subprocess
+import sys
+
+sys.dont_write_bytecode = True
+TOP = os.path.join(os.path.dirname(os.path.abspath(__file__)), "../..")
+sys.path[:0] = [f"{TOP}/tests/gearmand", f"{TOP}/tests/together"]
+
+from farm import Client, held, wait_until
+
+from edge import Edge, settings_of_own
+from in_parts import count_or_try
+from starting import PATIENCE
+
+# So many jobs may wait for each worker of a function.
+BACKLOG = 2
+
+# An evidence of a round with a plan: its attempt, the lost workers, the status text, and the size.
+EVIDENCE = re.compile(rb"attempt (\d+)\nlost([^\n]*)\nstatus\n(.*?^\.\n)report\n.*?^end\n(?:relaxed settings\n.*)?size\n(.*)", re.DOTALL | re.MULTILINE)
+
+
+class Sized:
+    """A farm that wants a backlog, in which each host has a function of its own."""
+
+    def __init__(self, program, processes):
+        self.edge = Edge(program, processes)
+        self.folder, self.seen = processes.folder, set()
+        self.edge.write("settings", settings_of_own(self.edge.server, least=0))
+        with open(f"{self.folder}/services.toml") as it:
+            text = it.read()
+        self.edge.write("services", text.replace("[page]\n", f"[page]\nbacklog = {BACKLOG}\n"))
+
+    def look(self):
+        """Holds that the size of the last round is shown, and gives its text."""
+        found = EVIDENCE.fullmatch(self.edge.page.ask("GET", "/evidence")[2])
+        held(found, "the evidence has no size")
+        attempt, lost, status, size = found.groups()
+        with open(f"{self.folder}/status.txt", "wb") as it:
+            it.write(status)
+        words = [self.edge.program, "check-size", f"{self.folder}/settings.toml", f"{self.folder}/status.txt", str(BACKLOG)]
+        told = subprocess.run([*words, *lost.decode().split()], input=size, capture_output=True, timeout=PATIENCE)
+        held(told.stdout == b"shown\n", f"the size of attempt {int(attempt)}: {told.stdout} {told.stderr}")
+        self.seen.add(int(attempt))
+        return size.decode()
+
+    def looks_until(self, is_so, what):
+        """Looks again and again until a size is so."""
+        wait_until(lambda: is_so(self.look()), PATIENCE, what)
+
+    def missing(self, host):
+        text = self.edge.page.text("/metrics")
+        found = re.search(rf'^poolman_missing_workers{{host="{host}"}} (\d+)$', text, re.MULTILINE)
+        return found and int(found[1])
+
+
+def each_size_is_shown(program, processes):
+    """Twenty jobs wait for a host that is down, and the size names that host; the page says so. Once it is back nothing is missing."""
+    sized = Sized(program, processes)
+    edge = sized.edge
+    edge.start()
+    sized.looks_until(lambda size: "\nadd 0\n" in size, "nothing is missing")
+    edge.kill("south")
+    wait_until(lambda: edge.metric('poolman_host_reached{host="south"}') == 0, PATIENCE, "the host is not reached")
+    with contextlib.closing(Client(edge.server, PATIENCE)) as client:
+        client.leave([(b"reverse", b"%d" % number) for number in range(20)])
+    sized.looks_until(lambda size: "\non south " in size, "workers are missing on the host")
+    wait_until(lambda: sized.missing("south"), PATIENCE, "the metrics have them")
+    held(sized.missing("north") == 0, "workers are missing on the other host")
+    held(edge.metric("poolman_size_found") == 1, "no addition helps")
+    said = "Some are missing on a host that is not reached"
+    wait_until(lambda: said in html.unescape(edge.page.text("/")), PATIENCE, "the page says so")
+    edge.bring_back("south")
+    sized.looks_until(lambda size: "\nadd 0\n" in size, "nothing is missing again")
+    status, headers, body = edge.page.ask("GET", "/size")
+    held(status == 200 and body.startswith(b"size 1\nlevel %d\n" % BACKLOG), f"/size answers {status} {body[:40]}")
+    held(len(sized.seen) >= 2, f"only these attempts were seen: {sized.seen}")
+    edge.end(20)
+
+
+def a_farm_without_a_backlog_has_no_size(program, processes):
+    """Without the key there is nothing at its path, and no sample."""
+    edge = Edge(program, processes)
+    edge.start()
+    held(edge.page.ask("GET", "/size")[0] == 404, "/size is there")
+    held(b"\nsize\n" not in edge.page.ask("GET", "/evidence")[2], "the evidence has a size")
+    held("poolman_size_found" not in edge.page.text("/metrics"), "the metrics have a size")
+    edge.end(0)
+
+
+PARTS = (each_size_is_shown, a_farm_without_a_backlog_has_no_size)
+
+if __name__ == "__main__":
+    count_or_try(PARTS, sys.argv[1:])
