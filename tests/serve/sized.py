@@ -8,6 +8,7 @@ import contextlib
 import html
 import os
 import re
+import signal
 import subprocess
 import sys
 
@@ -17,9 +18,11 @@ sys.path[:0] = [f"{TOP}/tests/gearmand", f"{TOP}/tests/together"]
 
 from farm import Client, held, wait_until
 
-from edge import Edge, settings_of_own
+from edge import WORKERS, Edge, settings_of_own
 from in_parts import count_or_try
 from starting import PATIENCE
+
+GROW = f"{TOP}/examples/size/grow.py"
 
 # So many jobs may wait for each worker of a function.
 BACKLOG = 2
@@ -33,7 +36,7 @@ class Sized:
 
     def __init__(self, program, processes):
         self.edge = Edge(program, processes)
-        self.folder, self.seen = processes.folder, set()
+        self.folder, self.seen, self.settings = processes.folder, set(), "settings"
         self.edge.write("settings", settings_of_own(self.edge.server, least=0))
         with open(f"{self.folder}/services.toml") as it:
             text = it.read()
@@ -46,7 +49,7 @@ class Sized:
         attempt, lost, status, size = found.groups()
         with open(f"{self.folder}/status.txt", "wb") as it:
             it.write(status)
-        words = [self.edge.program, "check-size", f"{self.folder}/settings.toml", f"{self.folder}/status.txt", str(BACKLOG)]
+        words = [self.edge.program, "check-size", f"{self.folder}/{self.settings}.toml", f"{self.folder}/status.txt", str(BACKLOG)]
         told = subprocess.run([*words, *lost.decode().split()], input=size, capture_output=True, timeout=PATIENCE)
         held(told.stdout == b"shown\n", f"the size of attempt {int(attempt)}: {told.stdout} {told.stderr}")
         self.seen.add(int(attempt))
@@ -55,6 +58,12 @@ class Sized:
     def looks_until(self, is_so, what):
         """Looks again and again until a size is so."""
         wait_until(lambda: is_so(self.look()), PATIENCE, what)
+
+    def grow(self):
+        """Starts the script of the example."""
+        files = [f"{self.folder}/{name}.toml" for name in ("settings", "services", "grown")]
+        path = f"{os.path.dirname(self.edge.program)}:{os.environ['PATH']}"
+        return self.edge.processes.start("grow", sys.executable, GROW, *files, env={**os.environ, "PATH": path})
 
     def missing(self, host):
         text = self.edge.page.text("/metrics")
@@ -78,12 +87,48 @@ def each_size_is_shown(program, processes):
     held(edge.metric("poolman_size_found") == 1, "no addition helps")
     said = "Some are missing on a host that is not reached"
     wait_until(lambda: said in html.unescape(edge.page.text("/")), PATIENCE, "the page says so")
+    held(sized.grow().wait(PATIENCE) == 0, f"grow.py failed: {processes.text('grow.err')}")
+    held(processes.text("grow.out") == "leave south: its host is not reached\nadd 0\n", f"grow.py said {processes.text('grow.out')}")
+    held(not os.path.exists(f"{sized.folder}/grown.toml"), "settings were written")
     edge.bring_back("south")
     sized.looks_until(lambda size: "\nadd 0\n" in size, "nothing is missing again")
     status, headers, body = edge.page.ask("GET", "/size")
     held(status == 200 and body.startswith(b"size 1\nlevel %d\n" % BACKLOG), f"/size answers {status} {body[:40]}")
     held(len(sized.seen) >= 2, f"only these attempts were seen: {sized.seen}")
     edge.end(20)
+
+
+def what_is_missing_is_added(program, processes):
+    """A service is slow, so that more jobs wait for its workers than are wanted. The example's script adds the workers that are missing: a
+    second farm takes over, and nothing is missing then."""
+    sized = Sized(program, processes)
+    edge = sized.edge
+    edge.start()
+    wait_until(lambda: edge.sessions() == 2 * WORKERS, PATIENCE, "the job server knows all workers")
+    edge.services["north"].send_signal(signal.SIGSTOP)
+    with contextlib.closing(Client(edge.server, PATIENCE)) as client:
+        client.leave([(b"upper", b"%d" % number) for number in range(20)])
+    sized.looks_until(lambda size: "\nadd 4\non north 4\n" in size, "four workers are missing")
+    grow = sized.grow()
+    # The workers of the first farm that have no job end.
+    wait_until(lambda: edge.sessions() == WORKERS + 2 * WORKERS + WORKERS, PATIENCE, "the second farm has its workers")
+    edge.services["north"].send_signal(signal.SIGCONT)
+    held(grow.wait(PATIENCE) == 0, f"grow.py failed: {processes.text('grow.err')}")
+    said = processes.text("grow.out")
+    second = re.search(r"^serves (\d+)$", said, re.MULTILINE)
+    try:
+        held(said.startswith("add 4 to north\n") and second, f"grow.py said {said}")
+        held(edge.poolman.wait(PATIENCE) == 0, "the first farm ended badly")
+        wait_until(edge.page.is_well, PATIENCE, "the second farm has the page")
+        sized.settings = "grown"
+        sized.looks_until(lambda size: "\nadd 0\n" in size, "nothing is missing")
+        wait_until(lambda: sized.missing("north") == 0, PATIENCE, "the metrics say so")
+        drained = subprocess.run([program, "drain", f"{sized.folder}/services.toml"], capture_output=True, timeout=PATIENCE)
+        held(drained.returncode == 0, f"the drain of the second farm: {drained.stderr}")
+    finally:
+        if second:
+            with contextlib.suppress(ProcessLookupError):
+                os.kill(int(second[1]), signal.SIGKILL)
 
 
 def a_farm_without_a_backlog_has_no_size(program, processes):
@@ -96,7 +141,7 @@ def a_farm_without_a_backlog_has_no_size(program, processes):
     edge.end(0)
 
 
-PARTS = (each_size_is_shown, a_farm_without_a_backlog_has_no_size)
+PARTS = (each_size_is_shown, what_is_missing_is_added, a_farm_without_a_backlog_has_no_size)
 
 if __name__ == "__main__":
     count_or_try(PARTS, sys.argv[1:])
