@@ -13,8 +13,8 @@ use Rattle.pool_settings.specs.Settings.{Settings}
 use Rattle.pool_settings.specs.declared.place.Place.TheVariants as at
 use Rattle.pool_settings.specs.declared.place.Section.{Section}
 use Rattle.pool_settings.specs.declared.place.Section.TheVariants as section
-use Rattle.service_settings.specs.Keys.{backlog_row, function_keys, functions_row, hosts_row, listen_row, machine_keys, machines_row, page_keys}
-use Rattle.service_settings.specs.Keys.{page_row, retries_row, timeout_ms_row, top_keys, url_row, version_row}
+use Rattle.service_settings.specs.Keys.{backlog_row, function_keys, functions_row, hosts_row, listen_row, machine_keys, machines_row}
+use Rattle.service_settings.specs.Keys.{page_keys, page_row, retries_row, timeout_ms_row, top_keys, url_row, version_row}
 use Rattle.service_settings.specs.Services.{Page, Services, Url}
 use Rattle.service_settings.specs.Url.{is_https, url_of}
 use Rattle.service_settings.specs.declared.error.ServicesError.{ServicesError}
