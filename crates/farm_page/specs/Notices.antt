@@ -1,6 +1,6 @@
 -- What a page says of a farm below its sentence, with what to do.
-use Rattle.std.specs.Prelude.{ℕ, ◌*◌, ◌==◌, List, [], ◌∷◌, ◌++◌, Bool, false, ◌&&◌, is_some, nat_lt, Option, Some, None, String, string_bytes}
-use Rattle.std.specs.Prelude.{codes, if◌then◌else◌}
+use Rattle.std.specs.Prelude.{ℕ, ◌*◌, ◌==◌, List, [], ◌∷◌, ◌++◌, Bool, false, ◌&&◌, is_some, nat_lt}
+use Rattle.std.specs.Prelude.{Option, Some, None, String, codes, if◌then◌else◌, string_bytes}
 use Rattle.std.specs.Global.{Global}
 use Rattle.std.specs.Fmt.{decimal}
 use Rattle.std.specs.List.{list_any}

@@ -288,8 +288,8 @@ fn put_notice(out: &mut Markup, words: &Option<String>) -> Result<(), AllocError
 }
 
 /// What a page says below its sentence: that the status text cannot be read, which functions are let off, how many workers are missing,
-/// that a job comes again, which machines have no workers for want of files or threads, and that a slot has had most of its workers; each with what to do, if it is so.
-/// The only error is out of memory.
+/// that a job comes again, which machines have no workers for want of files or threads, and that a slot has had most of its workers; each
+/// with what to do, if it is so. The only error is out of memory.
 pub fn notices_of(alloc: Global, view: &FarmView) -> Result<Markup, AllocError>
     ensures { IfOk result (λ part. part ≡ spec.notices view.now) }
 {
