@@ -168,6 +168,14 @@ pub fn lost_job(
     Ok(Uncompleted { view, why })
 }
 
+/// The names of a job, each as one word: its handle, its unique id and its function. The only error is out of memory.
+pub fn job_words(alloc: Global, job: &AnsweredJob) -> Result<String, AllocError> {
+    let handle = word(alloc, job.handle.bytes())?;
+    let unique = word(alloc, &job.unique)?;
+    let function = word(alloc, &job.function)?;
+    format!(in alloc; "{handle} {unique} {function}")
+}
+
 /// The line of a job, if it was not completed.
 pub fn line_of(
     alloc: Global,

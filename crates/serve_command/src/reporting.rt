@@ -6,7 +6,7 @@ ghost use Rattle.serve_command.specs.Serving as spec;
 use crate::books::Books;
 use crate::farm_jobs::host_line;
 use crate::host::FarmHost;
-use crate::job_lines::{Uncompleted, line_of, lost_job};
+use crate::job_lines::{Uncompleted, job_words, line_of, lost_job};
 use crate::last_jobs::AnsweredJob;
 use crate::manager::Stage;
 use crate::page_door::PageDoor;
@@ -97,6 +97,17 @@ enum LastPlan {
     OfAll,
     /// There is none, and a relaxed plan was found.
     Relaxed,
+}
+
+/// The job that its service answered last for a worker that ended.
+#[derive(Drop)]
+enum LastJob {
+    /// There was none.
+    None,
+    /// Its answer was written to the job server.
+    Written(AnsweredJob),
+    /// The job server did not have its answer.
+    Lost(AnsweredJob),
 }
 
 /// The host of a farm's run: it rests until the farm has to end, and what happens is told in lines, and on a page if the farm has one.
@@ -195,15 +206,17 @@ impl<'e, H: Wait> Reporting<'e, H> {
         Ok(machines)
     }
 
-    /// The job that a worker left without an answer, if its service had answered it. It is counted as lost from now on.
-    fn take_lost(&self, ended: &EndedWorker<'_>) -> Option<AnsweredJob> {
-        let last = self.books.last_jobs.end(self, ended.worker);
+    /// The job that its service answered last for a worker that ended. If the worker left it without an answer, it is counted as lost from
+    /// now on.
+    fn take_last(&self, ended: &EndedWorker<'_>) -> LastJob {
+        let Some(job) = self.books.last_jobs.end(self, ended.worker) else {
+            return LastJob::None;
+        };
         if ended.end.grabbed == ended.end.reported {
-            return None;
+            return LastJob::Written(job);
         }
-        let job = last?;
         self.books.tally.lose(self, job.counted, job.end);
-        Some(job)
+        LastJob::Lost(job)
     }
 
     /// Notes what one more attempt came to.
@@ -459,12 +472,12 @@ impl<'e, H: FarmHost> Progress for Reporting<'e, H> {
         self.books.hosts.note_end(self, machine, ended.worker);
         self.books.threads.note_end(self);
         self.books.files.note_end(self);
-        let lost = self.take_lost(ended);
-        let lost = lost_of(self.alloc, ended, &lost);
+        let last = self.take_last(ended);
+        let lost = lost_of(self.alloc, ended, &last);
         self.host.tell_if(line_of(self.alloc, &lost));
         let dated = lost.ok().flatten().map(|lost| self.host.dated(lost.view));
         self.books.tally.note(self, dated);
-        self.host.tell(ended_line(self.alloc, ended));
+        self.host.tell(ended_line(self.alloc, ended, &last));
         if let Some(notes) = &self.notes {
             notes.ended(self, ended.end.cause);
         }
@@ -498,9 +511,9 @@ fn joined_line(alloc: Global, joined: &JoinedWorker<'_>) -> Result<String, Alloc
 fn lost_of(
     alloc: Global,
     ended: &EndedWorker<'_>,
-    job: &Option<AnsweredJob>,
+    last: &LastJob,
 ) -> Result<Option<Uncompleted>, AllocError> {
-    let Some(job) = job else {
+    let LastJob::Lost(job) = last else {
         return Ok(None);
     };
     let worker = ended
@@ -510,13 +523,24 @@ fn lost_of(
     Ok(Some(lost))
 }
 
-/// Which worker ended, and why, as `ended north/0#3 Closed`. The only error is out of memory.
-fn ended_line(alloc: Global, ended: &EndedWorker<'_>) -> Result<String, AllocError> {
+/// Which worker ended, and why, as `ended north/0#3 Closed`. If a read failed, the job follows whose answer it had written last, and which
+/// may not have arrived, as `ended north/0#3 ReadFault after H:srv:12 order-7 resize`. The only error is out of memory.
+fn ended_line(
+    alloc: Global,
+    ended: &EndedWorker<'_>,
+    last: &LastJob,
+) -> Result<String, AllocError> {
     let worker = ended
         .settings
         .worker_text(alloc, ended.worker.slot, ended.worker.generation)?;
     let cause = ended.end.cause.label().name();
-    format!(in alloc; "ended {worker} {cause}")
+    match last {
+        LastJob::Written(job) if ended.end.cause == EndCause::ReadFault => {
+            let job = job_words(alloc, job)?;
+            format!(in alloc; "ended {worker} {cause} after {job}")
+        }
+        _ => format!(in alloc; "ended {worker} {cause}"),
+    }
 }
 
 /// What a farm came to: how often each cause ended a worker, how its jobs ended, the chapters of the history that ended if one did, and
