@@ -1,7 +1,9 @@
 -- One job over one connection.
-use Rattle.std.proofs.Common.{◌≡◌, ap₂, subst, sym}
+use Rattle.std.proofs.Common.{◌≡◌, [], ◌∷◌, Bool, None, Result, Ok, Err, ap₂, false, not, refl, subst, sym, true}
+use Rattle.std.specs.Prelude.{IfErr, IfOk}
 use Rattle.gear_packets.specs.Response.{AssignedJob}
 use Rattle.byte_io.specs.Sides.{Input, Output}
+use Rattle.devices.specs.declared.dial_error.DialError.{DialError}
 use Rattle.job_runner.specs.Run.{Link}
 use Rattle.http_jobs.specs.declared.exchanging.Sending.{Sending}
 use Rattle.http_jobs.specs.declared.fault.NotDone.{NotDone}
@@ -12,7 +14,7 @@ use Rattle.http_jobs.specs.declared.service.Service.{Service}
 use Rattle.http_jobs.specs.Exchange.{Explains}
 use Rattle.http_jobs.specs.Reasons.{why_of}
 use Rattle.http_jobs.specs.Request.{most_body}
-use Rattle.http_jobs.specs.Serving.{OpensNew, UnansweredNew, UnansweredOver, Visible}
+use Rattle.http_jobs.specs.Serving.{OpensNew, UnansweredNew, UnansweredOver, Visible, failed, then_called}
 
 -- a link with these sides
 abbrev pub link_of : Input → Output → Link
@@ -37,3 +39,25 @@ over_new s sending old new j (Not (why.NoResponse e)) h = h
 over_new s sending old new j (Not (why.Status status)) h = h
 over_new s sending old new j (Not why.Endless) h = h
 over_new s sending old new j Memory h = h
+
+-- none was opened, for this reason
+pub not_opened : (s : Service) (sending : Sending) (old new : Visible) (j : AssignedJob) (reason : DialError) (e : NotDone) → e ≡ Not (why.Unreachable reason) → new.kept ≡ None
+    → new.calls ≡ then_called old.calls (failed reason ∷ []) → new.shown ≡ old.shown → UnansweredNew s sending old new j e
+not_opened s sending old new j reason e is kept calls shown =
+    subst (λ (w : NotDone). UnansweredNew s sending old new j w) (sym is) (kept, calls, shown)
+
+pub if_ok_both : {A E : Type 0} (P Q : A → Type 0) (r : Result A E) → ((x : A) → P x → Q x) → IfOk r P → IfOk r Q
+if_ok_both P Q (Ok x) f h = f x h
+if_ok_both P Q (Err e) f h = tt
+
+pub if_err_both : {A E : Type 0} (P Q : E → Type 0) (r : Result A E) → ((e : E) → P e → Q e) → IfErr r P → IfErr r Q
+if_err_both P Q (Ok x) f h = tt
+if_err_both P Q (Err e) f h = f e h
+
+pub not_true : (b : Bool) → not b ≡ true → b ≡ false
+not_true true e = cc
+not_true false e = refl
+
+pub not_false : (b : Bool) → not b ≡ false → b ≡ true
+not_false true e = refl
+not_false false e = cc

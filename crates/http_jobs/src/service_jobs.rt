@@ -378,6 +378,35 @@ impl<L: Source + Sink + Look + Drop, D: Dial<L>, C: Clock> ServiceJobs<L, D, C> 
         self.serve_new(alloc, job, second)
     }
 
+    /// Does a job that begins now, over the kept connection or a new one.
+    fn serve_from(
+        &mut self,
+        alloc: Global,
+        job: &Assignment,
+        start: Start,
+    ) -> Result<Reply, NotDone>
+        ensures answered { IfOk result (λ reply. Served self.old.service self.old.terms.resend start.deadline
+            (visible L.input L.output L.quiet self.old.kept (D.calls self.old.dial) (C.shown self.old.clock))
+            (visible L.input L.output L.quiet self.new.kept (D.calls self.new.dial) (C.shown self.new.clock))
+            (job_of job.now) (reply_of reply)) }
+        ensures unanswered { IfErr result (NotAnswered self.old.service self.old.terms.resend start.deadline
+            (visible L.input L.output L.quiet self.old.kept (D.calls self.old.dial) (C.shown self.old.clock))
+            (visible L.input L.output L.quiet self.new.kept (D.calls self.new.dial) (C.shown self.new.clock))
+            (job_of job.now)) }
+        ensures host { D.host self.new.dial ≡ D.host self.old.dial }
+        ensures service { self.new.service ≡ self.old.service }
+        ensures terms { self.new.terms ≡ self.old.terms }
+    {
+        let Some(link) = self.reuse(start.is_idle) else {
+            let first = Sending {
+                attempt: Attempt::First,
+                deadline: start.deadline,
+            };
+            return self.serve_new(alloc, job, first);
+        };
+        self.serve_kept(alloc, link, job, start.deadline)
+    }
+
     /// Does a job. None if its function has no path of its own: then nothing is sent.
     ///
     /// It is sent over the kept connection, or over a new one if there is none, or if that has ended, holds a byte that nobody asked for, or
@@ -401,17 +430,7 @@ impl<L: Source + Sink + Look + Drop, D: Dial<L>, C: Clock> ServiceJobs<L, D, C> 
             return Ok(None);
         }
         let start = self.start();
-        let done = match self.reuse(start.is_idle) {
-            Some(link) => self.serve_kept(alloc, link, job, start.deadline),
-            None => {
-                let first = Sending {
-                    attempt: Attempt::First,
-                    deadline: start.deadline,
-                };
-                self.serve_new(alloc, job, first)
-            }
-        };
-        match done {
+        match self.serve_from(alloc, job, start) {
             Ok(reply) => Ok(Some(reply)),
             Err(e) => Err(e),
         }

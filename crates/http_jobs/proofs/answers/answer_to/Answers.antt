@@ -33,8 +33,8 @@ returns-in-Ok-receive-clause-answered g c =
       subst (λ (l : Limits). IsReceived l bounds.max_body got.0.read c.in-Ok-receive.receipt.received) fresh got.3.0,
     )
 
-pub returns-in-Err-clause-answered : goal.returns-in-Err-clause-answered
-returns-in-Err-clause-answered g c =
+pub returns-in-Ok-clause-answered : goal.returns-in-Ok-clause-answered
+returns-in-Ok-clause-answered g c =
     let seen = seen_link g.L.Device.input g.L.Device.output in
     let bounds = c.args.bounds in
     let why = c.in-Ok.ensures.why in
