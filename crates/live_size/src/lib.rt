@@ -6,12 +6,12 @@
 
 mod answer;
 mod farm;
+mod kept_farm;
 mod missing;
-mod posed;
 mod unbounded;
 
 pub use answer::LiveSize;
 pub use farm::farm_of;
+pub use kept_farm::PosedSize;
 pub use missing::{ByMachine, Missing};
-pub use posed::PosedSize;
 pub use unbounded::Unbounded;
