@@ -1,12 +1,11 @@
 -- What an exchange has seen, step by step, and why it was not done.
-use Rattle.std.proofs.Common.{◌≡◌, ℕ, ◌+◌, List, [], ◌∷◌, ◌++◌, Option, Some, None, Result, Ok, Err, sym, refl, ap, ◌∙◌, subst, append_assoc, IsSome, MatchResult, OnOk, false, arith}
+use Rattle.std.proofs.Common.{◌≡◌, ℕ, ◌+◌, List, [], ◌∷◌, ◌++◌, Option, Some, None, Result, Ok, Err, sym, refl, ap, ◌∙◌, subst, append_assoc, IsSome, OnOk, false, arith}
 use Rattle.std.proofs.lemmas.List.{append-nil, length-append}
 use Rattle.http1.specs.declared.conn.Limits.{Limits}
 use Rattle.std.specs.Prelude.{IfErr}
 use Rattle.byte_io.specs.Sides.{Input, Output, and_then, counted}
 use Rattle.byte_io.proofs.Devices.{told_twice, counted_twice, counted_nothing, told_nothing}
 use Rattle.job_runner.specs.Run.{Link}
-use Rattle.http_jobs.specs.declared.answers.Received.{Received}
 use Rattle.http_jobs.specs.declared.fault.NotDone.{NotDone}
 use Rattle.http_jobs.specs.declared.fault.NotDone.TheVariants.{Unserved as Not, Memory}
 use Rattle.http_jobs.specs.declared.fault.Unserved.TheVariants as why

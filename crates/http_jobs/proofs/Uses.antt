@@ -1,5 +1,5 @@
 -- One job over one connection.
-use Rattle.std.proofs.Common.{◌≡◌, [], ◌∷◌, Bool, None, Result, Ok, Err, ap₂, false, not, refl, subst, sym, true}
+use Rattle.std.proofs.Common.{◌≡◌, [], ◌∷◌, None, Result, Ok, Err, ap₂, subst, sym}
 use Rattle.std.specs.Prelude.{IfErr, IfOk}
 use Rattle.gear_packets.specs.Response.{AssignedJob}
 use Rattle.byte_io.specs.Sides.{Input, Output}
@@ -53,11 +53,3 @@ if_ok_both P Q (Err e) f h = tt
 pub if_err_both : {A E : Type 0} (P Q : E → Type 0) (r : Result A E) → ((e : E) → P e → Q e) → IfErr r P → IfErr r Q
 if_err_both P Q (Ok x) f h = tt
 if_err_both P Q (Err e) f h = f e h
-
-pub not_true : (b : Bool) → not b ≡ true → b ≡ false
-not_true true e = cc
-not_true false e = refl
-
-pub not_false : (b : Bool) → not b ≡ false → b ≡ true
-not_false true e = refl
-not_false false e = cc

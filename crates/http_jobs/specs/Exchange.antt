@@ -4,18 +4,21 @@ use Rattle.httparse.specs.Grammar.{ResponseHead, status_code}
 use Rattle.http1.specs.Message.{Response}
 use Rattle.http1.specs.declared.conn.Limits.{Limits}
 use Rattle.byte_io.specs.Sides.{Input, Output, and_then, counted}
+use Rattle.gear_packets.specs.Response.{AssignedJob}
 use Rattle.job_runner.specs.Run.{Link}
 use Rattle.job_runner.specs.Told.{fail}
 use Rattle.http_jobs.specs.declared.answers.Answer.{Answer}
 use Rattle.http_jobs.specs.declared.answers.Received.{Received}
 use Rattle.http_jobs.specs.declared.answers.Received.TheVariants as received
 use Rattle.http_jobs.specs.declared.exchanging.Done.{Done}
+use Rattle.http_jobs.specs.declared.exchanging.Sending.{Sending}
 use Rattle.http_jobs.specs.declared.fault.NotDone.{NotDone}
 use Rattle.http_jobs.specs.declared.fault.NotDone.TheVariants.{Unserved as Not, Memory}
 use Rattle.http_jobs.specs.declared.fault.Unanswered.{Unanswered}
 use Rattle.http_jobs.specs.declared.fault.Unserved.TheVariants as why
 use Rattle.http_jobs.specs.declared.outcome.Failure.TheVariants.{Status, TooLarge}
 use Rattle.http_jobs.specs.Clock.{IsLate, shown_then}
+use Rattle.http_jobs.specs.Request.{most_body}
 use Rattle.http_jobs.specs.Reasons.{Seen, HasCame, HasStatus, HoldsNoRefusal, came_of, why_of}
 use Rattle.http_jobs.specs.Response.{Answers, Replied, Reports, OnlyLarger, HoldsNoAnswer, NeverAnswers, failed_with, is_success}
 use Rattle.http_jobs.specs.Response.{ends_with_connection, head_limits, is_unserved, keeps_connection, reply_of}
@@ -95,3 +98,7 @@ Explains max deadline seen old new Memory = Unit {0}
 -- The same of a request without a response, and whether anything came.
 abbrev pub ExplainsUnanswered : ℕ → Option ℕ → Seen → Link → Link → Unanswered → Type 0
 ExplainsUnanswered max deadline seen old new e = Explains max deadline seen old new (why_of e) × HasCame (came_of seen.read) e
+
+-- The same of the request of a job, which is sent so.
+abbrev pub ExplainsJob : AssignedJob → Sending → Seen → Link → Link → Unanswered → Type 0
+ExplainsJob j sending seen old new e = ExplainsUnanswered (most_body j) sending.deadline seen old new e

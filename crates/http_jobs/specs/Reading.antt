@@ -24,7 +24,7 @@ use Rattle.http_jobs.specs.declared.fault.NotDone.{NotDone}
 use Rattle.http_jobs.specs.declared.fault.NotDone.TheVariants.{Unserved as Not, Memory}
 use Rattle.http_jobs.specs.declared.fault.Unserved.TheVariants as why
 use Rattle.byte_io.specs.Sides.{Input}
-use Rattle.http_jobs.specs.Reasons.{HasStatus}
+use Rattle.http_jobs.specs.Reasons.{HasStatus, came_of}
 use Rattle.http_jobs.specs.Response.{Answers, ReadsInterims, HoldsNoAnswer, NeverAnswers, OnlyLarger, most_fields, is_unserved}
 use Rattle.http_jobs.specs.Response.{ends_with_connection, keeps_connection}
 
@@ -146,6 +146,16 @@ abbrev pub Filled : Limits → List ℕ → ResponseReader → Input → Input �
 Filled limits read r old new (Ok fill.More) = IsPartway limits read r
 Filled limits read r old new (Ok fill.Ended) = IsComplete limits read r true
 Filled limits read r old new (Err e) = FillFails limits read old new e
+
+-- so it is of each response of which so much was read before this
+abbrev pub FillsOn : ResponseReader → ResponseReader → List ℕ → Input → Input → Result Fill NotDone → Type 0
+FillsOn old new more before after result =
+    (limits : Limits) (read : List ℕ) → IsPartway limits read old → Wants limits read old
+    → Filled limits (read ++ more) new before after result
+
+-- it notes whether anything came, with these bytes
+abbrev pub NotesMore : ResponseReader → ResponseReader → List ℕ → Type 0
+NotesMore old new more = (read : List ℕ) → old.came ≡ came_of read → new.came ≡ came_of (read ++ more)
 
 -- the end of the connection ended the response, or nothing whole was read
 abbrev pub Closed : Limits → List ℕ → ResponseReader → Bool → Type 0

@@ -55,6 +55,11 @@ NotReceived limits deadline seen old new (Not (why.Status status)) = HasStatus l
 NotReceived limits deadline seen old new (Not why.Endless) = 2 ^ 64 - 1 ≤ length seen.read + seen.lulls
 NotReceived limits deadline seen old new Memory = Unit {0}
 
+-- why no response was read, and whether anything came
+abbrev pub NothingReceived : Limits → Option ℕ → Seen → Input → Input → Unanswered → Type 0
+NothingReceived limits deadline seen old new e =
+    NotReceived limits deadline seen old new (why_of e) × HasCame (came_of seen.read) e
+
 -- the status of a whole response is one of success
 abbrev pub HasSuccess : Limits → List ℕ → Type 0
 HasSuccess limits read =

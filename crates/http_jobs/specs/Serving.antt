@@ -223,7 +223,8 @@ pub data Served (s : Service) (resend : Resend) (deadline : Option ℕ) (old new
 
 -- The job is not answered, in each of these ways, and this is why the last time. It is not sent once more for any other reason than that it
 -- was cut off over the kept connection; nor then, if the deadline has come.
-pub data NotAnswered (s : Service) (resend : Resend) (deadline : Option ℕ) (old new : Visible) (j : AssignedJob) (e : NotDone) : Type 0 where
+pub data NotAnswered
+    (s : Service) (resend : Resend) (deadline : Option ℕ) (old new : Visible) (j : AssignedJob) (e : NotDone) : Type 0 where
   failed_over_kept : (link : Link) (begun : Visible) (unanswered : Unanswered) → TakesKept old link begun
       → UnansweredOver s (first_by deadline) begun new j link unanswered
       → is_sent_again resend unanswered ≡ false → e ≡ why_of unanswered → NotAnswered s resend deadline old new j e

@@ -10,7 +10,7 @@ ghost use Rattle.http_jobs.specs.Clock.{InTime};
 ghost use Rattle.http_jobs.specs.Exchange.{Explains, ExplainsUnanswered, IsAnswerIn, IsReceived, Refuses, Sees, Sends};
 ghost use Rattle.http_jobs.specs.Post.{CanBeSent, text_of};
 ghost use Rattle.http_jobs.specs.Reading.{HasAsked, IsComplete};
-ghost use Rattle.http_jobs.specs.Reasons.{HasCame, NotReceived, NotRefused, Seen, came_of, why_of};
+ghost use Rattle.http_jobs.specs.Reasons.{HasCame, NotReceived, NotRefused, NothingReceived, Seen, came_of, why_of};
 ghost use Rattle.http_jobs.specs.declared.fault.Came.{Came};
 ghost use Rattle.http_jobs.specs.Response as spec;
 ghost use Rattle.http_jobs.specs.Response.{head_limits};
@@ -119,8 +119,7 @@ fn receive<L: Source, C: Clock>(
     ensures received { (seen : Seen) × Sees (L.input link.old) (C.shown clock.old) seen (L.input link.new) (C.shown clock.new)
         × OnOk result (InTime bounds.deadline seen.times)
         × MatchResult result (λ r. IsReceived client.limits bounds.max_body seen.read r.received × (r.came ≡ came_of seen.read))
-        (λ e. NotReceived client.limits bounds.deadline seen (L.input link.old) (L.input link.new) (why_of e)
-        × HasCame (came_of seen.read) e) }
+        (NothingReceived client.limits bounds.deadline seen (L.input link.old) (L.input link.new)) }
     ensures no_failure { OnOk result ((L.input link.new).failures ≡ (L.input link.old).failures) }
     ensures output { L.output link.new ≡ L.output link.old }
 {
@@ -220,7 +219,7 @@ fn receive_refusal<L: Source, C: Clock>(
 /// If a write fails, the response may have come before: it is what came back if it is whole and its status is none of 200 to 299. Then a
 /// prefix of the request went out, and the connection is not kept.
 ///
-/// Its error says why none came: `Unserved`, with the reason, also for the statuses 408, 429, 502, 503 and 504, and whether anything came, or
+/// Its error says why none came: `Unserved`, with the reason, also for the statuses 408, 429, 502, 503 and 504, and if anything came, or
 /// `Memory`. Then a prefix of the request went out, and the connection is of no more use.
 pub fn answer_to<L: Source + Sink + Look, C: Clock>(
     alloc: Global,

@@ -6,7 +6,7 @@ ghost use Rattle.byte_io.specs.Sides.{and_then};
 ghost use Rattle.gear_packets.specs.Reading.{job_of};
 ghost use Rattle.job_runner.specs.Run.{seen_link};
 ghost use Rattle.http_jobs.specs.Clock.{InTime};
-ghost use Rattle.http_jobs.specs.Exchange.{ExplainsUnanswered, IsDone, IsReceived, IsRefusal, Refuses, Sees, Sends};
+ghost use Rattle.http_jobs.specs.Exchange.{ExplainsJob, IsDone, IsReceived, IsRefusal, Refuses, Sees, Sends};
 ghost use Rattle.http_jobs.specs.Reasons.{Seen};
 ghost use Rattle.http_jobs.specs.Request.{most_body, request_of};
 ghost use Rattle.http_jobs.specs.Response.{head_limits, reply_of};
@@ -73,8 +73,7 @@ pub fn exchange<L: Source + Sink + Look, C: Clock>(
     requires writes { (L.output link.old).failures < 2 ^ 64 - 1 }
     ensures exchanged { (seen : Seen) × Sees (L.input link.old) (C.shown clock.old) seen (L.input link.new) (C.shown clock.new)
         × OnOk result (InTime sending.deadline seen.times) × MatchResult result (IsDone head_limits (most_body (job_of job.now)) seen.read)
-        (ExplainsUnanswered (most_body (job_of job.now)) sending.deadline seen (seen_link L.input L.output link.old)
-        (seen_link L.input L.output link.new)) }
+        (ExplainsJob (job_of job.now) sending seen (seen_link L.input L.output link.old) (seen_link L.input L.output link.new)) }
     ensures request { IfOk result (λ done. Sends (request_of service.now (job_of job.now) sending.attempt) (L.output link.old)
         (L.output link.new) (IsRefusal (reply_of done.reply) done.is_kept)) }
     ensures prefix { (count : ℕ) × ((L.output link.new).got

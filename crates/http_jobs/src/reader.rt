@@ -3,7 +3,7 @@
 ghost use Rattle.std.specs.Prelude.{◌≡◌, ◌++◌, ◌<◌, ◌≤◌, ◌+◌, ◌-◌, ◌^◌, ℕ, List, [], length, Ok, None, OnOk};
 ghost use Rattle.http1.specs.declared.conn.Limits.{Limits as Heads};
 ghost use Rattle.byte_io.specs.Sides.{and_then, counted};
-ghost use Rattle.http_jobs.specs.Reading.{Advanced, Closed, Filled, IsPartway, Stepped, Wants};
+ghost use Rattle.http_jobs.specs.Reading.{Advanced, Closed, FillsOn, IsPartway, NotesMore, Stepped, Wants};
 ghost use Rattle.http_jobs.specs.Reasons.{came_of};
 ghost use Rattle.http_jobs.specs.Response.{is_unserved, most_fields};
 
@@ -174,9 +174,7 @@ impl ResponseReader {
         ensures within { self.new.at ≤ length self.new.unread.items }
         ensures fills { (more : List ℕ) × (lulls : ℕ) × ((L.input link.new).given ≡ and_then (L.input link.old).given more)
             × ((L.input link.new).lulls ≡ counted (L.input link.old).lulls lulls) × (result ≡ Ok Fill.More → 1 ≤ length more + lulls)
-            × ((read : List ℕ) → self.old.came ≡ came_of read → self.new.came ≡ came_of (read ++ more))
-            × ((limits : Heads) (read : List ℕ) → IsPartway limits read self.old → Wants limits read self.old
-            → Filled limits (read ++ more) self.new (L.input link.old) (L.input link.new) result) }
+            × NotesMore self.old self.new more × FillsOn self.old self.new more (L.input link.old) (L.input link.new) result }
         ensures output { L.output link.new ≡ L.output link.old }
         ensures failures { OnOk result ((L.input link.new).failures ≡ (L.input link.old).failures) }
     {

@@ -332,8 +332,8 @@ impl<L: Source + Sink + Look + Drop, D: Dial<L>, C: Clock> ServiceJobs<L, D, C> 
         }
     }
 
-    /// Does a job over the connection that was kept. If it was cut off there before a byte of a response came, and may be sent once more, it is
-    /// done over a new one.
+    /// Does a job over the connection that was kept. If it was cut off there before a byte of a response came, and may be sent once more,
+    /// it is done over a new one.
     fn serve_kept(
         &mut self,
         alloc: Global,
@@ -409,10 +409,10 @@ impl<L: Source + Sink + Look + Drop, D: Dial<L>, C: Clock> ServiceJobs<L, D, C> 
 
     /// Does a job. None if its function has no path of its own: then nothing is sent.
     ///
-    /// It is sent over the kept connection, or over a new one if there is none, or if that has ended, holds a byte that nobody asked for, or
-    /// was not used for 15 seconds. If the kept connection ends or fails before a byte of a response, as one does that the service closed when
-    /// the job came, the job is sent once more, over a new one and by the same deadline, and its request says so by a header. That is not done
-    /// if its terms say so. Unserved says that no answer came, and why the last time.
+    /// It is sent over the kept connection, or over a new one if there is none, or if that has ended, holds a byte that nobody asked for,
+    /// or was not used for 15 seconds. If the kept connection ends or fails before a byte of a response, as one does that the service
+    /// closed when the job came, the job is sent once more, over a new one and by the same deadline, and its request says so by a header.
+    /// That is not done if its terms say so. Unserved says that no answer came, and why the last time.
     pub fn serve(&mut self, alloc: Global, job: &Assignment) -> Result<Option<Reply>, NotDone>
         ensures served { IfOk result (λ reply. Tells self.old.service self.old.terms
             (visible L.input L.output L.quiet self.old.kept (D.calls self.old.dial) (C.shown self.old.clock))

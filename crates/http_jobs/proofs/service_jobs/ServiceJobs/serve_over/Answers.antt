@@ -1,4 +1,4 @@
-use Rattle.std.proofs.Common.{◌≡◌, ◌∙◌, Option, ap, subst}
+use Rattle.std.proofs.Common.{◌∙◌, ap, subst}
 use Rattle.gear_packets.specs.Reading.{job_of}
 use Rattle.byte_io.specs.Sides.{Input, Output, and_then}
 use Rattle.job_runner.specs.Run.{Link, seen_link}
