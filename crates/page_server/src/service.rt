@@ -66,7 +66,7 @@ fn before_attempts(alloc: Global) -> Result<FarmView, AllocError> {
         evidence: None,
         relaxed: None,
         missing: MissingView::NotAsked,
-        size: SizeView::NotAsked,
+        size: SizeView::NoRound,
         attempts: Attempts::new(alloc),
     })
 }
