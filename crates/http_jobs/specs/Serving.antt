@@ -1,6 +1,6 @@
 -- The jobs of a service, and the connections over which they are done.
 use Rattle.std.specs.Prelude.{◌≡◌, ◌≢◌, ℕ, ◌+◌, ◌⊎◌, Bool, true, false, List, [], ◌∷◌, ◌++◌, take, Option, Some, None}
-use Rattle.std.specs.Prelude.{option_map, IsTrue, Result, Ok, Err}
+use Rattle.std.specs.Prelude.{if◌then◌else◌, option_map, IsTrue, Result, Ok, Err}
 use Rattle.std.specs.Option.{option_and_then}
 use Rattle.gear_packets.specs.Response.{AssignedJob}
 use Rattle.byte_io.specs.Deadline.{deadline_from, is_past}
@@ -184,6 +184,11 @@ UnansweredNew s sending old new j other =
     (link : Link) × (begun : Visible) × (e : Unanswered) × OpensNew old link begun × UnansweredOver s sending begun new j link e
     × (other ≡ why_of e)
 
+-- there was no connection
+abbrev pub is_unreachable : NotDone → Bool
+is_unreachable (Not (why.Unreachable reason)) = true
+is_unreachable other = false
+
 -- ---- a job over the kept connection
 
 -- the connection ended, or a read or a write of it failed
@@ -206,6 +211,12 @@ CutOff s resend deadline old new j e time =
     × UnansweredOver s (first_by deadline) begun left j link e
     × (is_sent_again resend e ≡ true) × Looks left time new
 
+-- A job that was cut off for this reason is not answered over a new connection either, and this is why. Or none was opened, and the reason
+-- stays.
+abbrev pub UnansweredAgain : Service → Option ℕ → Unanswered → Visible → Visible → AssignedJob → NotDone → Type 0
+UnansweredAgain s deadline first old new j e =
+    (why : NotDone) × UnansweredNew s (second_by deadline) old new j why × (e ≡ if is_unreachable why then why_of first else why)
+
 -- ---- a job
 
 -- The job is answered over the kept connection. Or over a new one, after the kept one was closed as it was. Or over a new one after it was
@@ -221,8 +232,8 @@ pub data Served (s : Service) (resend : Resend) (deadline : Option ℕ) (old new
       → AnsweredNew s (second_by deadline) begun new j reply
       → Served s resend deadline old new j reply
 
--- The job is not answered, in each of these ways, and this is why the last time. It is not sent once more for any other reason than that it
--- was cut off over the kept connection; nor then, if the deadline has come.
+-- The job is not answered, in each of these ways, and this is why the last time that it was sent. It is not sent once more for any other
+-- reason than that it was cut off over the kept connection; nor then, if the deadline has come, or if no new connection is opened.
 pub data NotAnswered
     (s : Service) (resend : Resend) (deadline : Option ℕ) (old new : Visible) (j : AssignedJob) (e : NotDone) : Type 0 where
   failed_over_kept : (link : Link) (begun : Visible) (unanswered : Unanswered) → TakesKept old link begun
@@ -234,7 +245,7 @@ pub data NotAnswered
       → UnansweredNew s (first_by deadline) begun new j e → NotAnswered s resend deadline old new j e
   failed_again : (unanswered : Unanswered) (time : Option ℕ) (begun : Visible) → CutOff s resend deadline old begun j unanswered time
       → is_past deadline time ≡ false
-      → UnansweredNew s (second_by deadline) begun new j e → NotAnswered s resend deadline old new j e
+      → UnansweredAgain s deadline unanswered begun new j e → NotAnswered s resend deadline old new j e
 
 -- A job begins with a look at the clock, from whose time on it has so long.
 abbrev pub deadline_of : JobTerms → Option ℕ → Option ℕ

@@ -8,8 +8,8 @@ ghost use Rattle.job_runner.specs.Run.{seen_link};
 ghost use Rattle.byte_io.specs.Deadline as spec;
 ghost use Rattle.http_jobs.specs.Serving as serving;
 ghost use Rattle.http_jobs.specs.Serving.{AnsweredNew, AnsweredOver, DialCall, DropsKept, IsNew, IsOpened, Leaves, NotAnswered, NotServed};
-ghost use Rattle.http_jobs.specs.Serving.{Served, TakesKept, Tells, Tries, UnansweredNew, UnansweredOver, Visible, closed, dialled};
-ghost use Rattle.http_jobs.specs.Serving.{kept_failures, visible, then_called};
+ghost use Rattle.http_jobs.specs.Serving.{Served, TakesKept, Tells, Tries, UnansweredAgain, UnansweredNew, UnansweredOver, Visible, closed};
+ghost use Rattle.http_jobs.specs.Serving.{dialled, kept_failures, second_by, then_called, visible};
 ghost use Rattle.http_jobs.specs.Clock.{shown_then};
 
 use crate::clock::{Clock, is_late};
@@ -128,6 +128,13 @@ fn is_sent_again(resend: Resend, unanswered: Unanswered) -> bool
         (Resend::Once, Unanswered::Unserved(reason, Came::Nothing)) => is_cut(reason),
         _ => false,
     }
+}
+
+/// Whether there was no connection.
+fn is_unreachable(why: NotDone) -> bool
+    ensures { result ≡ serving.is_unreachable why }
+{
+    matches!(why, NotDone::Unserved(Unserved::Unreachable(_)))
 }
 
 /// The jobs of a service, which does each by one request and one response. The connection is kept from one to the next if it can be.
@@ -333,7 +340,7 @@ impl<L: Source + Sink + Look + Drop, D: Dial<L>, C: Clock> ServiceJobs<L, D, C> 
     }
 
     /// Does a job over the connection that was kept. If it was cut off there before a byte of a response came, and may be sent once more,
-    /// it is done over a new one.
+    /// it is done over a new one. If none can be opened, it is not served for the first reason.
     fn serve_kept(
         &mut self,
         alloc: Global,
@@ -371,11 +378,43 @@ impl<L: Source + Sink + Look + Drop, D: Dial<L>, C: Clock> ServiceJobs<L, D, C> 
         if is_late(&mut self.clock, deadline) {
             return Err(NotDone::from(unanswered));
         }
+        self.serve_again(alloc, job, deadline, unanswered)
+    }
+
+    /// Does a job over a new connection that was cut off for this reason over the kept one. If none can be opened, that is why it is not
+    /// served: the job may be what its service ended by.
+    fn serve_again(
+        &mut self,
+        alloc: Global,
+        job: &Assignment,
+        deadline: Option<u64>,
+        unanswered: Unanswered,
+    ) -> Result<Reply, NotDone>
+        requires free { self.old.kept ≡ None }
+        ensures answered { IfOk result (λ reply. AnsweredNew self.old.service (second_by deadline)
+            (visible L.input L.output L.quiet self.old.kept (D.calls self.old.dial) (C.shown self.old.clock))
+            (visible L.input L.output L.quiet self.new.kept (D.calls self.new.dial) (C.shown self.new.clock))
+            (job_of job.now) (reply_of reply)) }
+        ensures unanswered { IfErr result (UnansweredAgain self.old.service deadline unanswered
+            (visible L.input L.output L.quiet self.old.kept (D.calls self.old.dial) (C.shown self.old.clock))
+            (visible L.input L.output L.quiet self.new.kept (D.calls self.new.dial) (C.shown self.new.clock))
+            (job_of job.now)) }
+        ensures host { D.host self.new.dial ≡ D.host self.old.dial }
+        ensures service { self.new.service ≡ self.old.service }
+        ensures terms { self.new.terms ≡ self.old.terms }
+    {
         let second = Sending {
             attempt: Attempt::Second,
             deadline,
         };
-        self.serve_new(alloc, job, second)
+        let why = match self.serve_new(alloc, job, second) {
+            Ok(reply) => return Ok(reply),
+            Err(why) => why,
+        };
+        if is_unreachable(why) {
+            return Err(NotDone::from(unanswered));
+        }
+        Err(why)
     }
 
     /// Does a job that begins now, over the kept connection or a new one.
@@ -412,7 +451,7 @@ impl<L: Source + Sink + Look + Drop, D: Dial<L>, C: Clock> ServiceJobs<L, D, C> 
     /// It is sent over the kept connection, or over a new one if there is none, or if that has ended, holds a byte that nobody asked for,
     /// or was not used for 15 seconds. If the kept connection ends or fails before a byte of a response, as one does that the service
     /// closed when the job came, the job is sent once more, over a new one and by the same deadline, and its request says so by a header.
-    /// That is not done if its terms say so. Unserved says that no answer came, and why the last time.
+    /// That is not done if its terms say so. Unserved says that no answer came, and why the last time that the job was sent.
     pub fn serve(&mut self, alloc: Global, job: &Assignment) -> Result<Option<Reply>, NotDone>
         ensures served { IfOk result (λ reply. Tells self.old.service self.old.terms
             (visible L.input L.output L.quiet self.old.kept (D.calls self.old.dial) (C.shown self.old.clock))

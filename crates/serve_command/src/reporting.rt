@@ -277,6 +277,14 @@ impl<'e, H: FarmHost> Reporting<'e, H> {
         milliseconds
     }
 
+    /// Whether the slot's host is left alone.
+    fn is_left_alone(&self, slot: SlotId) -> bool {
+        match self.books.farm.machine_of(slot) {
+            Some(machine) => self.books.hosts.is_left_alone(self, machine),
+            None => false,
+        }
+    }
+
     /// A job that the machine's host left before, as one that it leaves now.
     fn left_again(&self, machine: MachineId) -> LeftJob {
         LeftJob {
@@ -383,7 +391,10 @@ impl<'e, H: FarmHost> Watch for Reporting<'e, H> {
         };
         let held_ms = hold_of(self, self.books.unserved, WorkerName { slot, generation });
         if let Some(milliseconds) = held_ms {
-            self.host.rest(milliseconds.saturating_sub(doubt_ms));
+            // A host that is left alone by now fails and not the job, and another host may do it.
+            if !self.is_left_alone(slot) {
+                self.host.rest(milliseconds.saturating_sub(doubt_ms));
+            }
             give_back(self, self.books.unserved, WorkerName { slot, generation });
         }
     }
