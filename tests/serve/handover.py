@@ -3,7 +3,8 @@
 tests/serve/run calls this. In the place of systemd this script starts and stops the instances of the template unit, as `systemctl` in
 examples/systemd/poolman-handover asks it to. While clients ask for jobs, one after the other, that goes from a farm to one with other
 settings: each job has to be answered, once and rightly, none may be lost, and none may wait for ten rounds. A farm whose files are refused,
-or whose page is at an address that is taken, does not get ready, and the other goes on. What its processes write is in the folder.
+or whose page is at an address that is taken, does not get ready, and the other goes on; but one that works already is handed over from. What
+its processes write is in the folder.
 """
 
 import contextlib
@@ -19,11 +20,11 @@ sys.dont_write_bytecode = True
 TOP = os.path.join(os.path.dirname(os.path.abspath(__file__)), "../..")
 sys.path[:0] = [f"{TOP}/tests/gearmand", f"{TOP}/tests/together"]
 
-from farm import TOTALS, at_once, held, wait_until
+from farm import HOST, TOTALS, at_once, held, wait_until
 
 import suite
 from asking import ask_rightly
-from edge import Edge, good_jobs, settings
+from edge import HOSTS, WORKERS, Edge, good_jobs, settings
 from in_parts import count_or_try
 from page import Page
 from starting import PATIENCE, command_of_unit, ports, untimed
@@ -44,7 +45,9 @@ import socket, sys
 with socket.socket(socket.AF_UNIX) as it:
     it.connect("{address}")
     it.sendall(" ".join(sys.argv[1:]).encode() + b"\\n")
-    sys.exit(int(it.makefile().readline()))
+    status, *state = it.makefile().readline().split()
+    print(*state, end="")
+    sys.exit(int(status))
 """
 
 
@@ -102,9 +105,16 @@ class Systemd:
         del self.running[name]
         return 0
 
-    def is_active(self, name):
+    def state(self, name):
         child, is_ready = self.running.get(name, (None, False))
-        return 0 if is_ready and child.poll() is None else 3
+        if child is None or child.poll() is not None:
+            return "inactive"
+        return "active" if is_ready else "activating"
+
+    def is_active(self, name):
+        """The status of `systemctl is-active`, and what it prints."""
+        state = self.state(name)
+        return f"{0 if state == 'active' else 3} {state}"
 
     def enable(self, name):
         self.enabled.add(name)
@@ -115,7 +125,7 @@ class Systemd:
         return 0
 
     def active(self):
-        return {name for name in self.running if self.is_active(name) == 0}
+        return {name for name in self.running if self.state(name) == "active"}
 
     def handover(self, **seconds):
         """How the script ends, and what it says."""
@@ -139,7 +149,7 @@ class Turns:
         self.folder = processes.folder
         services = processes.text("services.toml")
         self.pages = dict(zip("ab", ports(2)))
-        for name, workers in (("a", 4), ("b", 6)):
+        for name, workers in (("a", WORKERS), ("b", WORKERS + 2)):
             os.mkdir(f"{self.folder}/{name}")
             self.write(name, "settings", settings(self.edge.server, (), round_ms=ROUND_MS, workers=workers))
             self.write(name, "services", services.replace(str(self.edge.page.port), str(self.pages[name])))
@@ -211,7 +221,21 @@ def a_farm_that_does_not_get_ready(program, processes):
     turns.is_handed_over("b", [*turns.systemd.ended, ("a", 0)])
 
 
-PARTS = (a_handover_loses_no_job, a_farm_that_does_not_get_ready)
+def a_farm_that_works_without_its_page(program, processes):
+    """The address of a farm's page is in use, so it works and does not get ready. A handover takes it for the farm that runs."""
+    turns = Turns(program, processes)
+    with socket.socket() as taken:
+        taken.bind((HOST, turns.pages["a"]))
+        taken.listen()
+        threading.Thread(target=turns.systemd.start, args=("a",), daemon=True).start()
+        wait_until(lambda: turns.systemd.state("a") == "activating", PATIENCE, "the first farm is started")
+        wait_until(lambda: turns.edge.sessions() == len(HOSTS) * WORKERS, PATIENCE, "the job server knows its workers")
+        held(turns.systemd.state("a") == "activating", f"the first farm is {turns.systemd.state('a')}")
+        turns.is_handed_over("b", [("a", 0)])
+        turns.edge.ask(good_jobs("after", CLIENTS))
+
+
+PARTS = (a_handover_loses_no_job, a_farm_that_does_not_get_ready, a_farm_that_works_without_its_page)
 
 
 if __name__ == "__main__":
