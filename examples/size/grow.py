@@ -2,12 +2,16 @@
 """Adds the workers that are missing: grow.py SETTINGS SERVICES NEW_SETTINGS
 
 Asks the page of the farm, which SERVICES names, how many workers are missing, and writes settings with these workers to NEW_SETTINGS. A
-machine whose host is not reached gets none, and a line says so. Then it starts a second `poolman serve` with them, drains the first, and
-prints the process of the second. If nothing is to be added, nothing is written. `poolman` is looked for on the search path.
+machine whose host is not reached gets none, and a line says so. `poolman settings` checks them. Then it starts a second `poolman serve` with
+them, waits 5 seconds (`TOGETHER_SECONDS`) so that its workers have their functions, drains the first, and prints the process of the second.
+If the second has ended by then, the first goes on. If nothing is to be added, nothing is written. `poolman` is looked for on the search
+path.
 """
+import os
 import re
 import subprocess
 import sys
+import time
 import tomllib
 import urllib.error
 import urllib.request
@@ -38,6 +42,17 @@ def with_workers(text, name, more):
     return grown
 
 
+def started(settings, services):
+    """A farm with these files, once its workers have had time to come. It has no page yet, since the first farm has the address."""
+    if subprocess.run(["poolman", "settings", settings, services], stdout=subprocess.DEVNULL).returncode:
+        sys.exit("grow: the new settings are refused, and the first farm goes on")
+    second = subprocess.Popen(["poolman", "serve", settings, services], start_new_session=True)
+    time.sleep(float(os.environ.get("TOGETHER_SECONDS", "5")))
+    if second.poll() is not None:
+        sys.exit(f"grow: the second farm ended with status {second.returncode}, and the first goes on")
+    return second
+
+
 def main(settings, services, new_settings):
     with open(services, "rb") as it:
         page = tomllib.load(it)["page"]["listen"]
@@ -59,7 +74,7 @@ def main(settings, services, new_settings):
         return
     with open(new_settings, "w") as it:
         it.write(text)
-    second = subprocess.Popen(["poolman", "serve", new_settings, services], start_new_session=True)
+    second = started(new_settings, services)
     subprocess.run(["poolman", "drain", services], check=True, stdout=subprocess.DEVNULL)
     print(f"serves {second.pid}")
 

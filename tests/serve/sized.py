@@ -59,11 +59,23 @@ class Sized:
         """Looks again and again until a size is so."""
         wait_until(lambda: is_so(self.look()), PATIENCE, what)
 
-    def grow(self):
+    def grow(self, **environment):
         """Starts the script of the example."""
         files = [f"{self.folder}/{name}.toml" for name in ("settings", "services", "grown")]
         path = f"{os.path.dirname(self.edge.program)}:{os.environ['PATH']}"
-        return self.edge.processes.start("grow", sys.executable, GROW, *files, env={**os.environ, "PATH": path})
+        return self.edge.processes.start("grow", sys.executable, GROW, *files, env={**os.environ, "PATH": path, **environment})
+
+    def grow_in_vain(self):
+        """The same, where the second farm ends at once: the first goes on."""
+        os.mkdir(f"{self.folder}/bin")
+        with open(f"{self.folder}/bin/poolman", "w") as it:
+            it.write(f'#!/bin/sh\n[ "$1" != serve ] || exit 3\nexec {self.edge.program} "$@"\n')
+        os.chmod(f"{self.folder}/bin/poolman", 0o755)
+        grow = self.grow(PATH=f"{self.folder}/bin:{os.environ['PATH']}", TOGETHER_SECONDS="1")
+        held(grow.wait(PATIENCE) == 1, "grow.py did not fail")
+        said = self.edge.processes.text("grow.err")
+        held(said == "grow: the second farm ended with status 3, and the first goes on\n", f"grow.py said {said}")
+        held(self.edge.is_well(), "the first farm is not well")
 
     def missing(self, host):
         text = self.edge.page.text("/metrics")
@@ -100,7 +112,7 @@ def each_size_is_shown(program, processes):
 
 def what_is_missing_is_added(program, processes):
     """A service is slow, so that more jobs wait for its workers than are wanted. The example's script adds the workers that are missing: a
-    second farm takes over, and nothing is missing then."""
+    second farm takes over, and nothing is missing then. If the second ends at once, the first goes on."""
     sized = Sized(program, processes)
     edge = sized.edge
     edge.start()
@@ -109,6 +121,7 @@ def what_is_missing_is_added(program, processes):
     with contextlib.closing(Client(edge.server, PATIENCE)) as client:
         client.leave([(b"upper", b"%d" % number) for number in range(20)])
     sized.looks_until(lambda size: "\nadd 4\non north 4\n" in size, "four workers are missing")
+    sized.grow_in_vain()
     grow = sized.grow()
     # The workers of the first farm that have no job end.
     wait_until(lambda: edge.sessions() == WORKERS + 2 * WORKERS + WORKERS, PATIENCE, "the second farm has its workers")
