@@ -1,3 +1,4 @@
 pub mod Evidence
 pub mod Notes
 pub mod Relaxed
+pub mod Sizes

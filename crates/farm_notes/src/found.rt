@@ -3,6 +3,7 @@
 ghost use Rattle.std.specs.Prelude.{◌≡◌, ◌≤◌, IfOk, length, sum};
 ghost use Rattle.farm_notes.specs.Evidence as spec;
 ghost use Rattle.farm_notes.specs.Notes.{is_of, numbered};
+ghost use Rattle.farm_notes.specs.Sizes.{KeepsFarmOf};
 ghost use Rattle.pool_supervisor.specs.Steps.{IsMadeOf};
 
 use crate::kept_evidence::KeptEvidence;
@@ -54,6 +55,7 @@ fn posed_of(
     wanted: Option<Wanted<'_>>,
 ) -> Option<PosedSize>
     requires of_these { IsMadeOf settings.now input.now }
+    ensures { KeepsFarmOf settings.now input.now wanted.entry result }
 {
     let Wanted { unbounded, backlog } = wanted?;
     PosedSize::of(alloc, settings, unbounded, input, backlog).ok()
@@ -136,7 +138,8 @@ fn shortage_of(
 }
 
 impl Found {
-    /// What a page shows of this answer. The only error is out of memory.
+    /// What a page shows of this answer, with the farm of its problem if a backlog is wanted. The only error is out of memory. There may be
+    /// none for the farm: then all else is kept.
     pub fn of(
         alloc: Global,
         settings: &Settings,
@@ -147,6 +150,7 @@ impl Found {
         ensures evidence { IfOk result (λ found. spec.IsEvidenceOf settings.now certified.now found.evidence) }
         ensures waiting { IfOk result (λ found. found.waiting.items ≡ certified.now.input.waiting) }
         ensures waiting_jobs { IfOk result (λ found. found.waiting_jobs ≡ sum certified.now.input.waiting) }
+        ensures posed { IfOk result (λ found. KeepsFarmOf settings.now certified.now.input wanted.entry found.posed) }
     {
         let input = certified.input();
         input.facts();
