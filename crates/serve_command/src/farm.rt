@@ -1,6 +1,6 @@
 //! A farm: the settings of its pool, and the services of its machines.
 
-ghost use Rattle.std.specs.Prelude.{◌≡◌, ◌<◌, IfErr, IfOk, IfSome, IsSome, Some, slice_get, string_bytes};
+ghost use Rattle.std.specs.Prelude.{◌≡◌, ◌<◌, IfErr, IfOk, IfSome, IsSome, Some, length, slice_get, slice_index, string_bytes};
 ghost use Rattle.pool_settings.specs.Slots.{machine_of, slots};
 ghost use Rattle.serve_command.specs.Farm as spec;
 ghost use Rattle.service_settings.specs.Keys.{connect_ms_of};
@@ -123,6 +123,17 @@ impl Farm {
             return None;
         }
         Some(self.settings.machine_of(slot))
+    }
+
+    /// How many workers a machine has. 0 if it is none of the farm.
+    pub fn workers_on(&self, machine: MachineId) -> u32
+        ensures there { machine < length self.now.settings.machines → result ≡ slice_index self.now.settings.workers machine }
+        ensures none { (machine < length self.now.settings.machines → ⊥) → result ≡ 0 }
+    {
+        if machine.number() >= self.settings.machines() {
+            return 0;
+        }
+        self.settings.workers(machine)
     }
 
     /// Where the jobs of a worker go.

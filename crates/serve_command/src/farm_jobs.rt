@@ -279,7 +279,7 @@ fn note_left<R: Wait>(
 fn left_job(farm: &Farm, machine: MachineId, times: Option<u32>, now_ms: Option<u64>) -> LeftJob {
     LeftJob {
         is_new: times.unwrap_or(1) == 1,
-        workers: farm.settings.workers(machine),
+        workers: farm.workers_on(machine),
         now_ms,
     }
 }

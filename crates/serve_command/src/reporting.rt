@@ -243,7 +243,7 @@ fn jobs_again<R: Wait>(rt: &R, books: &Books<'_>, now_ms: Option<u64>) -> JobsAg
     let unread = books.unread.lock(rt).held;
     JobsAgain {
         times: if times > 1 { times } else { 0 },
-        held: books.unserved.lock(rt).held() as u32 + unread,
+        held: unread.saturating_add(books.unserved.lock(rt).held() as u32),
     }
 }
 
@@ -287,9 +287,10 @@ impl<'e, H: FarmHost> Reporting<'e, H> {
 
     /// A job that the machine's host left before, as one that it leaves now.
     fn left_again(&self, machine: MachineId) -> LeftJob {
+        let farm = self.books.farm;
         LeftJob {
             is_new: false,
-            workers: self.books.farm.settings.workers(machine),
+            workers: farm.workers_on(machine),
             now_ms: self.host.now_ms(),
         }
     }
