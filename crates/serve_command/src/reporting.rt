@@ -4,6 +4,7 @@ ghost use Rattle.std.specs.Prelude.{◌≡◌};
 ghost use Rattle.serve_command.specs.Serving as spec;
 
 use crate::books::Books;
+use crate::farm::Farm;
 use crate::farm_jobs::host_line;
 use crate::host::FarmHost;
 use crate::job_lines::{Uncompleted, job_words, line_of, lost_job};
@@ -257,43 +258,29 @@ fn give_back<R: Wait>(rt: &R, unserved: &Mutex<UnservedJobs>, worker: WorkerName
     unserved.lock(rt).give_back(worker);
 }
 
-impl<'e, H: FarmHost> Reporting<'e, H> {
-    /// While it is in doubt whether the slot's host serves jobs, a worker keeps the job that it left, since another would leave it too. If
-    /// none was served meanwhile the host is left alone. How many milliseconds that took.
-    fn wait_in_doubt(&self, slot: SlotId) -> u32 {
-        let Some(machine) = self.books.farm.machine_of(slot) else {
-            return 0;
-        };
-        let left = self.left_again(machine);
-        let milliseconds = self.books.hosts.doubt_ms(self, machine, left) as u32;
-        if milliseconds > 0 {
-            self.host.rest(milliseconds);
-            let left = self.left_again(machine);
-            let _turn = self.books.hosts.turn(self.host);
-            let news = self.books.hosts.note_unserved(self, machine, left);
-            self.host
-                .tell_if(host_line(self.alloc, self.books.farm, machine, news));
-        }
-        milliseconds
+/// A job that the machine's host left before, as one that it leaves now.
+fn left_before(farm: &Farm, machine: MachineId, now_ms: Option<u64>) -> LeftJob {
+    LeftJob {
+        is_new: false,
+        workers: farm.workers_on(machine),
+        now_ms,
     }
+}
 
-    /// Whether the slot's host is left alone.
-    fn is_left_alone(&self, slot: SlotId) -> bool {
-        match self.books.farm.machine_of(slot) {
-            Some(machine) => self.books.hosts.is_left_alone(self, machine),
-            None => false,
-        }
+/// For how many milliseconds more it is in doubt whether the machine's host serves jobs. 0 after a worker that ended for another reason
+/// than that its job was not served.
+fn doubt_of<R: Wait>(
+    rt: &R,
+    books: &Books<'_>,
+    machine: MachineId,
+    cause: EndCause,
+    now_ms: Option<u64>,
+) -> u32 {
+    if cause != EndCause::Unserved {
+        return 0;
     }
-
-    /// A job that the machine's host left before, as one that it leaves now.
-    fn left_again(&self, machine: MachineId) -> LeftJob {
-        let farm = self.books.farm;
-        LeftJob {
-            is_new: false,
-            workers: farm.workers_on(machine),
-            now_ms: self.host.now_ms(),
-        }
-    }
+    let left = left_before(books.farm, machine, now_ms);
+    u32::try_from(books.hosts.doubt_ms(rt, machine, left)).unwrap_or(0)
 }
 
 /// For how many milliseconds the link of a worker is to be held that met a job that is too large to be read, if it is.
@@ -386,14 +373,24 @@ impl<'e, H: FarmHost> Watch for Reporting<'e, H> {
             return;
         }
         let WorkerName { slot, generation } = worker;
-        let doubt_ms = match cause {
-            EndCause::Unserved => self.wait_in_doubt(slot),
-            _ => 0,
+        let farm = self.books.farm;
+        let Some(machine) = farm.machine_of(slot) else {
+            return;
         };
+        let doubt_ms = doubt_of(self.host, &self.books, machine, cause, self.host.now_ms());
+        if doubt_ms > 0 {
+            // Another worker would leave the job too. If none is served meanwhile the host is left alone.
+            self.host.rest(doubt_ms);
+            let left = left_before(farm, machine, self.host.now_ms());
+            let _turn = self.books.hosts.turn(self.host);
+            let news = self.books.hosts.note_unserved(self.host, machine, left);
+            self.host
+                .tell_if(host_line(self.alloc, farm, machine, news));
+        }
         let held_ms = hold_of(self, self.books.unserved, WorkerName { slot, generation });
         if let Some(milliseconds) = held_ms {
             // A host that is left alone by now fails and not the job, and another host may do it.
-            if !self.is_left_alone(slot) {
+            if !self.books.hosts.is_left_alone(self.host, machine) {
                 self.host.rest(milliseconds.saturating_sub(doubt_ms));
             }
             give_back(self, self.books.unserved, WorkerName { slot, generation });
