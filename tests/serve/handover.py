@@ -81,7 +81,9 @@ class Systemd:
         """Starts an instance, and waits until it is ready."""
         files = [f"{self.processes.folder}/{name}/{file}.toml" for file in ("settings", "services")]
         with socket.socket(socket.AF_UNIX, socket.SOCK_DGRAM) as manager:
-            notify = f"{self.processes.folder}/{name}/notify-{time.monotonic_ns()}"
+            folder = f"{self.processes.folder}/{name}"
+            # The address of a socket has 107 bytes at most.
+            notify = f"{folder}/{len(os.listdir(folder))}"
             manager.bind(notify)
             manager.settimeout(0.1)
             environment = {**os.environ, "NOTIFY_SOCKET": notify}
@@ -221,7 +223,7 @@ def a_farm_that_does_not_get_ready(program, processes):
     turns.is_handed_over("b", [*turns.systemd.ended, ("a", 0)])
 
 
-def a_farm_that_works_without_its_page(program, processes):
+def a_farm_without_its_page(program, processes):
     """The address of a farm's page is in use, so it works and does not get ready. A handover takes it for the farm that runs."""
     turns = Turns(program, processes)
     with socket.socket() as taken:
@@ -235,7 +237,7 @@ def a_farm_that_works_without_its_page(program, processes):
         turns.edge.ask(good_jobs("after", CLIENTS))
 
 
-PARTS = (a_handover_loses_no_job, a_farm_that_does_not_get_ready, a_farm_that_works_without_its_page)
+PARTS = (a_handover_loses_no_job, a_farm_that_does_not_get_ready, a_farm_without_its_page)
 
 
 if __name__ == "__main__":
