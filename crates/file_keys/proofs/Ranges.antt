@@ -51,6 +51,7 @@ taken (kind.Number low high) value n good = by (number_between low high value) (
     by : (o : Option ℕ) → (is_some o ≡ true → IsFrom low high (unwrap_or o 0)) → IsFrom low high (unwrap_or o n)
     by None h = good
     by (Some m) h = h refl
+taken kind.Boolean value n good = good
 taken kind.Text value n good = good
 taken (kind.Bytes low high) value n good = good
 taken kind.Texts value n good = good

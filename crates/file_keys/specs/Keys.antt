@@ -5,7 +5,7 @@ use Rattle.std.specs.Borrow.{Bor}
 use Rattle.std.specs.List.{find, list_all, list_any}
 use Rattle.std.specs.Option.{option_map_or}
 use Rattle.std.specs.Str.{bytes_eq}
-use Rattle.toml.specs.Data.{Data, Members, as_str, as_array, get_member}
+use Rattle.toml.specs.Data.{Data, Members, as_bool, as_str, as_array, get_member}
 use Rattle.file_keys.specs.Hosts.{has_port, is_host, is_socket}
 use Rattle.file_keys.specs.Tree.{has_key, number_between, text_between, values_in}
 use Rattle.file_keys.specs.declared.keys.Absent.{Absent}
@@ -22,6 +22,7 @@ Key = Row (List ℕ)
 abbrev pub absent_view : {T : Type 0} → (T → List ℕ) → Absent T → Absent (List ℕ)
 absent_view words absent.Refused = absent.Refused
 absent_view words (absent.Number n) = absent.Number n
+absent_view words (absent.Boolean b) = absent.Boolean b
 absent_view words (absent.Text t) = absent.Text (words t)
 absent_view words (absent.Words t) = absent.Words (words t)
 
@@ -59,6 +60,14 @@ default_in other = None
 -- the number that a file without the key means
 abbrev pub default_of : Key → Option ℕ
 default_of key = default_in key.absent
+
+abbrev pub default_boolean_in : Absent (List ℕ) → Option Bool
+default_boolean_in (absent.Boolean b) = Some b
+default_boolean_in other = None
+
+-- whether a file without the key means true or false, if it means one of them
+abbrev pub default_boolean_of : Key → Option Bool
+default_boolean_of key = default_boolean_in key.absent
 
 abbrev pub default_text_in : Absent (List ℕ) → Option (List ℕ)
 default_text_in (absent.Text t) = Some t
@@ -109,6 +118,7 @@ is_list_of_texts value = is_some (as_array value) && list_all (λ d. is_some (as
 
 abbrev pub takes : KeyValue → Data → Bool
 takes (kind.Number least most) value = is_some (number_between least most value)
+takes kind.Boolean value = is_some (as_bool value)
 takes kind.Text value = is_some (as_str value)
 takes (kind.Bytes least most) value = is_some (text_between least most value)
 takes kind.Texts value = is_list_of_texts value
@@ -171,6 +181,14 @@ most_at keys place = option_map_or most_of (slice_get keys place) 0
 -- each number is in the range of the key in its place
 abbrev pub AreInRange : List Key → List ℕ → Type 0
 AreInRange keys numbers = (k : ℕ) → k < length keys → (least_at keys k ≤ slice_index numbers k) × (slice_index numbers k ≤ most_at keys k)
+
+abbrev pub boolean_as : KeyValue → Data → Option Bool
+boolean_as kind.Boolean value = as_bool value
+boolean_as other value = None
+
+-- whether the value at a key is true, or its default
+abbrev pub boolean_of : Key → Members → Option Bool
+boolean_of key table = option_map_or (boolean_as key.value) (get_member key.name table) (default_boolean_of key)
 
 abbrev pub text_as : KeyValue → Data → Option (List ℕ)
 text_as (kind.Bytes least most) value = text_between least most value

@@ -16,6 +16,8 @@ pub enum KeyValue {
         /// The greatest number.
         most: u32,
     },
+    /// True or false.
+    Boolean,
     /// A text.
     Text,
     /// A text of `least` to `most` bytes.
@@ -42,6 +44,8 @@ pub enum Absent<T> {
     Refused,
     /// This number.
     Number(u32),
+    /// Whether this holds.
+    Boolean(bool),
     /// This text.
     Text(T),
     /// What these words say.
@@ -80,6 +84,16 @@ pub fn default_of(key: &Key) -> Option<u32>
 {
     match key.absent {
         Absent::Number(number) => Some(number),
+        _ => None,
+    }
+}
+
+/// Whether a file without the key means true or false, if it means one of them.
+pub fn default_boolean_of(key: &Key) -> Option<bool>
+    ensures { result ≡ spec.default_boolean_of (spec.key_view key.now) }
+{
+    match key.absent {
+        Absent::Boolean(holds) => Some(holds),
         _ => None,
     }
 }
@@ -123,6 +137,7 @@ impl fmt::Display for KeyValue {
             KeyValue::Number { least, most } => {
                 write!(out, "a number from {least} to {most} is wanted")
             }
+            KeyValue::Boolean => out.write_str("true or false is wanted"),
             KeyValue::Text => out.write_str("a text is wanted"),
             KeyValue::Bytes { least, most } => {
                 write!(out, "a text of {least} to {most} bytes is wanted")

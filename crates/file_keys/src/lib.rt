@@ -12,5 +12,6 @@ pub use keys::{Absent, Key, KeyValue, Row, is_known};
 pub use table_text::push_keys;
 pub use tree::{number_between, value_at};
 pub use values::{
-    as_address, first_bad, first_missing, is_bad, number_of, numbers_in, text_in, text_of,
+    as_address, boolean_of, first_bad, first_missing, is_bad, number_of, numbers_in, text_in,
+    text_of,
 };

@@ -13,6 +13,7 @@ fn push_value(out: &mut String, value: KeyValue) -> Result<(), AllocError> {
             "{least} or {most}"
         ),
         KeyValue::Number { least, most } => write!(out, "{least} to {most}"),
+        KeyValue::Boolean => out.push_str("true or false"),
         KeyValue::Text => out.push_str("a text"),
         KeyValue::Bytes { least, most } => write!(out, "{least} to {most} bytes"),
         KeyValue::Texts => out.push_str("a list of texts"),
@@ -27,6 +28,7 @@ fn push_absent(out: &mut String, absent: Absent<&str>) -> Result<(), AllocError>
     match absent {
         Absent::Refused => out.push_str("required"),
         Absent::Number(number) => write!(out, "{number}"),
+        Absent::Boolean(holds) => write!(out, "{holds}"),
         Absent::Text(text) => write!(out, "`{text}`"),
         Absent::Words(words) => out.push_str(words),
     }

@@ -9,7 +9,9 @@ ghost use Rattle.file_keys.specs.Keys as spec;
 ghost use Rattle.file_keys.specs.Tree.{values_of};
 
 use crate::hosts::{has_port, is_host, is_socket};
-use crate::keys::{Key, KeyValue, default_of, default_text_of, is_required, least_of};
+use crate::keys::{
+    Key, KeyValue, default_boolean_of, default_of, default_text_of, is_required, least_of,
+};
 use crate::tree::{number_between, text_between, value_at};
 use toml::{Table, Value};
 
@@ -83,6 +85,7 @@ fn takes(wanted: KeyValue, value: &Value) -> bool
 {
     match wanted {
         KeyValue::Number { least, most } => number_between(least, most, value).is_some(),
+        KeyValue::Boolean => value.as_bool().is_some(),
         KeyValue::Text => value.is_str(),
         KeyValue::Bytes { least, most } => text_between(least, most, value).is_some(),
         KeyValue::Texts => is_list_of_texts(value),
@@ -168,6 +171,26 @@ pub fn numbers_in<const N: usize>(keys: &[Key], table: &Table) -> [u32; N]
         numbers[place] = number_in(&keys[place], table);
     }
     numbers
+}
+
+/// Whether a value that has to be true or false is true, if it is one of them.
+fn boolean_as(wanted: KeyValue, value: &Value) -> Option<bool>
+    ensures { result ≡ spec.boolean_as wanted (view value.now) }
+{
+    match wanted {
+        KeyValue::Boolean => value.as_bool(),
+        _ => None,
+    }
+}
+
+/// Whether the value at a key is true, or its default. None if its value is anything else.
+pub fn boolean_of(key: &Key, table: &Table) -> Option<bool>
+    ensures { result ≡ spec.boolean_of (spec.key_view key.now) (table_view table.now) }
+{
+    match value_at(table, key.name) {
+        Some(value) => boolean_as(key.value, value),
+        None => default_boolean_of(key),
+    }
 }
 
 /// The text that a value has to be, if it is one and its length is bounded.

@@ -8,5 +8,6 @@ services_view s = record {
   urls = s.urls.items;
   timeouts = s.timeouts.items;
   retries = s.retries.items;
+  resends = s.resends.items;
   page = s.page;
 }

@@ -4,7 +4,7 @@ use Rattle.std.specs.Prelude.{option_and_then, option_map, codes, Result, Ok, Er
 use Rattle.std.specs.List.{filter_map, find}
 use Rattle.std.specs.Option.{option_map_or, option_or}
 use Rattle.toml.specs.Data.{Members, as_str, as_table, get_member}
-use Rattle.file_keys.specs.Keys.{Key, as_address, first_bad, first_missing, is_bad, is_known, name_of, number_of, numbers_in}
+use Rattle.file_keys.specs.Keys.{Key, as_address, boolean_of, first_bad, first_missing, is_bad, is_known, name_of, number_of, numbers_in}
 use Rattle.file_keys.specs.Tree.{Entry, entries_at, entries_in, entries_of, has_key, values_in}
 use Rattle.pool_settings.specs.Names.{place_of}
 use Rattle.pool_settings.specs.Place.{first_in, first_of, unless}
@@ -14,7 +14,7 @@ use Rattle.pool_settings.specs.declared.place.Place.TheVariants as at
 use Rattle.pool_settings.specs.declared.place.Section.{Section}
 use Rattle.pool_settings.specs.declared.place.Section.TheVariants as section
 use Rattle.service_settings.specs.Keys.{backlog_row, function_keys, functions_row, hosts_row, listen_row, machine_keys, machines_row}
-use Rattle.service_settings.specs.Keys.{page_keys, page_row, retries_row, timeout_ms_row, top_keys, url_row, version_row}
+use Rattle.service_settings.specs.Keys.{page_keys, page_row, resend_row, retries_row, timeout_ms_row, top_keys, url_row, version_row}
 use Rattle.service_settings.specs.Services.{Page, Services, Url}
 use Rattle.service_settings.specs.Url.{is_https, url_of}
 use Rattle.service_settings.specs.declared.error.ServicesError.{ServicesError}
@@ -216,6 +216,13 @@ timeout_for settings tree name =
 abbrev pub retries_for : Members → List ℕ → Option ℕ
 retries_for tree name = option_and_then (number_of retries_row) (entry_table section.Functions tree name)
 
+abbrev pub own_resend : Members → List ℕ → Option Bool
+own_resend tree name = option_and_then (boolean_of resend_row) (entry_table section.Functions tree name)
+
+-- whether a job of a function that a kept connection cut off is sent once more: it is, if the function says nothing of it
+abbrev pub resend_for : Members → List ℕ → Bool
+resend_for tree name = unwrap_or (own_resend tree name) true
+
 abbrev pub hosts_in : Members → List (List ℕ)
 hosts_in page = filter_map as_str (option_map_or values_in (get_member hosts_key page) [])
 
@@ -235,6 +242,7 @@ services_of settings tree = record {
   urls = filter_map (url_for tree) settings.machines;
   timeouts = map (timeout_for settings tree) settings.functions;
   retries = map (retries_for tree) settings.functions;
+  resends = map (resend_for tree) settings.functions;
   page = page_in tree;
 }
 

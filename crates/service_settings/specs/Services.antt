@@ -1,5 +1,5 @@
 -- The services of a farm, apart from how they are kept.
-use Rattle.std.specs.Prelude.{◌≡◌, ℕ, ◌≤◌, List, Option, length, true}
+use Rattle.std.specs.Prelude.{◌≡◌, ℕ, ◌≤◌, Bool, List, Option, length, true}
 use Rattle.std.specs.Char.{is_ascii_graphic}
 use Rattle.std.specs.List.{list_all}
 
@@ -35,5 +35,7 @@ pub record Services : Type 0 where
   pub timeouts : List ℕ
   -- for each function how many times a job that services leave unserved comes again before it fails, if that is bounded
   pub retries : List (Option ℕ)
+  -- for each function whether a job that a kept connection cut off is sent once more
+  pub resends : List Bool
   -- the page, if there is one
   pub page : Option Page

@@ -5,11 +5,11 @@ ghost use Rattle.std.specs.List.{filter_map};
 ghost use Rattle.toml.specs.View.{table_view};
 ghost use Rattle.service_settings.specs.Reading as spec;
 
-use crate::keys::{RETRIES, TIMEOUT_MS};
+use crate::keys::{RESEND, RETRIES, TIMEOUT_MS};
 use crate::service_url::ServiceUrl;
 use crate::tree::entry_table;
 use crate::urls::url_text;
-use file_keys::number_of;
+use file_keys::{boolean_of, number_of};
 use plan_model::{FuncId, MachineId};
 use pool_settings::{Section, Settings};
 use std::alloc::{AllocError, Global};
@@ -96,4 +96,24 @@ pub fn retries_of(
         retries.push(retries_for(tree, name))?;
     }
     Ok(retries)
+}
+
+fn own_resend(tree: &Table, name: &str) -> Option<bool>
+    ensures { result ≡ spec.own_resend (table_view tree.now) name.now }
+{
+    let function = entry_table(Section::Functions, tree, name)?;
+    boolean_of(&RESEND, function)
+}
+
+/// Whether a job of each function is sent once more, if a kept connection cut it off before any byte of a response: it is, if the function
+/// says nothing of it.
+pub fn resends_of(alloc: Global, settings: &Settings, tree: &Table) -> Result<Vec<bool>, AllocError>
+    ensures { IfOk result (λ resends. resends.items ≡ map (spec.resend_for (table_view tree.now)) settings.now.functions) }
+{
+    let mut resends = Vec::new(alloc);
+    for number in 0..settings.functions() {
+        let name = settings.function_name(FuncId::new(number));
+        resends.push(own_resend(tree, name).unwrap_or(true))?;
+    }
+    Ok(resends)
 }

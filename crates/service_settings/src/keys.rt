@@ -68,6 +68,13 @@ pub const RETRIES: Key = Row {
     help: "how many times a job of F that services leave unserved comes again before it fails",
 };
 
+pub const RESEND: Key = Row {
+    name: "resend",
+    value: KeyValue::Boolean,
+    absent: Absent::Boolean(true),
+    help: "whether a job of F that a kept connection cut off before any byte of a response is sent once more",
+};
+
 pub const MACHINE_URL: Key = Row {
     name: "url",
     value: KeyValue::Text,
@@ -109,7 +116,7 @@ pub const CONNECT_PLACE: usize = 2;
 pub static TOP_KEYS: [Key; TOP] = [VERSION, URL, CONNECT_MS, FUNCTIONS, MACHINES, PAGE];
 
 /// The keys of the table of a function.
-pub static FUNCTION_KEYS: [Key; 2] = [TIMEOUT_MS, RETRIES];
+pub static FUNCTION_KEYS: [Key; 3] = [TIMEOUT_MS, RETRIES, RESEND];
 
 /// The keys of the table of a machine.
 pub static MACHINE_KEYS: [Key; 1] = [MACHINE_URL];

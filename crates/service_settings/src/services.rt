@@ -7,7 +7,7 @@ ghost use Rattle.toml.specs.View.{table_view};
 ghost use Rattle.service_settings.specs.Keys.{connect_ms_of};
 ghost use Rattle.service_settings.specs.Reading as spec;
 
-use crate::build::{retries_of, timeouts_of, urls_of};
+use crate::build::{resends_of, retries_of, timeouts_of, urls_of};
 use crate::keys::{CONNECT_PLACE, TOP, TOP_KEYS};
 use crate::page::Page;
 use crate::service_url::ServiceUrl;
@@ -19,7 +19,8 @@ use std::alloc::{AllocError, Global};
 use std::marker::Model;
 use toml::Table;
 
-/// The services of a farm: where the jobs of each machine go, how long one may take, how many times one may come again, and the page.
+/// The services of a farm: where the jobs of each machine go, how long one may take, how many times one may come again, whether one is
+/// sent once more, and the page.
 /// Machines and functions have the numbers of the settings that the file was read with.
 #[derive(Drop)]
 pub struct Services {
@@ -27,6 +28,7 @@ pub struct Services {
     urls: Vec<ServiceUrl>,
     timeouts: Vec<u32>,
     retries: Vec<Option<u32>>,
+    resends: Vec<bool>,
     page: Option<Page>,
 }
 
@@ -41,7 +43,8 @@ impl Model for Services {
 
     ghost view = { services_view };
 
-    ghost invariant = { λ s. AllInRange s.numbers × (length s.retries.items ≡ length s.timeouts.items) };
+    ghost invariant = { λ s. AllInRange s.numbers × (length s.retries.items ≡ length s.timeouts.items)
+        × (length s.resends.items ≡ length s.timeouts.items) };
 }
 
 /// The services of a tree, less the machines that have no URL.
@@ -51,12 +54,14 @@ pub fn services_of(alloc: Global, settings: &Settings, tree: &Table) -> Result<S
     let urls = urls_of(alloc, settings, tree)?;
     let timeouts = timeouts_of(alloc, settings, tree)?;
     let retries = retries_of(alloc, settings, tree)?;
+    let resends = resends_of(alloc, settings, tree)?;
     let page = Page::read(alloc, tree)?;
     Ok(Services {
         numbers: numbers_in(&TOP_KEYS, tree),
         urls,
         timeouts,
         retries,
+        resends,
         page,
     })
 }
@@ -121,6 +126,14 @@ impl Services {
         ensures { result ≡ slice_index_or self.now.retries function None }
     {
         self.retries[function.number() as usize]
+    }
+
+    /// Whether a job of a function is sent once more, if a kept connection cut it off before any byte of a response.
+    pub fn resends(&self, function: FuncId) -> bool
+        requires { function < length self.now.timeouts }
+        ensures { result ≡ slice_index_or self.now.resends function true }
+    {
+        self.resends[function.number() as usize]
     }
 
     /// The page, if the file has one.
