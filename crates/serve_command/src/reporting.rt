@@ -241,7 +241,7 @@ fn jobs_again<R: Wait>(rt: &R, books: &Books<'_>, now_ms: Option<u64>) -> JobsAg
         }
         None => 0,
     };
-    let unread = books.unread.lock(rt).held;
+    let unread = books.unread.lock(rt).held();
     JobsAgain {
         times: if times > 1 { times } else { 0 },
         held: unread.saturating_add(books.unserved.lock(rt).held() as u32),

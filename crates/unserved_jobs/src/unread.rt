@@ -4,6 +4,7 @@ ghost use Rattle.std.specs.Prelude.{◌≡◌, ◌≤◌, ◌+◌, ◌-◌, min}
 ghost use Rattle.unserved_jobs.specs.Unread as spec;
 
 use crate::job::{FORGET_MS, hold_ms};
+use std::marker::Model;
 
 /// How many links are held at most: each costs a thread and a file, and only a few jobs are so large.
 const MOST_LINKS: u32 = 16;
@@ -11,14 +12,22 @@ const MOST_LINKS: u32 = 16;
 /// The workers that ended lately since a packet of their job server could not be read, as one with a job that is too large. Which job that
 /// was is not known: its handle is in the packet. So the job is held by the link to which it was given, and the links of all such workers
 /// are counted together.
-#[derive(Clone, Copy, Debug, PartialEq, Eq)]
+#[derive(Drop)]
 pub struct UnreadJobs {
-    /// How many workers ended so, each less than 10 minutes after the one before.
-    pub times: u32,
-    /// When the last one did, in milliseconds.
-    pub last_ms: u64,
-    /// How many of their links are held: 16 at most.
-    pub held: u32,
+    times: u32,
+    last_ms: u64,
+    held: u32,
+}
+
+impl Model for UnreadJobs {
+    ghost use Rattle.std.specs.Prelude.{◌≤◌};
+    ghost use Rattle.unserved_jobs.specs.Unread.{Unread};
+
+    ghost Value = { Unread };
+
+    ghost view = { λ unread. record { times = unread.times; last_ms = unread.last_ms; held = unread.held } };
+
+    ghost invariant = { λ unread. unread.held ≤ 16 };
 }
 
 impl UnreadJobs {
@@ -40,7 +49,7 @@ impl UnreadJobs {
         ensures time { result ≡ spec.unread_hold_ms now_ms self.old }
         ensures times { self.new.times ≡ spec.unread_times now_ms self.old }
         ensures last { self.new.last_ms ≡ now_ms }
-        ensures held { self.old.held ≤ 16 → self.new.held ≡ min (self.old.held + 1) 16 }
+        ensures held { self.new.held ≡ min (self.old.held + 1) 16 }
     {
         self.times = self.times_lately(now_ms).saturating_add(1);
         self.last_ms = now_ms;
@@ -60,6 +69,14 @@ impl UnreadJobs {
         } else {
             0
         }
+    }
+
+    /// How many of their links are held.
+    pub fn held(&self) -> u32
+        ensures all { result ≡ self.now.held }
+        ensures few { result ≤ 16 }
+    {
+        self.held
     }
 
     /// A link is held no more.
