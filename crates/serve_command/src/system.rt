@@ -13,6 +13,7 @@ use page_server::{Door, EndFlag, PageTimes, SharedPage};
 use plan_model::FuncId;
 use pool_settings::Settings;
 use run_command::{Attempted, EndedWorker, Host, Progress, RunEnd, System, Watch, time_in_seconds};
+use server_link::ServerLink;
 use service_manager::ManagerError;
 use service_settings::Page;
 use std::alloc::{AllocError, Global};
@@ -194,12 +195,22 @@ impl<'m, R: Wait + Clock + Eprint + Alloc<A = Global>> Progress for FarmSystem<'
 
 impl<
     'm,
-    R: Threads + Wait + Clock + Eprint + Alloc<A = Global> + Net<Stream = TcpStream> + Sync,
+    R: Threads
+        + Wait
+        + Clock
+        + Eprint
+        + Alloc<A = Global>
+        + Net<Stream = TcpStream>
+        + Sync
+        + Send
+        + Copy,
 > Host for FarmSystem<'m, R> {
-    type Link = TcpLink;
+    type Link = ServerLink<TcpLink, R>;
 
-    fn reach(&self, server: &str, lull_ms: u32) -> Option<TcpLink> {
-        self.run.reach_until_end(self, server, lull_ms)
+    /// A link that fails if the job server answers nothing, and lets its worker look up if the job server talks without end.
+    fn reach(&self, server: &str, lull_ms: u32) -> Option<ServerLink<TcpLink, R>> {
+        let link = self.run.reach_until_end(self, server, lull_ms)?;
+        Some(ServerLink::new(link, self.rt))
     }
 
     fn doubt(&self) {
