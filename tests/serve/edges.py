@@ -15,7 +15,6 @@ import re
 import resource
 import select
 import socket
-import struct
 import subprocess
 import sys
 import threading
@@ -27,9 +26,8 @@ sys.path[:0] = [f"{TOP}/tests/gearmand", f"{TOP}/tests/together"]
 
 from farm import HOST, SUBMIT_JOB, TOTALS, Client, at_once, held, request, wait_until
 
-import suite
+from alone import alone, can_be_alone, count_or_try, name_loopback, raise_loopback
 from edge import HOSTS, WORKERS, Edge, bad_jobs, good_jobs, holds_pace, settings
-from in_parts import try_part, try_parts
 from page import PLACES, Page
 from service import POISON
 from silence import ADDRESSES, Silence
@@ -51,9 +49,6 @@ FEW, FEWEST = 82, 78
 
 # The status of a farm of which no attempt led to a plan.
 NO_PLAN = 5
-
-# What Linux calls a network interface that is up, the request for it, and that for a further address.
-IFF_UP, SIOCSIFFLAGS, SIOCSIFADDR = 1, 0x8914, 0x8916
 
 # An address of no network. In one of its own a test calls the page from it.
 FAR = "192.0.2.1"
@@ -190,21 +185,6 @@ def with_a_silent_resolver(program, processes):
         serve_beside_unknown_names(program, processes)
 
 
-# What gives a part a network of its own.
-ALONE = ("unshare", "--map-root-user", "--mount", "--net")
-
-
-def can_be_alone():
-    """Whether this system lets a test have a network of its own."""
-    return subprocess.run([*ALONE, "true"], stdin=subprocess.DEVNULL, stderr=subprocess.DEVNULL).returncode == 0
-
-
-def alone(part, program, processes):
-    """A part in a network of its own."""
-    words = [*ALONE, sys.executable, __file__, program, processes.folder, part.__name__]
-    subprocess.run(words, stdin=subprocess.DEVNULL, check=True)
-
-
 def names_do_not_resolve(program, processes):
     """Look-ups take seconds, if this system lets a test have a network of its own, and else as long as they take here."""
     if can_be_alone():
@@ -284,20 +264,6 @@ def a_farm_ends_while_its_server_is_silent(program, processes):
 def workers_go_on_without_a_resolver(program, processes):
     """Nobody finds the names of the hosts any more, and all are well: no worker ends for that."""
     alone(while_the_resolver_is_gone, program, processes)
-
-
-def raise_loopback():
-    """Lets the loopback of a new network carry packets."""
-    up = struct.pack("16sh14x", b"lo", IFF_UP)
-    with socket.socket(socket.AF_INET, socket.SOCK_DGRAM) as it:
-        fcntl.ioctl(it, SIOCSIFFLAGS, up)
-
-
-def name_loopback(address):
-    """Gives the loopback of a new network a further address."""
-    named = struct.pack("16sHH4s8x", b"lo:1", socket.AF_INET, 0, socket.inet_aton(address))
-    with socket.socket(socket.AF_INET, socket.SOCK_DGRAM) as it:
-        fcntl.ioctl(it, SIOCSIFADDR, named)
 
 
 def peers_from_elsewhere(program, processes):
@@ -531,21 +497,5 @@ PARTS = (
 WANT_A_NETWORK = (workers_go_on_without_a_resolver, peers_from_elsewhere, a_farm_ends_while_its_server_is_silent)
 
 
-def main(program, folder, *names):
-    """The parts of these names, or all."""
-    for name in names:
-        try_part(globals()[name], program, folder)
-    if not names:
-        left_out = () if can_be_alone() else WANT_A_NETWORK
-        parts = [part for part in PARTS if part not in left_out]
-        try_parts(parts, program, folder)
-        for part in left_out:
-            suite.skipped("serve", 1, f"{part.__name__}, a network of its own", "not allowed here")
-        suite.passed("serve", len(parts))
-
-
 if __name__ == "__main__":
-    if sys.argv[1:] == ["count"]:
-        print(len(PARTS))
-    else:
-        main(*sys.argv[1:])
+    count_or_try(globals(), PARTS, WANT_A_NETWORK, sys.argv[1:])

@@ -98,6 +98,7 @@ PARTS = (
     Part("http", 2.0, 2.0),
     Part("serve", 1.0, 1.0, words=("edges",), wants_program=True),
     Part("serve", 1.0, 0.5, words=("starved",), wants_program=True),
+    Part("serve", 0.5, 1.0, words=("gone",), wants_program=True),
     Part("serve", 1.0, 0.5, words=("sized",), wants_program=True),
     Part("serve", 1.0, 0.5, words=("trial",), wants_program=True),
     Part("serve", 0.5, 0.5, words=("handover",), wants_program=True),
