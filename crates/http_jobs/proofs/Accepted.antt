@@ -137,7 +137,7 @@ further_of s j a =
     ++ sent_header (codes "poolman-worker") (string_bytes s.worker))
     ++ attempt_header a
 
-attempt_token : is_token (codes "poolman-attempt") ≡ true
+attempt_token : is_token (codes "poolman-sending") ≡ true
 unfolding is_token_byte
 attempt_token = refl
 
@@ -145,7 +145,7 @@ further_attempt : (a : Attempt) → AreFurther (attempt_header a)
 unfolding eq_ignore_case
 further_attempt attempt.First = tt
 further_attempt attempt.Second =
-    (record { host = refl; valid = and_from (is_token (codes "poolman-attempt")) (is_trimmed_value (codes "2")) attempt_token refl }, tt)
+    (record { host = refl; valid = and_from (is_token (codes "poolman-sending")) (is_trimmed_value (codes "2")) attempt_token refl }, tt)
 
 further_headers : (s : Service) (j : AssignedJob) (a : Attempt) → AreFurther (further_of s j a)
 further_headers s j a =

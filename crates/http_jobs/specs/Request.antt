@@ -27,7 +27,7 @@ sent_header name value = if is_sent value then (name, value) ∷ [] else []
 -- what says that a job is sent once more
 abbrev pub attempt_header : Attempt → List Header
 attempt_header attempt.First = []
-attempt_header attempt.Second = (codes "poolman-attempt", codes "2") ∷ []
+attempt_header attempt.Second = (codes "poolman-sending", codes "2") ∷ []
 
 -- the headers, without the length
 abbrev pub headers_of : Service → AssignedJob → Attempt → List Header

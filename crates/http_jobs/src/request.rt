@@ -79,7 +79,7 @@ fn push_attempt(headers: &mut Vec<Header<'_>>, attempt: Attempt) -> Result<(), A
         Attempt::First => Ok(()),
         Attempt::Second => {
             headers.push(Header {
-                name: b"poolman-attempt",
+                name: b"poolman-sending",
                 value: b"2",
             })?;
             Ok(())
