@@ -2,8 +2,8 @@
 
 tests/serve/run calls this. A farm has two hosts that do jobs. Jobs of others are done though no host serves one job, which fails after its
 retries if it has a bound; though one is too large for each worker; though a host is off whose function is to have a worker, so that there is
-no plan; though the status of the job server cannot be read; and though workers end between two attempts. What its processes write is in the
-folder.
+no plan; though the status of the job server cannot be read; though workers end between two attempts; and though a service is renewed. What
+its processes write is in the folder.
 """
 
 import contextlib
@@ -11,16 +11,18 @@ import html
 import os
 import re
 import sys
+import threading
 
 sys.dont_write_bytecode = True
 TOP = os.path.join(os.path.dirname(os.path.abspath(__file__)), "../..")
 sys.path[:0] = [f"{TOP}/tests/gearmand", f"{TOP}/tests/together"]
 
-from farm import JOB_CREATED, SUBMIT_JOB, WORK_FAIL, Client, held, request, wait_until
+from farm import JOB_CREATED, SUBMIT_JOB, WORK_FAIL, Client, at_once, held, request, wait_until
 
 from asking import WORK_WARNING
 from edge import HOSTS, OWN, UNREADABLE, WORKERS, Edge, good_jobs, settings, settings_of_own
 from in_parts import count_or_try
+from renewed import Renewed
 from service import POISON
 from starting import PATIENCE
 
@@ -208,6 +210,39 @@ def workers_are_replaced_between_attempts(program, processes):
     held(causes == {"Unserved", "Retired", "Stopped"}, f"workers ended so: {causes}")
 
 
+def a_service_that_is_renewed_loses_no_job(program, processes):
+    """A service takes no connection for a while, and closes those that it has after one more job each. Its workers ask for no job that they
+    could not do: so none is lost, while others come. Once it is back they do jobs again. So it goes three times."""
+    edge = Edge(program, processes)
+    edge.kill("north")
+    service = Renewed(edge.places["north"])
+    edge.start()
+    wait_until(edge.has_all_workers, PATIENCE, "all workers are there")
+    is_over = threading.Event()
+    asked = 0
+
+    def ask_on():
+        nonlocal asked
+        while not is_over.is_set():
+            edge.ask(good_jobs(f"some-{asked}", 50))
+            asked += 50
+
+    def renew():
+        try:
+            for _ in range(3):
+                ended = len(edge.causes(r"north/\S+"))
+                service.leave()
+                wait_until(lambda: len(edge.causes(r"north/\S+")) >= ended + WORKERS, PATIENCE, "the workers of north end")
+                service.come()
+                wait_until(edge.has_all_workers, PATIENCE, "all workers are back")
+        finally:
+            is_over.set()
+
+    at_once([ask_on, renew])
+    edge.end(asked)
+    held(edge.lost() == 0, f"{edge.lost()} jobs were lost")
+
+
 PARTS = (
     one_job_is_never_served,
     one_job_leaves_workers_to_others,
@@ -217,6 +252,7 @@ PARTS = (
     a_host_goes_before_workers_are_replaced,
     new_workers_have_work_without_a_status,
     workers_are_replaced_between_attempts,
+    a_service_that_is_renewed_loses_no_job,
 )
 
 if __name__ == "__main__":

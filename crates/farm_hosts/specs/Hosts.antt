@@ -9,7 +9,7 @@ use Rattle.http_jobs.specs.declared.fault.NotDone.TheVariants as not_done
 use Rattle.http_jobs.specs.declared.fault.Unserved.TheVariants as unserved
 use Rattle.http_jobs.specs.declared.outcome.Reply.{Reply}
 use Rattle.job_runner.specs.declared.jobs.Readiness.{Readiness}
-use Rattle.job_runner.specs.declared.jobs.Readiness.TheVariants.{Ready, Lost}
+use Rattle.job_runner.specs.declared.jobs.Readiness.TheVariants.{Lost}
 use Rattle.farm_hosts.specs.declared.host_sign.HostSign.{HostSign}
 use Rattle.farm_hosts.specs.declared.host_sign.HostSign.TheVariants as sign
 use Rattle.farm_hosts.specs.declared.host_state.BeforeJob.{BeforeJob}
@@ -133,7 +133,7 @@ is_silent host attempt = (host.busy == 0) && nat_le (min (host.heard + 4) (2 ^ 6
 -- A worker has cause to look at its host if it is told that the connection that it kept was closed, or if the host is silent.
 abbrev pub has_to_look : Readiness → HostEntry → ℕ → Bool
 has_to_look Lost host attempt = true
-has_to_look Ready host attempt = is_silent host attempt
+has_to_look other host attempt = is_silent host attempt
 
 -- Why it is left alone after a round without a plan, by what it was before and by the worker that tries it, if there is one. In such a
 -- round no worker is given a function, so that one has no job: then a host whose jobs were not served is left alone no more.

@@ -134,6 +134,18 @@ TakesKept old link new =
 abbrev pub DropsKept : Visible → Visible → Type 0
 DropsKept old new = (new.kept ≡ None) × (new.calls ≡ then_called old.calls (closings old.kept)) × (new.shown ≡ old.shown)
 
+-- the kept connection stays; or it is closed as it was, and was not known to be quiet
+abbrev pub DropsLost : Visible → Visible → Type 0
+DropsLost old new = (new ≡ old) ⊎ ((old.quiet ≢ Some true) × DropsKept old new)
+
+-- A connection is made ready for a job: one that is lost is closed, and then one is opened if none is kept, or could not be.
+abbrev pub MakesReady : Visible → Visible → Result (Unit {0}) DialError → Type 0
+MakesReady old new result = (begun : Visible) × DropsLost old begun × IsOpened begun new result
+
+-- This was done, whatever came of it, or nothing was.
+abbrev pub MayMakeReady : Visible → Visible → Type 0
+MayMakeReady old new = (new ≡ old) ⊎ ((result : Result (Unit {0}) DialError) × MakesReady old new result)
+
 -- a new connection was opened
 abbrev pub OpensNew : Visible → Link → Visible → Type 0
 OpensNew old link new =

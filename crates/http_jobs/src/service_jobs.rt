@@ -1,13 +1,15 @@
 //! The jobs of a service, over one connection that is kept.
 
-ghost use Rattle.std.specs.Prelude.{◌≡◌, ◌++◌, ◌+◌, ◌∷◌, [], ℕ, List, Option, Bool, IfOk, IfErr, IfSome, Ok, Some, None, true, false, not};
+ghost use Rattle.std.specs.Prelude.{◌≡◌, ◌++◌, ◌+◌, ◌∷◌, [], ℕ, List, Option, Bool, IfOk, IfErr, IfSome, Ok, Some, None};
+ghost use Rattle.std.specs.Prelude.{is_some, true, false, not};
 ghost use Rattle.gear_packets.specs.Reading.{job_of};
 ghost use Rattle.http_jobs.specs.Response.{reply_of};
 ghost use Rattle.std.specs.Option.{option_map};
 ghost use Rattle.job_runner.specs.Run.{seen_link};
 ghost use Rattle.byte_io.specs.Deadline as spec;
 ghost use Rattle.http_jobs.specs.Serving as serving;
-ghost use Rattle.http_jobs.specs.Serving.{AnsweredNew, AnsweredOver, DialCall, DropsKept, IsNew, IsOpened, Leaves, NotAnswered, NotServed};
+ghost use Rattle.http_jobs.specs.Serving.{AnsweredNew, AnsweredOver, DialCall, DropsKept, DropsLost, IsNew, IsOpened, Leaves, MakesReady};
+ghost use Rattle.http_jobs.specs.Serving.{NotAnswered, NotServed};
 ghost use Rattle.http_jobs.specs.Serving.{Served, TakesKept, Tells, Tries, UnansweredAgain, UnansweredNew, UnansweredOver, Visible, closed};
 ghost use Rattle.http_jobs.specs.Serving.{dialled, kept_failures, second_by, then_called, visible};
 ghost use Rattle.http_jobs.specs.Clock.{shown_then};
@@ -196,12 +198,48 @@ impl<L: Source + Sink + Look + Drop, D: Dial<L>, C: Clock> ServiceJobs<L, D, C> 
         Ok(())
     }
 
+    /// Whether a connection is kept.
+    pub fn is_open(&self) -> bool
+        ensures { result ≡ is_some self.now.kept }
+    {
+        self.kept.is_some()
+    }
+
     /// Whether a connection is kept that was closed by the service, or over which came what nobody asked for. It does not wait.
     pub fn is_lost(&self) -> bool
         ensures none { self.now.kept ≡ None → result ≡ false }
         ensures shown { IfSome self.now.kept (λ link. IfSome (L.quiet link) (λ quiet. result ≡ not quiet)) }
     {
         self.kept.as_ref().is_some_and(|link| !link.is_quiet())
+    }
+
+    /// Closes the kept connection if the service closed it, or if over it came what nobody asked for.
+    fn drop_lost(&mut self)
+        ensures drops { DropsLost (visible L.input L.output L.quiet self.old.kept (D.calls self.old.dial) (C.shown self.old.clock))
+            (visible L.input L.output L.quiet self.new.kept (D.calls self.new.dial) (C.shown self.new.clock)) }
+        ensures host { D.host self.new.dial ≡ D.host self.old.dial }
+        ensures service { self.new.service ≡ self.old.service }
+        ensures terms { self.new.terms ≡ self.old.terms }
+    {
+        if !self.is_lost() {
+            return;
+        }
+        if let Some(link) = self.kept.take() {
+            hang_up(&mut self.dial, link);
+        }
+    }
+
+    /// Makes a connection ready for one more job. A kept one that the service closed, or over which came what nobody asked for, is closed.
+    /// Then one is opened, if none is kept. The error says why none could be opened.
+    pub fn make_ready(&mut self) -> Result<(), DialError>
+        ensures ready { MakesReady (visible L.input L.output L.quiet self.old.kept (D.calls self.old.dial) (C.shown self.old.clock))
+            (visible L.input L.output L.quiet self.new.kept (D.calls self.new.dial) (C.shown self.new.clock)) result }
+        ensures host { D.host self.new.dial ≡ D.host self.old.dial }
+        ensures service { self.new.service ≡ self.old.service }
+        ensures terms { self.new.terms ≡ self.old.terms }
+    {
+        self.drop_lost();
+        self.open()
     }
 
     /// The kept connection, if it is quiet and not idle for too long. Else it is closed.
@@ -478,7 +516,8 @@ impl<L: Source + Sink + Look + Drop, D: Dial<L>, C: Clock> ServiceJobs<L, D, C> 
 
 /// A session's jobs are done by the service. A job that is not served ends the session as `Unserved`, whatever the reason.
 impl<L: Source + Sink + Look + Drop, D: Dial<L>, C: Clock> Jobs for ServiceJobs<L, D, C> {
-    ghost use Rattle.http_jobs.specs.Serving.{IsDoneBy, IsNotDoneBy, visible};
+    ghost use Rattle.std.specs.Prelude.{◌≡◌};
+    ghost use Rattle.http_jobs.specs.Serving.{IsDoneBy, IsNotDoneBy, MayMakeReady, visible};
 
     ghost tells = { λ before after job told. IsDoneBy before.service before.terms
         (visible L.input L.output L.quiet before.kept (D.calls before.dial) (C.shown before.clock))
@@ -489,6 +528,19 @@ impl<L: Source + Sink + Look + Drop, D: Dial<L>, C: Clock> Jobs for ServiceJobs<
         (visible L.input L.output L.quiet before.kept (D.calls before.dial) (C.shown before.clock))
         (visible L.input L.output L.quiet after.kept (D.calls after.dial) (C.shown after.clock))
         after.service after.terms job error };
+
+    ghost prepares = { λ before after. MayMakeReady
+        (visible L.input L.output L.quiet before.kept (D.calls before.dial) (C.shown before.clock))
+        (visible L.input L.output L.quiet after.kept (D.calls after.dial) (C.shown after.clock))
+        × (after.service ≡ before.service) × (after.terms ≡ before.terms) };
+
+    /// A connection is opened if none is kept: a service that cannot be reached is better known before there is a job.
+    fn prepare(&mut self) -> Readiness {
+        match self.make_ready() {
+            Ok(()) => Readiness::Ready,
+            Err(_) => Readiness::Unready,
+        }
+    }
 
     fn run(
         &mut self,

@@ -9,7 +9,7 @@ use Rattle.job_runner.specs.declared.worker.Worker.{Worker}
 use Rattle.job_runner.specs.declared.state.Session as running
 use Rattle.job_runner.specs.Book.{Ledger}
 use Rattle.job_runner.specs.Acting.{Moment, moment}
-use Rattle.job_runner.specs.Told.{Told, AreTold}
+use Rattle.job_runner.specs.Told.{Told, AreTold, IsPrepared}
 use Rattle.job_runner.specs.Run.{Link, EndTold, seen_link}
 use Rattle.job_runner.specs.Loop.{session_in, HasServed, Halts}
 
@@ -32,6 +32,11 @@ pub record Idles {L P J : Type 0} (old new : running.Session L P J) : Type 0 whe
   pub parts : SameParts old new
   pub jobs : new.jobs.now ≡ old.jobs.now
 
+-- and its jobs were not run, but what runs them may have got ready
+pub record GetsReady {L P J : Type 0} (prepares : J → J → Type 0) (old new : running.Session L P J) : Type 0 where
+  pub parts : SameParts old new
+  pub jobs : IsPrepared prepares old.jobs.now new.jobs.now
+
 -- how a session began, and what it has read
 pub record Start (J : Type 0) : Type 0 where
   pub first : J
@@ -43,15 +48,15 @@ abbrev pub having_read : {J : Type 0} → Start J → List ℕ → Start J
 having_read start read = record start { read = read }
 
 -- all messages that were given are served
-abbrev pub Stands : {L P J : Type 0} → (L → Output) → (P → Ledger) → (J → J → AssignedJob → Option Told → Type 0) → Worker → Start J
-    → Reading → running.Session L P J → Type 0
-Stands output book tells worker start reader s =
-    HasServed (session_in worker start.before start.read) (AreTold tells start.first s.jobs.now) (output s.link.now).got reader s.state
-    (book s.port.now)
+abbrev pub Stands : {L P J : Type 0} → (L → Output) → (P → Ledger) → (J → J → AssignedJob → Option Told → Type 0) → (J → J → Type 0)
+    → Worker → Start J → Reading → running.Session L P J → Type 0
+Stands output book tells prepares worker start reader s =
+    HasServed (session_in worker start.before start.read) (AreTold tells prepares start.first s.jobs.now) (output s.link.now).got reader
+    s.state (book s.port.now)
 
 -- it is at its end
 abbrev pub IsOver : {L P J : Type 0} → (L → Output) → (P → Ledger) → (J → J → AssignedJob → Option Told → Type 0)
-    → (J → J → AssignedJob → NotDone → Type 0) → Worker → Start J → running.Session L P J → EndCause → Type 0
-IsOver output book tells fails worker start s reason =
-    Halts (session_in worker start.before start.read) (EndTold tells fails start.first s.jobs.now) (output s.link.now).got s.state.tally
-    (book s.port.now) reason
+    → (J → J → AssignedJob → NotDone → Type 0) → (J → J → Type 0) → Worker → Start J → running.Session L P J → EndCause → Type 0
+IsOver output book tells fails prepares worker start s reason =
+    Halts (session_in worker start.before start.read) (EndTold tells fails prepares start.first s.jobs.now) (output s.link.now).got
+    s.state.tally (book s.port.now) reason

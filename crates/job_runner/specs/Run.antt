@@ -33,15 +33,16 @@ IsLeftBy fails last new reason =
     ⊎ ((job : AssignedJob) × (error : NotDone) × fails last new job error × (reason ≡ end_of error))
 
 -- what jobs told up to an end, from the first value of what runs them to the one that is left
-abbrev pub EndTold : {J : Type 0} → (J → J → AssignedJob → Option Told → Type 0) → (J → J → AssignedJob → NotDone → Type 0) → J → J
-    → EndCause → List Telling → Type 0
-EndTold {J} tells fails first new reason told = (last : J) × AreTold tells first last told × IsLeftBy fails last new reason
+abbrev pub EndTold : {J : Type 0} → (J → J → AssignedJob → Option Told → Type 0) → (J → J → AssignedJob → NotDone → Type 0)
+    → (J → J → Type 0) → J → J → EndCause → List Telling → Type 0
+EndTold {J} tells fails prepares first new reason told =
+    (last : J) × AreTold tells prepares first last told × IsLeftBy fails last new reason
 
 -- what jobs told in a step, from the value before to the one after
-abbrev pub ToldSince : {J : Type 0} → (J → J → AssignedJob → Option Told → Type 0) → (J → J → AssignedJob → NotDone → Type 0) → J → J
-    → List Telling → Result (Unit {0}) EndCause → Type 0
-ToldSince tells fails old new since result =
-    GoesOnOrEnds (AreTold tells old new since) (λ reason. EndTold tells fails old new reason since) result
+abbrev pub ToldSince : {J : Type 0} → (J → J → AssignedJob → Option Told → Type 0) → (J → J → AssignedJob → NotDone → Type 0)
+    → (J → J → Type 0) → J → J → List Telling → Result (Unit {0}) EndCause → Type 0
+ToldSince tells fails prepares old new since result =
+    GoesOnOrEnds (AreTold tells prepares old new since) (λ reason. EndTold tells fails prepares old new reason since) result
 
 -- a stream names an error
 abbrev pub HasError : List Message → Type 0

@@ -91,10 +91,21 @@ reply t = answer_to t.job.handle t.told
 abbrev pub replies : List Telling → List Packet
 replies tellings = flat_map reply tellings
 
--- Jobs were run one after the other, and told this: from one value of what runs them to another.
-abbrev pub AreTold : {J : Type 0} → (J → J → AssignedJob → Option Told → Type 0) → J → J → List Telling → Type 0
-AreTold tells first last [] = last ≡ first
-AreTold {J} tells first last (t ∷ ts) = (next : J) × tells first next t.job t.told × AreTold tells next last ts
+-- What runs jobs got ready so often, one time after the other: from one value to another.
+abbrev pub ArePrepared : {J : Type 0} → (J → J → Type 0) → J → J → List J → Type 0
+ArePrepared prepares first last [] = last ≡ first
+ArePrepared prepares first last (next ∷ more) = prepares first next × ArePrepared prepares next last more
+
+-- It got ready, as often as it did, or not at all.
+abbrev pub IsPrepared : {J : Type 0} → (J → J → Type 0) → J → J → Type 0
+IsPrepared {J} prepares first last = (between : List J) × ArePrepared prepares first last between
+
+-- Jobs were run one after the other, and told this: from one value of what runs them to another. It may have got ready before each, and
+-- after the last.
+abbrev pub AreTold : {J : Type 0} → (J → J → AssignedJob → Option Told → Type 0) → (J → J → Type 0) → J → J → List Telling → Type 0
+AreTold tells prepares first last [] = IsPrepared prepares first last
+AreTold {J} tells prepares first last (t ∷ ts) =
+    (ready next : J) × IsPrepared prepares first ready × tells ready next t.job t.told × AreTold tells prepares next last ts
 
 -- jobs that tell what a function of their name and input says
 abbrev pub IsMeant : (List ℕ → List ℕ → Option Told) → Telling → Type 0

@@ -39,7 +39,7 @@ impl<'l, 'p, 'j, L: Sink, P: PoolPort, J: Jobs> Session<'l, 'p, 'j, L, P, J> {
         ensures parts { SameParts self.old self.new }
         ensures registered { self.new.state.registered ≡ self.old.state.registered }
         ensures answers { (came : Came)
-            × ToldSince J.tells J.fails self.old.jobs.now self.new.jobs.now (tellings_of (job_of job) came) result
+            × ToldSince J.tells J.fails J.prepares self.old.jobs.now self.new.jobs.now (tellings_of (job_of job) came) result
             × Answers (job_of job) (account_of (now_of L.output P.book self.old)) (account_of (now_of L.output P.book self.new))
             came result }
         ensures tells { TellsAnswer (P.book self.new.port.now).last_answer result }

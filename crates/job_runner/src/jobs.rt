@@ -30,6 +30,8 @@ pub enum Readiness {
     Ready,
     /// What was kept for the next job is lost, such as a connection that the other side closed. Whether there can be another is not known.
     Lost,
+    /// What one more job needs cannot be had now, such as a connection.
+    Unready,
 }
 
 /// What runs the jobs of one session, one after the other. It may change from job to job, as a connection does.
@@ -45,18 +47,26 @@ pub trait Jobs {
     /// When it may fail with this error, by what it was before and is after.
     ghost fails: { Self → Self → AssignedJob → NotDone → Type 0 };
 
+    /// What it may be once it got ready for one more job, by what it was before.
+    ghost prepares: { Self → Self → Type 0 };
+
     /// Runs a job. None if no job has its name. The error is why it was not done.
     fn run(&mut self, alloc: Global, job: Assignment) -> Result<Option<Outcome>, NotDone>
         ensures tells { IfOk result (λ outcome. tells self.old self.new (job_of job) (option_map told_of outcome)) }
         ensures fails { IfErr result (λ error. fails self.old self.new (job_of job) error) };
 
-    /// How it is before one more job is asked for. It does not wait.
+    /// Gets ready for one more job, which is asked for next: what that needs, such as a connection, is better found lacking now than once
+    /// there is a job. It may wait. How it is then. Not called before the first job of a session: it comes ready.
+    fn prepare(&mut self) -> Readiness
+        ensures { prepares self.old self.new };
+
+    /// How it is while no job comes. It does not wait.
     fn readiness(&self) -> Readiness {
         Readiness::Ready
     }
 }
 
-/// Jobs by name do not change. They report what the job of that name means, and fail for lack of memory alone.
+/// Jobs by name do not change, and are always ready. They report what the job of that name means, and fail for lack of memory alone.
 impl<'j, T: NamedJobs> Jobs for &'j T {
     ghost use Rattle.std.specs.Prelude.{◌≡◌};
     ghost use Rattle.job_runner.specs.declared.jobs.NotDone.TheVariants.{Memory};
@@ -64,6 +74,12 @@ impl<'j, T: NamedJobs> Jobs for &'j T {
     ghost tells = { λ before after job told. (after ≡ before) × (told ≡ T.told before.now job.function job.payload) };
 
     ghost fails = { λ before after job error. (after ≡ before) × (error ≡ Memory) };
+
+    ghost prepares = { λ before after. after ≡ before };
+
+    fn prepare(&mut self) -> Readiness {
+        Readiness::Ready
+    }
 
     fn run(&mut self, alloc: Global, job: Assignment) -> Result<Option<Outcome>, NotDone> {
         match (**self).run(alloc, &job.function, &job.payload) {

@@ -3,7 +3,7 @@
 ghost use Rattle.std.specs.Prelude.{◌≡◌, ◌+◌, ◌-◌, ◌<◌, ◌^◌, IfErr};
 ghost use Rattle.gear_packets.specs.Reading.{message_of};
 ghost use Rattle.job_runner.specs.Course.{PortReason, CanCount, CanBook};
-ghost use Rattle.job_runner.specs.Holding.{Idles, SameParts, link_of, now_of};
+ghost use Rattle.job_runner.specs.Holding.{GetsReady, Idles, SameParts, link_of, now_of};
 ghost use Rattle.job_runner.specs.Run.{LinkKept, ToldSince};
 ghost use Rattle.job_runner.specs.Loop.{StepReason};
 ghost use Rattle.job_runner.specs.Path.{IsSendEnd};
@@ -40,7 +40,7 @@ impl<'l, 'p, 'j, L: Sink, P: PoolPort, J: Jobs> Session<'l, 'p, 'j, L, P, J> {
         requires port { CanBook (P.book self.old.port.now) }
         ensures parts { SameParts self.old self.new }
         ensures does { (came : Came)
-            × ToldSince J.tells J.fails self.old.jobs.now self.new.jobs.now
+            × ToldSince J.tells J.fails J.prepares self.old.jobs.now self.new.jobs.now
             (told_at (asked_by (message_of message) self.old.state.phase) came) result
             × Does worker.now (asked_by (message_of message) self.old.state.phase) came
             (now_of L.output P.book self.old) (now_of L.output P.book self.new) result }
@@ -51,11 +51,7 @@ impl<'l, 'p, 'j, L: Sink, P: PoolPort, J: Jobs> Session<'l, 'p, 'j, L, P, J> {
     {
         match message {
             Response::Noop => match self.state.phase {
-                Phase::Asleep => {
-                    let readiness = self.jobs.readiness();
-                    self.port.note_readiness(readiness);
-                    self.follow(worker)
-                }
+                Phase::Asleep => self.prepare_and_follow(worker),
                 _ => Ok(()),
             },
             Response::NoJob => match self.state.phase {
@@ -85,9 +81,10 @@ impl<'l, 'p, 'j, L: Sink, P: PoolPort, J: Jobs> Session<'l, 'p, 'j, L, P, J> {
     }
 
     /// Looks at the order if nothing came.
+    #[tactic(auto, using(crate::proofs::Telling::unprepared))]
     pub fn glance(&mut self, worker: &Worker<'_>) -> Result<(), EndCause>
         requires { (L.output self.old.link.now).failures < 2 ^ 64 - 1 }
-        ensures idles { Idles self.old self.new }
+        ensures ready { GetsReady J.prepares self.old self.new }
         ensures glances { Glances worker.now (now_of L.output P.book self.old) (now_of L.output P.book self.new) result }
         ensures link { LinkKept (link_of L.input L.output self.old) (link_of L.input L.output self.new) result }
         ensures reason { IfErr result (PortReason worker.now.pass.now.generation (P.book self.new.port.now)) }
@@ -103,6 +100,6 @@ impl<'l, 'p, 'j, L: Sink, P: PoolPort, J: Jobs> Session<'l, 'p, 'j, L, P, J> {
         if self.state.phase == Phase::Waiting || wanted == self.state.registered {
             return Ok(());
         }
-        self.follow(worker)
+        self.prepare_and_follow(worker)
     }
 }

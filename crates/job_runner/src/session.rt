@@ -10,7 +10,7 @@ ghost use Rattle.job_runner.specs.Course.{GoesOnOrEnds, IsAccepted, PortReason, 
 ghost use Rattle.job_runner.specs.Run.{EndTold, FailsAs, ReadReason, Reason, Served, ServedBy, seen_link, tally_of, LinkKept};
 ghost use Rattle.job_runner.specs.Listening.{Reads, reads_of, reads_by};
 ghost use Rattle.job_runner.specs.Acting.{Begins, Glances};
-ghost use Rattle.job_runner.specs.Holding.{Idles, IsOver, SameParts, Stands, Start, having_read, link_of, now_of};
+ghost use Rattle.job_runner.specs.Holding.{GetsReady, Idles, IsOver, SameParts, Stands, Start, having_read, link_of, now_of};
 ghost use Rattle.job_runner.specs.Loop.{first_state, duty_of, session_in, HasServed, Halts};
 
 use crate::answering::Tally;
@@ -74,13 +74,13 @@ impl<'l, 'p, 'j, L: Sink, P: PoolPort, J: Jobs> Session<'l, 'p, 'j, L, P, J> {
     fn drain(&mut self, worker: &Worker<'_>, reader: &mut Reader) -> Result<(), EndCause>
         requires link { (L.output self.old.link.now).failures < 2 ^ 64 - 1 }
         requires serving { (start : Start J) × (length start.read < 2 ^ 60)
-            × Stands L.output P.book J.tells worker.now start reader.old self.old }
+            × Stands L.output P.book J.tells J.prepares worker.now start reader.old self.old }
         ensures parts { SameParts self.old self.new }
-        ensures leaves { (start : Start J) → Stands L.output P.book J.tells worker.now start reader.old self.old
-            → GoesOnOrEnds (Stands L.output P.book J.tells worker.now start reader.new self.new)
-            (IsOver L.output P.book J.tells J.fails worker.now start self.new) result }
+        ensures leaves { (start : Start J) → Stands L.output P.book J.tells J.prepares worker.now start reader.old self.old
+            → GoesOnOrEnds (Stands L.output P.book J.tells J.prepares worker.now start reader.new self.new)
+            (IsOver L.output P.book J.tells J.fails J.prepares worker.now start self.new) result }
         ensures all_given { OnOk result (reader.new.messages ≡ []) }
-        ensures reason { (start : Start J) → Stands L.output P.book J.tells worker.now start reader.old self.old
+        ensures reason { (start : Start J) → Stands L.output P.book J.tells J.prepares worker.now start reader.old self.old
             → IfErr result (ReadReason (session_in worker.now start.before start.read) self.new.state.tally (P.book self.new.port.now)) }
         ensures link { LinkKept (link_of L.input L.output self.old) (link_of L.input L.output self.new) result }
         ensures losses { (P.book self.new.port.now).losses ≡ (P.book self.old.port.now).losses }
@@ -100,16 +100,17 @@ impl<'l, 'p, 'j, L: Sink, P: PoolPort, J: Jobs> Session<'l, 'p, 'j, L, P, J> {
 
 impl<'l, 'p, 'j, L: Source + Sink, P: PoolPort, J: Jobs> Session<'l, 'p, 'j, L, P, J> {
     /// One read of the link, once all that was read is acted on. If nothing comes it looks at the order.
+    #[tactic(auto, using(crate::proofs::Telling::unprepared))]
     fn listen(&mut self, worker: &Worker<'_>, inbox: &mut Inbox) -> Result<(), EndCause>
         requires output { (L.output self.old.link.now).failures < 2 ^ 64 - 1 }
         requires input { (L.input self.old.link.now).failures < 2 ^ 64 - 1 }
         requires all_given { inbox.old.reader.messages ≡ [] }
-        ensures idles { Idles self.old self.new }
+        ensures ready { GetsReady J.prepares self.old self.new }
         ensures listens { (start : Start J) (given : Option (List ℕ)) → (L.input self.old.link.now).given ≡ and_then given start.read
-            → Stands L.output P.book J.tells worker.now start inbox.old.reader self.old
+            → Stands L.output P.book J.tells J.prepares worker.now start inbox.old.reader self.old
             → (more : List ℕ) × ((L.input self.new.link.now).given ≡ and_then given more) × (length more ≤ length start.read + 4096)
-            × GoesOnOrEnds (Stands L.output P.book J.tells worker.now (having_read start more) inbox.new.reader self.new)
-            (λ cause. IsOver L.output P.book J.tells J.fails worker.now (having_read start more) self.new cause
+            × GoesOnOrEnds (Stands L.output P.book J.tells J.prepares worker.now (having_read start more) inbox.new.reader self.new)
+            (λ cause. IsOver L.output P.book J.tells J.fails J.prepares worker.now (having_read start more) self.new cause
             × Reason (session_in worker.now start.before more) (link_of L.input L.output self.old) (link_of L.input L.output self.new)
             self.new.state.tally (P.book self.new.port.now) cause) result }
         ensures looks { (L.input self.new.link.now).lulls ≢ (L.input self.old.link.now).lulls
@@ -139,7 +140,7 @@ impl<'l, 'p, 'j, L: Source + Sink, P: PoolPort, J: Jobs> Session<'l, 'p, 'j, L, 
         ensures parts { SameParts self.old self.new }
         ensures ran { (read : List ℕ) × ((L.input self.new.link.now).given ≡ and_then (L.input self.old.link.now).given read)
             × (Halts (session_in worker.now (L.output self.old.link.now).got read)
-            (EndTold J.tells J.fails self.old.jobs.now self.new.jobs.now)
+            (EndTold J.tells J.fails J.prepares self.old.jobs.now self.new.jobs.now)
             (L.output self.new.link.now).got self.new.state.tally (P.book self.new.port.now) result
             × Reason (session_in worker.now (L.output self.old.link.now).got read)
             (link_of L.input L.output self.old) (link_of L.input L.output self.new)
@@ -188,7 +189,7 @@ fn session_over<L: Source + Sink, P: PoolPort, J: Jobs>(
     requires input { (L.input link.old).failures < 2 ^ 64 - 1 }
     requires fresh { P.book port.old ≡ no_calls }
     ensures ran { (read : List ℕ) × ((L.input link.new).given ≡ and_then (L.input link.old).given read)
-        × (Halts (session_in worker.now (L.output link.old).got read) (EndTold J.tells J.fails jobs.old jobs.new)
+        × (Halts (session_in worker.now (L.output link.old).got read) (EndTold J.tells J.fails J.prepares jobs.old jobs.new)
         (L.output link.new).got (tally_of result) (P.book port.new) result.cause
         × Reason (session_in worker.now (L.output link.old).got read)
         (seen_link L.input L.output link.old) (seen_link L.input L.output link.new) (tally_of result) (P.book port.new) result.cause) }
@@ -239,7 +240,7 @@ pub fn serve_worker<L: Source + Sink, P: PoolPort, J: Jobs>(
     ensures served { (read bytes : List ℕ) × (told : List Telling)
         × ((L.input link.new).given ≡ and_then (L.input link.old).given read)
         × ((L.output link.new).got ≡ and_then (L.output link.old).got bytes)
-        × EndTold J.tells J.fails jobs.old jobs.new result.cause told
+        × EndTold J.tells J.fails J.prepares jobs.old jobs.new result.cause told
         × Served (session_of (duty_of place.entry.settings.now pass) (L.output link.old).got read) told bytes
         (seen_link L.input L.output link.old) (seen_link L.input L.output link.new) (P.book port.new) result }
     ensures turns { Reads 4096 (reads_by place.entry.turns result.cause) place.entry.turns (L.input link.old) (L.input link.new) }

@@ -3,7 +3,7 @@
 ghost use Rattle.std.specs.Prelude.{◌≡◌, ◌≢◌, ◌+◌, ◌-◌, ◌<◌, ◌≤◌, ◌^◌, ℕ, List, length, IfErr, Option, Some, None};
 ghost use Rattle.gear_packets.specs.Reading.{job_of};
 ghost use Rattle.job_runner.specs.Course.{AnswerReason, PortReason, CanCount, CanBook};
-ghost use Rattle.job_runner.specs.Holding.{Idles, SameParts, link_of, now_of};
+ghost use Rattle.job_runner.specs.Holding.{GetsReady, Idles, SameParts, link_of, now_of};
 ghost use Rattle.job_runner.specs.Run.{LinkKept, ToldSince};
 ghost use Rattle.job_runner.specs.Acting.{tellings_of, Came, FollowsOrder, Serves};
 
@@ -68,6 +68,21 @@ impl<'l, 'p, 'j, L: Sink, P: PoolPort, J: Jobs> Session<'l, 'p, 'j, L, P, J> {
         Ok(())
     }
 
+    /// Gets ready for one more job, and then obeys the order, which may be to stop if it did not get ready.
+    #[tactic(auto, using(crate::proofs::Telling::prepared))]
+    pub fn prepare_and_follow(&mut self, worker: &Worker<'_>) -> Result<(), EndCause>
+        requires { (L.output self.old.link.now).failures < 2 ^ 64 - 1 }
+        ensures ready { GetsReady J.prepares self.old self.new }
+        ensures follows { FollowsOrder worker.now (now_of L.output P.book self.old) (now_of L.output P.book self.new) result }
+        ensures link { LinkKept (link_of L.input L.output self.old) (link_of L.input L.output self.new) result }
+        ensures reason { IfErr result (PortReason worker.now.pass.now.generation (P.book self.new.port.now)) }
+        ensures losses { (P.book self.new.port.now).losses ≡ (P.book self.old.port.now).losses }
+    {
+        let readiness = self.jobs.prepare();
+        self.port.note_readiness(readiness);
+        self.follow(worker)
+    }
+
     /// Answers an assignment, and then obeys the current order.
     pub fn serve_job(&mut self, worker: &Worker<'_>, job: Assignment) -> Result<(), EndCause>
         requires link { (L.output self.old.link.now).failures < 2 ^ 64 - 1 }
@@ -75,7 +90,7 @@ impl<'l, 'p, 'j, L: Sink, P: PoolPort, J: Jobs> Session<'l, 'p, 'j, L, P, J> {
         requires port { CanBook (P.book self.old.port.now) }
         ensures parts { SameParts self.old self.new }
         ensures serves { (came : Came)
-            × ToldSince J.tells J.fails self.old.jobs.now self.new.jobs.now (tellings_of (job_of job) came) result
+            × ToldSince J.tells J.fails J.prepares self.old.jobs.now self.new.jobs.now (tellings_of (job_of job) came) result
             × Serves worker.now (job_of job) came (now_of L.output P.book self.old) (now_of L.output P.book self.new) result }
         ensures link { LinkKept (link_of L.input L.output self.old) (link_of L.input L.output self.new) result }
         ensures reason { IfErr result (AnswerReason worker.now.pass.now.generation (P.book self.new.port.now)) }
@@ -85,8 +100,6 @@ impl<'l, 'p, 'j, L: Sink, P: PoolPort, J: Jobs> Session<'l, 'p, 'j, L, P, J> {
             Ok(()) => {}
             Err(cause) => return Err(cause),
         }
-        let readiness = self.jobs.readiness();
-        self.port.note_readiness(readiness);
-        self.follow(worker)
+        self.prepare_and_follow(worker)
     }
 }

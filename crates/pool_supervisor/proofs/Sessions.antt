@@ -15,7 +15,7 @@ use Rattle.job_runner.specs.Book.{Ledger}
 use Rattle.job_runner.specs.Course.{session_of}
 use Rattle.job_runner.specs.Loop.{duty_of}
 use Rattle.job_runner.specs.Run.{Link, Served, EndTold}
-use Rattle.job_runner.specs.Told.{Told, Telling, AreTold, IsMeant}
+use Rattle.job_runner.specs.Told.{ArePrepared, Told, Telling, AreTold, IsMeant}
 use Rattle.worker_state.specs.OrderParts.{OrderParts}
 use Rattle.pool_supervisor.specs.Dials.{IsNew}
 use Rattle.pool_supervisor.specs.EndCounts.{with_cause}
@@ -26,21 +26,21 @@ use Rattle.pool_supervisor.specs.Sessions.{Counts, no_counts, counts_of, counted
 
 -- a session of a worker of the run, by what its run promises
 pub is_past : {L F : Type 0} (see : L → Link) (tells : F → F → AssignedJob → Option Told → Type 0) (fails : F → F → AssignedJob → NotDone → Type 0)
-    (gives : WorkerName → F → Type 0) (denies : WorkerName → Type 0) (had_jobs : PastSession → Type 0)
+    (prepares : F → F → Type 0) (gives : WorkerName → F → Type 0) (denies : WorkerName → Type 0) (had_jobs : PastSession → Type 0)
     (settings own : Settings) (worker : WorkerName) (end : SessionEnd) (seen : List OrderParts) (old new : L)
-    → Covers had_jobs (HadJobs tells fails gives denies) → own ≡ settings → worker.slot < slots settings → IsNew (see old)
+    → Covers had_jobs (HadJobs tells fails prepares gives denies) → own ≡ settings → worker.slot < slots settings → IsNew (see old)
     → (denies worker × (new ≡ old) × (end ≡ turned_away))
     ⊎ ((read bytes : List ℕ) × (told : List Telling) × (book : Ledger) × (first last : F) × gives worker first × ((see new).input.given ≡ and_then (see old).input.given read)
-    × ((see new).output.got ≡ and_then (see old).output.got bytes) × EndTold tells fails first last end.cause told
+    × ((see new).output.got ≡ and_then (see old).output.got bytes) × EndTold tells fails prepares first last end.cause told
     × Served (session_of (duty_of own worker) (see old).output.got read) told bytes (see old) (see new) book end × AreSeen seen book.orders)
     → IsPast settings had_jobs worker end (see new)
-is_past see tells fails gives denies had_jobs settings own worker end seen old new covers same known fresh (inl away) =
+is_past see tells fails prepares gives denies had_jobs settings own worker end seen old new covers same known fresh (inl away) =
     let session = past_session worker end (see new) None in (
       None,
       record { known = known; served = tt; away = (away.2, subst (λ link. IsNew (see link)) (sym away.1) fresh) },
       covers session (record { given = tt; denied = away.0 }),
     )
-is_past see tells fails gives denies had_jobs settings own worker end seen old new covers same known fresh (inr ran) =
+is_past see tells fails prepares gives denies had_jobs settings own worker end seen old new covers same known fresh (inr ran) =
     let session = past_session worker end (see new) (Some ran.2) in (
       Some ran.2,
       record {
@@ -100,27 +100,36 @@ are_sums settings sessions run ended counts = record {
 
 -- ---- jobs by name
 
-told_so : {J : Type 0} (meaning : J → List ℕ → List ℕ → Option Told) (source first last : J) (told : List Telling) → first ≡ source
-    → AreTold (λ (b a : J) (job : AssignedJob) (t : Option Told). (a ≡ b) × (t ≡ meaning b job.function job.payload)) first last told → AllByRecursion (IsMeant (meaning source)) told
-told_so meaning source first last [] same all = tt
-told_so meaning source first last (t ∷ ts) same all = (
-  all.1.1 ∙ ap (λ j. meaning j t.job.function t.job.payload) same,
-  told_so meaning source all.0 last ts (all.1.0 ∙ same) all.2,
-)
-
 abbrev by_name : {J : Type 0} → (J → List ℕ → List ℕ → Option Told) → J → J → AssignedJob → Option Told → Type 0
 by_name meaning before after job told = (after ≡ before) × (told ≡ meaning before job.function job.payload)
 
+-- what stays as it is to get ready
+abbrev same : {J : Type 0} → J → J → Type 0
+same before after = after ≡ before
+
+are_same : {J : Type 0} (first last : J) (between : List J) → ArePrepared same first last between → last ≡ first
+are_same first last [] e = e
+are_same first last (next ∷ more) h = are_same next last more h.1 ∙ h.0
+
+told_so : {J : Type 0} (meaning : J → List ℕ → List ℕ → Option Told) (source first last : J) (told : List Telling) → first ≡ source
+    → AreTold (by_name meaning) same first last told → AllByRecursion (IsMeant (meaning source)) told
+told_so meaning source first last [] from all = tt
+told_so meaning source first last (t ∷ ts) from all =
+    let ready = are_same first all.0 all.2.0 all.2.1 ∙ from in (
+      all.3.1 ∙ ap (λ j. meaning j t.job.function t.job.payload) ready,
+      told_so meaning source all.1 last ts (all.3.0 ∙ ready) all.4,
+    )
+
 named_or_not : {J : Type 0} (source : J) (meaning : J → List ℕ → List ℕ → Option Told) (fails : J → J → AssignedJob → NotDone → Type 0) (session : PastSession) (told : Option (List Telling))
-    → session.told ≡ told → HadJobs (by_name meaning) fails (λ (w : WorkerName) (j : J). j ≡ source) (λ (w : WorkerName). ⊥) session → ∥ HadNamedJobs (meaning source) session ∥₁
-named_or_not source meaning fails session None same had = absurd (subst (λ (o : Option (List Telling)). IfNone o ⊥) same had.denied)
-named_or_not {J} source meaning fails session (Some told) same had =
-    let given = subst (λ (o : Option (List Telling)). IfSome o (λ (ts : List Telling). (first last : J) × (first ≡ source) × EndTold (by_name meaning) fails first last session.end.cause ts)) same had.given in
-    ∣ (told, same, told_so meaning source given.0 given.3.0 told given.2 given.3.1) ∣₁
+    → session.told ≡ told → HadJobs (by_name meaning) fails same (λ (w : WorkerName) (j : J). j ≡ source) (λ (w : WorkerName). ⊥) session → ∥ HadNamedJobs (meaning source) session ∥₁
+named_or_not source meaning fails session None is had = absurd (subst (λ (o : Option (List Telling)). IfNone o ⊥) is had.denied)
+named_or_not {J} source meaning fails session (Some told) is had =
+    let given = subst (λ (o : Option (List Telling)). IfSome o (λ (ts : List Telling). (first last : J) × (first ≡ source) × EndTold (by_name meaning) fails same first last session.end.cause ts)) is had.given in
+    ∣ (told, is, told_so meaning source given.0 given.3.0 told given.2 given.3.1) ∣₁
 
 -- the jobs of a source that gives each session the same jobs by name
 pub named : {J : Type 0} (source : J) (meaning : J → List ℕ → List ℕ → Option Told) (fails : J → J → AssignedJob → NotDone → Type 0)
-    → Covers (HadNamedJobs (meaning source)) (HadJobs (by_name meaning) fails (λ (w : WorkerName) (j : J). j ≡ source) (λ (w : WorkerName). ⊥))
+    → Covers (HadNamedJobs (meaning source)) (HadJobs (by_name meaning) fails same (λ (w : WorkerName) (j : J). j ≡ source) (λ (w : WorkerName). ⊥))
 named source meaning fails session had = named_or_not source meaning fails session session.told refl had
 
 pub all_covered : (wide narrow : PastSession → Type 0) (sessions : List PastSession) → Covers wide narrow → AllHad narrow sessions → AllHad wide sessions

@@ -70,12 +70,12 @@ pub record HasEnded (settings : Settings) (session : PastSession) : Type 0 where
   pub served : IfSome session.told (WasServed settings session)
   pub away : IfNone session.told ((session.end ≡ turned_away) × IsNew session.link)
 
--- The session's jobs were such as its source may give its worker, and reported what such jobs may. It had none only if the source may deny
--- its worker jobs.
+-- The session's jobs were such as its source may give its worker, got ready as such jobs may, and reported what they may. It had none only
+-- if the source may deny its worker jobs.
 pub record HadJobs {J : Type 0} (tells : J → J → AssignedJob → Option Told → Type 0) (fails : J → J → AssignedJob → NotDone → Type 0)
-    (gives : WorkerName → J → Type 0) (denies : WorkerName → Type 0) (session : PastSession) : Type 0 where
+    (prepares : J → J → Type 0) (gives : WorkerName → J → Type 0) (denies : WorkerName → Type 0) (session : PastSession) : Type 0 where
   pub given : IfSome session.told (λ told. (first last : J) × gives session.worker first
-      × EndTold tells fails first last session.end.cause told)
+      × EndTold tells fails prepares first last session.end.cause told)
   pub denied : IfNone session.told (denies session.worker)
 
 -- The session had jobs, each of which reported what this says of its name and input.

@@ -99,7 +99,7 @@ pub struct Supervisor<'e, N: RunId, L: Source + Sink, Y, P, J: JobSource, C, R> 
     pub ghost rule: { J.allows site.lent.jobs.now ≡ N.allows },
     /// The jobs that it gives are as the run says.
     pub ghost source: { Covers N.had_jobs
-        (HadJobs J.Jobs.tells J.Jobs.fails (J.gives site.lent.jobs.now) (J.denies site.lent.jobs.now)) },
+        (HadJobs J.Jobs.tells J.Jobs.fails J.Jobs.prepares (J.gives site.lent.jobs.now) (J.denies site.lent.jobs.now)) },
 }
 
 impl<'e, N: RunId, J, C: Watch, R: Wait> Site<'e, N, J, C, R> {

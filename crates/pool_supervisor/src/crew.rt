@@ -305,7 +305,8 @@ impl<'e, N: RunId, J: JobSource + Sync, C: Watch + Sync, R: Threads + Wait + Syn
         requires parts { crew.old.running + 2 ≤ 2 ^ 40 }
         requires slot { worker.pass.slot < slot_count self.run.settings.now }
         requires fresh { IsNew (seen_link L.input L.output link) }
-        requires source { Covers N.had_jobs (HadJobs J.Jobs.tells J.Jobs.fails (J.gives self.lent.jobs.now) (J.denies self.lent.jobs.now)) }
+        requires source { Covers N.had_jobs
+            (HadJobs J.Jobs.tells J.Jobs.fails J.Jobs.prepares (J.gives self.lent.jobs.now) (J.denies self.lent.jobs.now)) }
         ensures counts { crew.new.counts ≡ crew.old.counts }
     {
         let site = self;
@@ -328,7 +329,7 @@ impl<'e, N: RunId, J: JobSource + Sync, C: Watch + Sync, R: Threads + Wait + Syn
             requires slot { papers.worker.pass.slot < slot_count site.run.settings.now }
             requires fresh { IsNew (seen_link L.input L.output link) }
             requires source { Covers N.had_jobs
-                (HadJobs J.Jobs.tells J.Jobs.fails (J.gives site.lent.jobs.now) (J.denies site.lent.jobs.now)) }
+                (HadJobs J.Jobs.tells J.Jobs.fails J.Jobs.prepares (J.gives site.lent.jobs.now) (J.denies site.lent.jobs.now)) }
             ensures past { IfOk result (λ ended. IsPast N.settings N.had_jobs ended.0.worker ended.0.returned.end
                 (seen_link L.input L.output ended.1.value)) }
         {

@@ -35,7 +35,7 @@ impl<N: RunId> EndedSession<N> {
     ) -> (EndedSession<N>, Snapshot<L>)
         requires slot { papers.worker.pass.slot < slots site.now.run.settings.now }
         requires fresh { IsNew (seen_link L.input L.output link.old) }
-        requires source { Covers N.had_jobs (HadJobs J.Jobs.tells J.Jobs.fails (J.gives site.now.lent.jobs.now)
+        requires source { Covers N.had_jobs (HadJobs J.Jobs.tells J.Jobs.fails J.Jobs.prepares (J.gives site.now.lent.jobs.now)
             (J.denies site.now.lent.jobs.now)) }
         ensures past { IsPast N.settings N.had_jobs result.0.worker result.0.returned.end
             (seen_link L.input L.output result.1.value) }

@@ -39,7 +39,7 @@ pub trait JobSource {
 
 /// Does nothing. A session whose source is these jobs by name had jobs, each of which reported what its name means.
 pub fn sessions_have_named_jobs<'j, T: NamedJobs + Sync>(jobs: &'j T)
-    ensures { Covers (HadNamedJobs (T.told jobs.now)) (HadJobs ⟦<&'j T as Jobs>⟧.tells ⟦<&'j T as Jobs>⟧.fails
+    ensures { Covers (HadNamedJobs (T.told jobs.now)) (HadJobs ⟦<&'j T as Jobs>⟧.tells ⟦<&'j T as Jobs>⟧.fails ⟦<&'j T as Jobs>⟧.prepares
         (⟦<&'j T as JobSource>⟧.gives jobs.entry) (⟦<&'j T as JobSource>⟧.denies jobs.entry)) }
 {}
 

@@ -56,10 +56,11 @@ pub trait Watch {
 
 /// A session's way to the shared pool, with a share of each of its books.
 ///
-/// Orders are read from the board, with no lock; a worker that may not go on is ordered to stop, also if it has no order yet. Each other
-/// call is one hold of the lock, and one call of the pool with the arguments that it was given, at the time of the watch. But in a run
-/// until its watch ends it, a grab that finds no room in the history ends the chapter and grabs again. A job that is grabbed when no time
-/// is known is never late. A refusal that says that the worker is not what its session takes it for is reported as [`Gone`].
+/// Orders are read from the board, with no lock; a worker that is not ready for one more job, or may not go on, is ordered to stop, also if
+/// it has no order yet. Each other call is one hold of the lock, and one call of the pool with the arguments that it was given, at the time
+/// of the watch. But in a run until its watch ends it, a grab that finds no room in the history ends the chapter and grabs again. A job
+/// that is grabbed when no time is known is never late. A refusal that says that the worker is not what its session takes it for is
+/// reported as [`Gone`].
 ///
 /// Its calls are known to contracts alone ([`Calls`]). Each share is the number of those that succeeded, and it counts how the jobs ended.
 #[derive(Drop)]
@@ -182,7 +183,8 @@ impl<'a, N: RunId, C: Watch, R: Wait> PoolPort for SharedPort<'a, N, C, R> {
         ensures slot { self.new.place.seat.slot ≡ self.old.place.seat.slot }
     {
         // (the watch may take its time, and what is posted meanwhile is to be read)
-        let may_go_on = self.watch.may_go_on(pass.name(), self.readiness);
+        let may_go_on = self.readiness != Readiness::Unready
+            && self.watch.may_go_on(pass.name(), self.readiness);
         let read = self.run.board.read_by(&mut self.place.seat);
         let order = if may_go_on {
             read

@@ -88,7 +88,8 @@ impl<'e, L: Source + Sink + Send + Drop, Y: Dial<L> + Drop, P: Planner> Tools<'e
         requires reported { (reported.name ≡ N.reports) × (reported.parts ≡ 2 ^ 40) }
         requires rounds { made.rounds ≡ N.rounds }
         requires rule { J.allows lent.jobs.now ≡ N.allows }
-        requires source { Covers N.had_jobs (HadJobs J.Jobs.tells J.Jobs.fails (J.gives lent.jobs.now) (J.denies lent.jobs.now)) }
+        requires source { Covers N.had_jobs
+            (HadJobs J.Jobs.tells J.Jobs.fails J.Jobs.prepares (J.gives lent.jobs.now) (J.denies lent.jobs.now)) }
         ensures runs { IfOk result (λ ended. IsRun made.pool.settings N.allows N.had_jobs made.lines.until [] ended.0 []
             (Y.calls self.entry.dial) (Y.calls ended.1)) }
     {
@@ -139,7 +140,7 @@ impl<'e, L: Source + Sink + Send + Drop, Y: Dial<L> + Drop, P: Planner> Tools<'e
         until: Until,
     ) -> Result<(RunEnd, Y), AllocError>
         ensures runs { IfOk result (λ e. IsRun self.entry.settings.now (J.allows lent.entry.jobs.now)
-            (HadJobs J.Jobs.tells J.Jobs.fails (J.gives lent.entry.jobs.now) (J.denies lent.entry.jobs.now))
+            (HadJobs J.Jobs.tells J.Jobs.fails J.Jobs.prepares (J.gives lent.entry.jobs.now) (J.denies lent.entry.jobs.now))
             until [] e.0 [] (Y.calls self.entry.dial) (Y.calls e.1)) }
     {
         report_lacking(lent.watch, lent.jobs, self.settings);
@@ -207,7 +208,7 @@ pub fn run_sessions<
     ensures told { IfOk result (λ e. TellRun settings [] e.0.lines.items []) }
     ensures one_history { IfOk result (λ e. AreOfOneHistory settings e.0.totals e.0.chapters e.0.lines.items) }
     ensures dials { IfOk result (λ e. Dials settings (S.allows lent.entry.jobs.now)
-        (HadJobs S.Jobs.tells S.Jobs.fails (S.gives lent.entry.jobs.now) (S.denies lent.entry.jobs.now))
+        (HadJobs S.Jobs.tells S.Jobs.fails S.Jobs.prepares (S.gives lent.entry.jobs.now) (S.denies lent.entry.jobs.now))
         [] e.0.lines.items e.0 (Y.calls dial) (Y.calls e.1)) }
 {
     let tools: Tools<'_, L, Y, P> = Tools {
@@ -237,7 +238,7 @@ pub fn run_until_ended<
 ) -> Result<(RunEnd, Y), AllocError>
     ensures attempts { IfOk result (λ e. (lines : List Attempt) × TellFarm settings [] lines []
         × DialsBy (LooksBy Until.Ended settings (S.allows lent.entry.jobs.now)) settings
-        (HadJobs S.Jobs.tells S.Jobs.fails (S.gives lent.entry.jobs.now) (S.denies lent.entry.jobs.now)) [] lines
+        (HadJobs S.Jobs.tells S.Jobs.fails S.Jobs.prepares (S.gives lent.entry.jobs.now) (S.denies lent.entry.jobs.now)) [] lines
         e.0 (Y.calls dial) (Y.calls e.1)
         × AreOfOneHistory settings e.0.totals e.0.chapters lines) }
     ensures none_kept { IfOk result (λ e. e.0.lines.items ≡ []) }

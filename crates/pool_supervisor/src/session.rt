@@ -159,7 +159,7 @@ fn run_jobs<N: RunId, L: Source + Sink, J: JobSource, C: Watch, R: Wait>(
     ensures served { (read bytes : List ℕ) × (told : List Telling) × (book : Ledger) × (last : J.Jobs)
         × ((L.input link.new).given ≡ and_then (L.input link.old).given read)
         × ((L.output link.new).got ≡ and_then (L.output link.old).got bytes)
-        × EndTold J.Jobs.tells J.Jobs.fails jobs last result.end.cause told
+        × EndTold J.Jobs.tells J.Jobs.fails J.Jobs.prepares jobs last result.end.cause told
         × Served (session_of (duty_of site.now.run.settings.now papers.worker.pass) (L.output link.old).got read) told bytes
         (record { input = L.input link.old; output = L.output link.old })
         (record { input = L.input link.new; output = L.output link.new })
@@ -255,7 +255,7 @@ pub fn run_worker<N: RunId, L: Source + Sink, J: JobSource, C: Watch, R: Wait>(
         × J.gives site.now.lent.jobs.now papers.worker.pass first
         × ((L.input link.new).given ≡ and_then (L.input link.old).given read)
         × ((L.output link.new).got ≡ and_then (L.output link.old).got bytes)
-        × EndTold J.Jobs.tells J.Jobs.fails first last result.end.cause told
+        × EndTold J.Jobs.tells J.Jobs.fails J.Jobs.prepares first last result.end.cause told
         × Served (session_of (duty_of site.now.run.settings.now papers.worker.pass) (L.output link.old).got read) told bytes
         (record { input = L.input link.old; output = L.output link.old })
         (record { input = L.input link.new; output = L.output link.new })

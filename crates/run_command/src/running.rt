@@ -31,7 +31,7 @@ fn run_with<H: Host, J: JobSource + Sync>(
     ensures one_history { IfOk result (λ ended. AreOfOneHistory settings ended.totals ended.chapters ended.lines.items) }
     ensures sums { IfOk result (λ ended. (sessions : List PastSession)
         × AreSums settings sessions ended
-        × AllHad (HadJobs J.Jobs.tells J.Jobs.fails (J.gives jobs.now) (J.denies jobs.now)) sessions) }
+        × AllHad (HadJobs J.Jobs.tells J.Jobs.fails J.Jobs.prepares (J.gives jobs.now) (J.denies jobs.now)) sessions) }
 {
     let route = Route::new(host, alloc, &settings)?;
     let planner = ArenaPlanner::new(alloc);
@@ -61,7 +61,7 @@ fn run_told<H: Host, J: JobSource + Sync>(
     rounds: u32,
 ) -> Result<Told, Fault>
     ensures run { IfOk result (λ told. spec.IsRunBy settings_text.now
-        (HadJobs J.Jobs.tells J.Jobs.fails (J.gives jobs.now) (J.denies jobs.now)) told.ended) }
+        (HadJobs J.Jobs.tells J.Jobs.fails J.Jobs.prepares (J.gives jobs.now) (J.denies jobs.now)) told.ended) }
     ensures lines { IfOk result (λ told. length told.ended.lines.items ≡ rounds) }
     ensures text { IfOk result (λ told. string_bytes told.text ≡ spec.run_text told.ended) }
     ensures kept { IfErr result (spec.IsKeptFrom settings_text.now) }
@@ -93,7 +93,7 @@ pub fn run_source<H: Host, J: JobSource + Sync, S: Sink>(
 ) -> Exit
     requires sink { (S.output sink.old).failures < 2 ^ 64 - 1 }
     ensures supervises { spec.Supervises settings_text.now
-        (HadJobs J.Jobs.tells J.Jobs.fails (J.gives jobs.now) (J.denies jobs.now))
+        (HadJobs J.Jobs.tells J.Jobs.fails J.Jobs.prepares (J.gives jobs.now) (J.denies jobs.now))
         rounds (S.output sink.old) (S.output sink.new) result }
 {
     match run_told(host, alloc, jobs, settings_text, rounds) {

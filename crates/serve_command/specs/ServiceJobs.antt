@@ -2,7 +2,7 @@
 use Rattle.std.specs.Prelude.{◌≡◌, ◌⊎◌, ℕ, ◌<◌, Option, IfSome, Some, Result, Ok, Err}
 use Rattle.gear_packets.specs.Response.{AssignedJob}
 use Rattle.http_jobs.specs.Response.{IsLeftTooOften, Replied, reply_of, told_in}
-use Rattle.http_jobs.specs.Serving.{HasNew, NotServed, Tells, Visible, as_of_session}
+use Rattle.http_jobs.specs.Serving.{HasNew, MayMakeReady, NotServed, Tells, Visible, as_of_session}
 use Rattle.http_jobs.specs.declared.fault.NotDone.{NotDone}
 use Rattle.http_jobs.specs.declared.fault.NotDone.TheVariants.{Unserved as Not}
 use Rattle.http_jobs.specs.declared.fault.Unserved.{Unserved}
@@ -54,9 +54,9 @@ DoesNot farm service before after job error =
     (why : NotDone) × NotServed service (terms_in farm job.function) before after job why × (error ≡ as_of_session why)
 
 -- If the session was given jobs, it began with a new connection, which was kept. The service of its worker's machine was asked for its
--- jobs, one after the other, each over the kept connection or a new one. Each told what was answered, or failed for good; and one that was
--- not done otherwise ended the session.
+-- jobs, one after the other, each over the kept connection or a new one; before each, and after the last, a connection may have been made
+-- ready. Each told what was answered, or failed for good; and one that was not done otherwise ended the session.
 abbrev pub HadServiceJobs : Farm → PastSession → Type 0
 HadServiceJobs farm past =
     IfSome past.told (λ told. (service : Service) × (first last : Visible) × IsServiceOf farm past.worker service × HasNew first.kept
-    × EndTold (Does farm service) (DoesNot farm service) first last past.end.cause told)
+    × EndTold (Does farm service) (DoesNot farm service) MayMakeReady first last past.end.cause told)

@@ -124,6 +124,7 @@ impl<'e, H: FarmHost> JobSource for FarmSource<'e, H> {
             .note_start(self.host, machine, WorkerName { slot, generation });
         Some(FarmJobs {
             host: self.host,
+            alloc: self.alloc,
             books: self.books,
             machine,
             worker: WorkerName { slot, generation },
@@ -142,6 +143,7 @@ impl<'e, H: FarmHost> JobSource for FarmSource<'e, H> {
 #[derive(Drop)]
 pub struct FarmJobs<'e, H: FarmHost> {
     host: &'e H,
+    alloc: Global,
     books: Books<'e>,
     machine: MachineId,
     worker: WorkerName,
@@ -156,9 +158,21 @@ enum NextLook {
     AfterJob,
     /// It does.
     Due,
-    /// It does not: since the last job it was told that the connection is lost. A service may close each one that is idle, and its workers
-    /// are not to dial it at each timeout.
+    /// Not while it waits: since the last job it was told that the connection is lost. A service may close each one that is idle, and its
+    /// workers are not to dial it at each timeout.
     ToldLost,
+}
+
+/// Whether a worker that is about to ask for a job looks at its kept connection. The next time it does.
+fn takes_look<R: Wait>(rt: &R, next_look: &Mutex<NextLook>) -> bool {
+    let mut next = next_look.lock(rt);
+    match *next {
+        NextLook::AfterJob => {
+            *next = NextLook::Due;
+            false
+        }
+        NextLook::Due | NextLook::ToldLost => true,
+    }
 }
 
 /// What is new of the machine's host after this job, which told so much of it.
@@ -346,7 +360,7 @@ fn settle<R: Wait>(
 
 impl<'e, H: FarmHost> Jobs for FarmJobs<'e, H> {
     ghost use Rattle.std.specs.Prelude.{◌≡◌};
-    ghost use Rattle.http_jobs.specs.Serving.{IsNotDoneBy, visible};
+    ghost use Rattle.http_jobs.specs.Serving.{IsNotDoneBy, MayMakeReady, visible};
     ghost use Rattle.serve_command.specs.Farm.{terms_in};
     ghost use Rattle.serve_command.specs.ServiceJobs.{Does};
 
@@ -370,6 +384,16 @@ impl<'e, H: FarmHost> Jobs for FarmJobs<'e, H> {
         (visible H.Call.input H.Call.output H.Call.quiet after.jobs.kept (H.Dials.calls after.jobs.dial)
         (H.Times.shown after.jobs.clock))
         after.jobs.service after.jobs.terms job error };
+
+    ghost prepares = { λ before after. (after.books.farm ≡ before.books.farm)
+        × (after.worker ≡ before.worker) × (after.machine ≡ before.machine)
+        × (H.Dials.host after.jobs.dial ≡ H.Dials.host before.jobs.dial)
+        × MayMakeReady
+        (visible H.Call.input H.Call.output H.Call.quiet before.jobs.kept (H.Dials.calls before.jobs.dial)
+        (H.Times.shown before.jobs.clock))
+        (visible H.Call.input H.Call.output H.Call.quiet after.jobs.kept (H.Dials.calls after.jobs.dial)
+        (H.Times.shown after.jobs.clock))
+        × (after.jobs.service ≡ before.jobs.service) × (after.jobs.terms ≡ before.jobs.terms) };
 
     fn run(&mut self, alloc: Global, job: Assignment) -> Result<Option<Outcome>, NotDone> {
         let farm = self.books.farm;
@@ -411,8 +435,29 @@ impl<'e, H: FarmHost> Jobs for FarmJobs<'e, H> {
         Ok(Reply::outcome_in(done?))
     }
 
-    /// `Lost` if it is time to look and the kept connection is lost. Each call counts: the first one after a job passes without a look, and
-    /// a loss is told once.
+    /// If no connection is kept, or the kept one is lost, one is opened. If that fails the worker asks for no job, and ends: another host
+    /// may do the job. None is opened if the farm has to end, since then no job is asked for.
+    fn prepare(&mut self) -> Readiness {
+        let looks = takes_look(self.host, &self.next_look);
+        if self.host.is_to_end() || (self.jobs.is_open() && !(looks && self.jobs.is_lost())) {
+            return Readiness::Ready;
+        }
+        let opened = self.jobs.make_ready();
+        let farm = self.books.farm;
+        let turn = self.books.hosts.turn(self.host);
+        let news = self.books.hosts.note_dial(self.host, self.machine, opened);
+        self.host
+            .tell_if(host_line(self.alloc, farm, self.machine, news));
+        drop(turn);
+        let Err(why) = opened else {
+            return Readiness::Ready;
+        };
+        self.host
+            .tell(no_connection_line(self.alloc, farm, self.worker, why));
+        Readiness::Unready
+    }
+
+    /// `Lost` if it is time to look and the kept connection is lost. A loss is told once.
     fn readiness(&self) -> Readiness {
         let mut next = self.next_look.lock(self.host);
         match *next {

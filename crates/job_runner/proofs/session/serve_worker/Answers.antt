@@ -10,7 +10,7 @@ returns-in-Some g c =
     let old : Link = record { input = g.L.Device.input c.args.link.now; output = g.L.Device.output c.args.link.now } in
     let new : Link = record { input = g.L.Device.input c.session_over-end.new.link; output = g.L.Device.output c.session_over-end.new.link } in
     let ran = c.session_over-end.ensures.ran in
-    let kept = promised_lost c.says_its_packets.ensures duty (EndTold g.J.Jobs.tells g.J.Jobs.fails c.args.jobs.now c.session_over-end.new.jobs) ran.0 old.output.got old new (g.P.PoolPort.book c.session_over-end.new.port) (g.P.PoolPort.book c.lose.new.self) c.session_over-end.result c.in-Some.loss
+    let kept = promised_lost c.says_its_packets.ensures duty (EndTold g.J.Jobs.tells g.J.Jobs.fails g.J.Jobs.prepares c.args.jobs.now c.session_over-end.new.jobs) ran.0 old.output.got old new (g.P.PoolPort.book c.session_over-end.new.port) (g.P.PoolPort.book c.lose.new.self) c.session_over-end.result c.in-Some.loss
     ran.2 c.session_over-end.ensures.faults c.session_over-end.ensures.losses (sym c.loss.ensures.exact ∙ c.in-Some.is) c.lose.ensures in
     record { served = (ran.0, kept.0, kept.1, ran.1, kept.2, kept.3, kept.4); turns = c.session_over-end.ensures.turns }
 
@@ -20,6 +20,6 @@ returns-in-None g c =
     let old : Link = record { input = g.L.Device.input c.args.link.now; output = g.L.Device.output c.args.link.now } in
     let new : Link = record { input = g.L.Device.input c.session_over-end.new.link; output = g.L.Device.output c.session_over-end.new.link } in
     let ran = c.session_over-end.ensures.ran in
-    let kept = promised_kept c.says_its_packets.ensures duty (EndTold g.J.Jobs.tells g.J.Jobs.fails c.args.jobs.now c.session_over-end.new.jobs) ran.0 old.output.got old new (g.P.PoolPort.book c.session_over-end.new.port) c.session_over-end.result
+    let kept = promised_kept c.says_its_packets.ensures duty (EndTold g.J.Jobs.tells g.J.Jobs.fails g.J.Jobs.prepares c.args.jobs.now c.session_over-end.new.jobs) ran.0 old.output.got old new (g.P.PoolPort.book c.session_over-end.new.port) c.session_over-end.result
     ran.2 c.session_over-end.ensures.faults c.session_over-end.ensures.losses (sym c.loss.ensures.exact ∙ c.in-None.is) in
     record { served = (ran.0, kept.0, kept.1, ran.1, kept.2, kept.3, kept.4); turns = c.session_over-end.ensures.turns }

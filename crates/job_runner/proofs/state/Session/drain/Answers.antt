@@ -15,12 +15,12 @@ use Rattle.job_runner.proofs.state.Session.drain.Goals as goal
 pub act-requires-clause-tally : goal.act-requires-clause-tally
 act-requires-clause-tally g c =
     let w = c.requires.serving in
-    tally_room (session_in c.args.worker.now w.0.before w.0.read) (AreTold g.J.Jobs.tells w.0.first c.loop-message.self.jobs.now) _ _ c.loop-message.self.state _ (c.loop-message.invariant.serving w.0 w.2) w.1
+    tally_room (session_in c.args.worker.now w.0.before w.0.read) (AreTold g.J.Jobs.tells g.J.Jobs.prepares w.0.first c.loop-message.self.jobs.now) _ _ c.loop-message.self.state _ (c.loop-message.invariant.serving w.0 w.2) w.1
 
 pub act-requires-clause-port : goal.act-requires-clause-port
 act-requires-clause-port g c =
     let w = c.requires.serving in
-    port_room (session_in c.args.worker.now w.0.before w.0.read) (AreTold g.J.Jobs.tells w.0.first c.loop-message.self.jobs.now) _ _ c.loop-message.self.state _ (c.loop-message.invariant.serving w.0 w.2) w.1
+    port_room (session_in c.args.worker.now w.0.before w.0.read) (AreTold g.J.Jobs.tells g.J.Jobs.prepares w.0.first c.loop-message.self.jobs.now) _ _ c.loop-message.self.state _ (c.loop-message.invariant.serving w.0 w.2) w.1
 
 pub returns-in-Err-clause-leaves : goal.returns-in-Err-clause-leaves
 returns-in-Err-clause-leaves g c = λ start stands.
@@ -30,7 +30,7 @@ returns-in-Err-clause-leaves g c = λ start stands.
     let acted = c.in-Err.ensures.does in
     record {
       told = st.told ++ told_at asked acted.0;
-      ran = end_told_on g.J.Jobs.tells g.J.Jobs.fails start.first c.loop-message.self.jobs.now c.act.new.self.jobs.now c.in-Err.cause st.told (told_at asked acted.0) st.ran acted.1;
+      ran = end_told_on g.J.Jobs.tells g.J.Jobs.fails g.J.Jobs.prepares start.first c.loop-message.self.jobs.now c.act.new.self.jobs.now c.in-Err.cause st.told (told_at asked acted.0) st.ran acted.1;
       ended = act_ended c.args.worker.now start.before start.read m asked acted.0
           (moment c.loop-message.self.state (g.L.Device.output c.loop-message.self.link.now).got (g.P.PoolPort.book c.loop-message.self.port.now)) (moment c.act.new.self.state (g.L.Device.output c.act.new.self.link.now).got (g.P.PoolPort.book c.act.new.self.port.now))
           st.given _ st.told c.in-Err.cause refl acted.2 st.went (says_after start.read st.given m _ _ st.heard c.in-Some.ensures.given);
@@ -39,7 +39,7 @@ returns-in-Err-clause-leaves g c = λ start stands.
 pub returns-in-Err-clause-reason : goal.returns-in-Err-clause-reason
 returns-in-Err-clause-reason g c = λ start stands.
     let st = c.loop-message.invariant.serving start stands in
-    reason_next (duty_in c.args.worker.now) (AreTold g.J.Jobs.tells start.first c.loop-message.self.jobs.now) start.before start.read _ (message_of c.in-Some.message) _ _ c.loop-message.self.state c.act.new.self.state.tally (g.P.PoolPort.book c.loop-message.self.port.now) (g.P.PoolPort.book c.act.new.self.port.now) c.in-Err.cause st c.in-Some.ensures.given c.in-Err.ensures.reason
+    reason_next (duty_in c.args.worker.now) (AreTold g.J.Jobs.tells g.J.Jobs.prepares start.first c.loop-message.self.jobs.now) start.before start.read _ (message_of c.in-Some.message) _ _ c.loop-message.self.state c.act.new.self.state.tally (g.P.PoolPort.book c.loop-message.self.port.now) (g.P.PoolPort.book c.act.new.self.port.now) c.in-Err.cause st c.in-Some.ensures.given c.in-Err.ensures.reason
 
 pub loop-message-preserved : goal.loop-message-preserved
 loop-message-preserved g c =
@@ -52,7 +52,7 @@ loop-message-preserved g c =
           record {
             told = st.told ++ told_at asked acted.0;
             given = st.given ++ m ∷ [];
-            ran = told_on g.J.Jobs.tells start.first c.loop-message.self.jobs.now c.act.new.self.jobs.now st.told (told_at asked acted.0) st.ran acted.1;
+            ran = told_on g.J.Jobs.tells g.J.Jobs.prepares start.first c.loop-message.self.jobs.now c.act.new.self.jobs.now st.told (told_at asked acted.0) st.ran acted.1;
             heard = heard_next start.read st.given m _ _ st.heard c.in-Some.ensures.given;
             went = act_on c.args.worker.now start.before m asked acted.0
                 (moment c.loop-message.self.state (g.L.Device.output c.loop-message.self.link.now).got (g.P.PoolPort.book c.loop-message.self.port.now)) (moment c.act.new.self.state (g.L.Device.output c.act.new.self.link.now).got (g.P.PoolPort.book c.act.new.self.port.now))
@@ -67,7 +67,7 @@ loop-message-preserved g c =
 pub returns-in-Some-fault-clause-leaves : goal.returns-in-Some-fault-clause-leaves
 returns-in-Some-fault-clause-leaves g c = λ start stands.
     let st = c.loop-message.invariant.serving start stands in
-    serving_halts (session_in c.args.worker.now start.before start.read) (AreTold g.J.Jobs.tells start.first c.loop-message.self.jobs.now) (EndTold g.J.Jobs.tells g.J.Jobs.fails start.first c.loop-message.self.jobs.now) _ _ c.loop-message.self.state _ BadPacket st (ap (λ (x : Reading). x.messages) c.in_default.ensures.given ∙ c.in_default.ensures.none)
+    serving_halts (session_in c.args.worker.now start.before start.read) (AreTold g.J.Jobs.tells g.J.Jobs.prepares start.first c.loop-message.self.jobs.now) (EndTold g.J.Jobs.tells g.J.Jobs.fails g.J.Jobs.prepares start.first c.loop-message.self.jobs.now) _ _ c.loop-message.self.state _ BadPacket st (ap (λ (x : Reading). x.messages) c.in_default.ensures.given ∙ c.in_default.ensures.none)
     (c.loop-message.self.jobs.now, st.ran, inl (refl, λ e. cc)) tt
 
 pub returns-in-Some-fault-clause-reason : goal.returns-in-Some-fault-clause-reason
@@ -77,7 +77,7 @@ returns-in-Some-fault-clause-reason g c = λ start stands.
 
 pub returns-in-None-clause-leaves : goal.returns-in-None-clause-leaves
 returns-in-None-clause-leaves g c = λ start stands.
-    subst (λ (r : Reading). HasServed (session_in c.args.worker.now start.before start.read) (AreTold g.J.Jobs.tells start.first c.loop-message.self.jobs.now) (g.L.Device.output c.loop-message.self.link.now).got r c.loop-message.self.state (g.P.PoolPort.book c.loop-message.self.port.now))
+    subst (λ (r : Reading). HasServed (session_in c.args.worker.now start.before start.read) (AreTold g.J.Jobs.tells g.J.Jobs.prepares start.first c.loop-message.self.jobs.now) (g.L.Device.output c.loop-message.self.link.now).got r c.loop-message.self.state (g.P.PoolPort.book c.loop-message.self.port.now))
     c.in_default.ensures.given (c.loop-message.invariant.serving start stands)
 
 pub returns-in-Err-clause-parts : goal.returns-in-Err-clause-parts

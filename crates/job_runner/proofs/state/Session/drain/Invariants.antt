@@ -4,8 +4,8 @@ use Rattle.job_runner.proofs.state.Session.drain.Given as goal
 
 abbrev pub invariant-loop-message : goal.invariant-loop-message
 invariant-loop-message g l = record {
-  serving : (start : Start g.row.J.Denot) → Stands g.L.Device.output g.P.PoolPort.book g.J.Jobs.tells l.worker start l.fn.reader l.fn.self
-      → Stands g.L.Device.output g.P.PoolPort.book g.J.Jobs.tells l.worker start l.reader l.self;
+  serving : (start : Start g.row.J.Denot) → Stands g.L.Device.output g.P.PoolPort.book g.J.Jobs.tells g.J.Jobs.prepares l.worker start l.fn.reader l.fn.self
+      → Stands g.L.Device.output g.P.PoolPort.book g.J.Jobs.tells g.J.Jobs.prepares l.worker start l.reader l.self;
   input : g.L.Device.input l.self.link.now ≡ g.L.Device.input l.fn.self.link.now;
   failures : (g.L.Device.output l.self.link.now).failures ≡ (g.L.Device.output l.fn.self.link.now).failures;
   parts : SameParts l.fn.self l.self;

@@ -13,6 +13,7 @@ use Rattle.job_runner.proofs.Listening.{one_at_most, reads_within}
 use Rattle.job_runner.proofs.Reasons.{memory_is_other}
 use Rattle.job_runner.proofs.Listening.{no_read_failed}
 use Rattle.byte_io.proofs.Devices.{counted_nothing}
+use Rattle.job_runner.proofs.Telling.{told_and_prepared}
 use Rattle.job_runner.proofs.Turning.{glanced, read_ended}
 use Rattle.job_runner.specs.Acting.{moment, Glances}
 use Rattle.job_runner.proofs.Paths.{went_at, glance_gone}
@@ -28,7 +29,7 @@ pub returns-in-Ok-Lull-clause-listens : goal.returns-in-Ok-Lull-clause-listens
 returns-in-Ok-Lull-clause-listens g c = λ start given at st.
     let duty = duty_in c.args.worker.now in
     let heard = c.in-Ok-Lull.ensures.hears given start.read st.given at st.heard in
-    let ran = subst (λ j. AreTold g.J.Jobs.tells start.first j st.told) (sym c.glance.ensures.idles.jobs) st.ran in
+    let ran = told_and_prepared g.J.Jobs.tells g.J.Jobs.prepares start.first c.args.self.now.jobs.now c.glance.new.self.jobs.now st.told st.ran c.glance.ensures.ready.jobs in
     let old : Link = record { input = g.L.Device.input c.args.self.now.link.now; output = g.L.Device.output c.args.self.now.link.now } in
     let new : Link = record { input = g.L.Device.input c.glance.new.self.link.now; output = g.L.Device.output c.glance.new.self.link.now } in
     let got = ap (λ (o : Output). o.got) c.in-Ok-Lull.ensures.output in
@@ -36,7 +37,7 @@ returns-in-Ok-Lull-clause-listens g c = λ start given at st.
       heard.0,
       ap (λ (i : Input). i.given) c.glance.ensures.link.input ∙ heard.1,
       omega (arith, heard.2),
-      glanced (session_of duty start.before heard.0) (AreTold g.J.Jobs.tells start.first c.glance.new.self.jobs.now) (EndTold g.J.Jobs.tells g.J.Jobs.fails start.first c.glance.new.self.jobs.now) _ st.told st.given _ c.glance.new.self.state _ old new c.glance.result ran (λ e o. (c.glance.new.self.jobs.now, ran, inl (refl, o))) heard.3
+      glanced (session_of duty start.before heard.0) (AreTold g.J.Jobs.tells g.J.Jobs.prepares start.first c.glance.new.self.jobs.now) (EndTold g.J.Jobs.tells g.J.Jobs.fails g.J.Jobs.prepares start.first c.glance.new.self.jobs.now) _ st.told st.given _ c.glance.new.self.state _ old new c.glance.result ran (λ e o. (c.glance.new.self.jobs.now, ran, inl (refl, o))) heard.3
           (glance_gone c.args.worker.now start.before heard.0
           (moment c.args.self.now.state (g.L.Device.output c.hear.new.link).got (g.P.PoolPort.book c.args.self.now.port.now)) (moment c.glance.new.self.state (g.L.Device.output c.glance.new.self.link.now).got (g.P.PoolPort.book c.glance.new.self.port.now))
           st.given _ st.told c.glance.result c.glance.ensures.glances (went_at duty start.before _ _ st.given st.told _ _ _ got st.went) (ap (λ (x : Reading). x.messages) heard.3)
@@ -55,7 +56,7 @@ returns-in-Err-clause-listens g c = λ start given at st.
       heard.0,
       heard.1,
       omega (arith, heard.2),
-      read_ended (session_of duty start.before heard.0) (EndTold g.J.Jobs.tells g.J.Jobs.fails start.first c.args.self.now.jobs.now) _ st.told st.given c.hear.new.reader c.args.self.now.state _ old new c.in-Err.cause (λ e o. (c.args.self.now.jobs.now, st.ran, inl (refl, o))) (went_at duty start.before _ _ st.given st.told _ _ _ got st.went) heard.3
+      read_ended (session_of duty start.before heard.0) (EndTold g.J.Jobs.tells g.J.Jobs.fails g.J.Jobs.prepares start.first c.args.self.now.jobs.now) _ st.told st.given c.hear.new.reader c.args.self.now.state _ old new c.in-Err.cause (λ e o. (c.args.self.now.jobs.now, st.ran, inl (refl, o))) (went_at duty start.before _ _ st.given st.told _ _ _ got st.went) heard.3
           (ap (λ (r : Reading). r.messages) (c.in-Err.ensures.kept (λ e. cc)) ∙ c.requires.all_given) c.in-Err.ensures.causes
           (λ x. c.in-Err.ensures.ended ∙ ap (λ (y : EndCause). finds_end (Err y)) x)
           (λ x. c.in-Err.ensures.failures ∙ ap (λ (y : EndCause). (g.L.Device.input c.args.self.now.link.now).failures + read_failures (Err y)) x)

@@ -26,7 +26,7 @@ returns-in-Err-clause-ran g c =
       (
         record {
           told = [];
-          ran = (c.args.self.now.jobs.now, refl, inl (c.begin.ensures.idles.jobs, port_served c.args.worker.now.pass.now.generation (g.P.PoolPort.book c.begin.new.self.port.now) c.in-Err.cause c.in-Err.ensures.reason));
+          ran = (c.args.self.now.jobs.now, ([], refl), inl (c.begin.ensures.idles.jobs, port_served c.args.worker.now.pass.now.generation (g.P.PoolPort.book c.begin.new.self.port.now) c.in-Err.cause c.in-Err.ensures.reason));
           ended = begun_gone c.args.worker.now (moment c.args.self.now.state old.output.got (g.P.PoolPort.book c.args.self.now.port.now)) (moment c.begin.new.self.state new.output.got (g.P.PoolPort.book c.begin.new.self.port.now)) (Err c.in-Err.cause) c.requires.first c.requires.fresh c.in-Err.ensures.begins says_nothing;
         },
         outer_reason (session_of duty old.output.got []) old new c.begin.new.self.state.tally (g.P.PoolPort.book c.begin.new.self.port.now) c.in-Err.cause (read_reason (session_of duty old.output.got []) c.begin.new.self.state.tally (g.P.PoolPort.book c.begin.new.self.port.now) c.in-Err.cause c.in-Err.ensures.reason)
@@ -49,7 +49,7 @@ loop-made-init g c =
         record {
           told = [];
           given = [];
-          ran = c.begin.ensures.idles.jobs;
+          ran = ([], c.begin.ensures.idles.jobs);
           heard = reads_nothing ∙ sym c.new.ensures;
           went = begun_gone c.args.worker.now (moment c.args.self.now.state before (g.P.PoolPort.book c.args.self.now.port.now)) (moment c.begin.new.self.state (g.L.Device.output c.begin.new.self.link.now).got (g.P.PoolPort.book c.begin.new.self.port.now)) (Ok tt) c.requires.first c.requires.fresh c.in-Ok.ensures.begins says_nothing;
         },
@@ -89,7 +89,7 @@ loop-made-preserved g c =
       turns = reads_on c.loop-made.made c.loop-made.made 1 1 _ _ _ _ c.loop-made.invariant.turns c.drain.ensures.link.input c.in-Ok-listen.ensures.reads;
       read_failures = c.in-Ok-listen.ensures.read_failures (λ e. cc) ∙ ap (λ (i : Input). i.failures) c.drain.ensures.link.input ∙ c.loop-made.invariant.read_failures;
       write_failures = c.in-Ok-listen.ensures.write_failures (λ e. cc) ∙ c.in-Ok-drain.ensures.link.no_failure (λ e. cc) ∙ c.loop-made.invariant.write_failures;
-      parts = same_parts _ _ _ c.loop-made.invariant.parts (same_parts _ _ _ c.drain.ensures.parts c.listen.ensures.idles.parts);
+      parts = same_parts _ _ _ c.loop-made.invariant.parts (same_parts _ _ _ c.drain.ensures.parts c.listen.ensures.ready.parts);
       losses = c.listen.ensures.losses ∙ c.drain.ensures.losses ∙ c.loop-made.invariant.losses;
     }
 
@@ -123,7 +123,7 @@ returns-in-Ok-drain-2-clause-ran g c =
     let before = (g.L.Device.output c.args.self.now.link.now).got in
     let now = c.loop-made.invariant.serving in
     let left = c.in-Ok-drain-2.ensures.leaves (record { first = c.args.self.now.jobs.now; before = before; read = now.0 }) now.3 in
-    (now.0, ap (λ (i : Input). i.given) c.drain-2.ensures.link.input ∙ now.1, (serving_halts (session_of (duty_in c.args.worker.now) before now.0) (AreTold g.J.Jobs.tells c.args.self.now.jobs.now c.drain-2.new.self.jobs.now) (EndTold g.J.Jobs.tells g.J.Jobs.fails c.args.self.now.jobs.now c.drain-2.new.self.jobs.now) _ _ c.drain-2.new.self.state _ TurnsUsed left c.in-Ok-drain-2.ensures.all_given (c.drain-2.new.self.jobs.now, left.ran, inl (refl, λ e. cc)) tt, (ap (λ (i : Input). i.failures) c.drain-2.ensures.link.input ∙ c.loop-made.invariant.read_failures, c.in-Ok-drain-2.ensures.link.no_failure (λ e. cc) ∙ c.loop-made.invariant.write_failures)))
+    (now.0, ap (λ (i : Input). i.given) c.drain-2.ensures.link.input ∙ now.1, (serving_halts (session_of (duty_in c.args.worker.now) before now.0) (AreTold g.J.Jobs.tells g.J.Jobs.prepares c.args.self.now.jobs.now c.drain-2.new.self.jobs.now) (EndTold g.J.Jobs.tells g.J.Jobs.fails g.J.Jobs.prepares c.args.self.now.jobs.now c.drain-2.new.self.jobs.now) _ _ c.drain-2.new.self.state _ TurnsUsed left c.in-Ok-drain-2.ensures.all_given (c.drain-2.new.self.jobs.now, left.ran, inl (refl, λ e. cc)) tt, (ap (λ (i : Input). i.failures) c.drain-2.ensures.link.input ∙ c.loop-made.invariant.read_failures, c.in-Ok-drain-2.ensures.link.no_failure (λ e. cc) ∙ c.loop-made.invariant.write_failures)))
 
 pub returns-clause-ran : goal.returns-clause-ran
 returns-clause-ran g c =
@@ -203,7 +203,7 @@ pub returns-in-Err-drain-clause-parts : goal.returns-in-Err-drain-clause-parts
 returns-in-Err-drain-clause-parts g c = same_parts _ _ _ c.loop-made.invariant.parts c.drain.ensures.parts
 
 pub returns-in-Err-listen-clause-parts : goal.returns-in-Err-listen-clause-parts
-returns-in-Err-listen-clause-parts g c = same_parts _ _ _ c.loop-made.invariant.parts (same_parts _ _ _ c.drain.ensures.parts c.listen.ensures.idles.parts)
+returns-in-Err-listen-clause-parts g c = same_parts _ _ _ c.loop-made.invariant.parts (same_parts _ _ _ c.drain.ensures.parts c.listen.ensures.ready.parts)
 
 pub returns-in-Ok-drain-2-clause-parts : goal.returns-in-Ok-drain-2-clause-parts
 returns-in-Ok-drain-2-clause-parts g c = same_parts _ _ _ c.loop-made.invariant.parts c.drain-2.ensures.parts

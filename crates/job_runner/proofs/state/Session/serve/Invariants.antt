@@ -10,7 +10,7 @@ abbrev pub invariant-loop-made : goal.invariant-loop-made
 invariant-loop-made g l = record {
   within : l.made ≤ l.turns;
   serving : (read : List ℕ) × ((g.L.Device.input l.self.link.now).given ≡ and_then (g.L.Device.input l.fn.self.link.now).given read) × (length read ≤ 4096 * l.made)
-      × HasServed (session_in l.worker (g.L.Device.output l.fn.self.link.now).got read) (AreTold g.J.Jobs.tells l.fn.self.jobs.now l.self.jobs.now) (g.L.Device.output l.self.link.now).got l.inbox.reader l.self.state (g.P.PoolPort.book l.self.port.now);
+      × HasServed (session_in l.worker (g.L.Device.output l.fn.self.link.now).got read) (AreTold g.J.Jobs.tells g.J.Jobs.prepares l.fn.self.jobs.now l.self.jobs.now) (g.L.Device.output l.self.link.now).got l.inbox.reader l.self.state (g.P.PoolPort.book l.self.port.now);
   turns : Reads 4096 l.made l.made (g.L.Device.input l.fn.self.link.now) (g.L.Device.input l.self.link.now);
   read_failures : (g.L.Device.input l.self.link.now).failures ≡ (g.L.Device.input l.fn.self.link.now).failures;
   write_failures : (g.L.Device.output l.self.link.now).failures ≡ (g.L.Device.output l.fn.self.link.now).failures;

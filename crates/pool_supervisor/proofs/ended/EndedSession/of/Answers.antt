@@ -13,6 +13,6 @@ returns-clause-past g c =
     let same = c.args.site.now.run.settings_are in
     let known = subst (λ (s : Settings). c.args.papers.worker.pass.slot < slots s) same c.requires.slot in
     let end = c.run_worker-returned.result.end in
-    let past = is_past see _ _ _ _ g.N.RunId.had_jobs g.N.RunId.settings c.args.site.now.run.settings.now c.args.papers.worker.pass end _ _ _ c.requires.source same known c.requires.fresh c.run_worker-returned.ensures.served in
+    let past = is_past see _ _ _ _ _ g.N.RunId.had_jobs g.N.RunId.settings c.args.site.now.run.settings.now c.args.papers.worker.pass end _ _ _ c.requires.source same known c.requires.fresh c.run_worker-returned.ensures.served in
     let linked = subst (λ link. IsPast g.N.RunId.settings g.N.RunId.had_jobs c.args.papers.worker.pass end (see link)) (sym c.of.ensures) past in
     subst (λ (w : WorkerName). IsPast g.N.RunId.settings g.N.RunId.had_jobs w end (see c.of.result.value)) (sym c.name-worker.ensures) linked

@@ -8,7 +8,7 @@ use Rattle.pool_supervisor.proofs.run.Tools.run_whole.Goals as goal
 
 pub returns : goal.returns
 returns g c =
-    let had = HadJobs g.J.Jobs.Jobs.tells g.J.Jobs.Jobs.fails (g.J.JobSource.gives c.args.lent.jobs.now) (g.J.JobSource.denies c.args.lent.jobs.now) in
+    let had = HadJobs g.J.Jobs.Jobs.tells g.J.Jobs.Jobs.fails g.J.Jobs.Jobs.prepares (g.J.JobSource.gives c.args.lent.jobs.now) (g.J.JobSource.denies c.args.lent.jobs.now) in
     let called = g.Y.Dial.calls c.args.self.dial in
     let made = c.in_ok-made.made in
     let of_settings =
