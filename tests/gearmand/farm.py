@@ -121,7 +121,7 @@ class Gearmand:
 class Pool:
     """A `poolman run`, watched, or with other words another program that runs workers."""
 
-    def __init__(self, program, settings, rounds, descriptors=None, environment=(), words=("run",)):
+    def __init__(self, program, settings, rounds, descriptors=None, words=("run",)):
         self.folder = tempfile.TemporaryDirectory(prefix="poolman-")
         path = f"{self.folder.name}/settings.toml"
         with open(path, "w") as it:
@@ -138,7 +138,7 @@ class Pool:
             stdin=subprocess.DEVNULL,
             stdout=self.out,
             stderr=self.err,
-            env={**os.environ, "POOLMAN_WATCH": "1", **dict(environment)},
+            env={**os.environ, "POOLMAN_WATCH": "1"},
             preexec_fn=limit,
         )
 

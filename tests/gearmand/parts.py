@@ -1,6 +1,5 @@
 """The parts of the test against a real gearmand. Each takes the program, and gives what it found in short."""
 
-import ctypes.util
 import random
 import select
 import signal
@@ -344,8 +343,8 @@ def terminated(program):
     return f"{left} of 20,000 jobs were left, and the next run did them"
 
 
-# Debian's libkeepalive0, and what it reads.
-KEEPALIVE = {"LD_PRELOAD": "libkeepalive.so.0", "KEEPIDLE": "1", "KEEPINTVL": "1", "KEEPCNT": "2"}
+# A link is given up after 7 seconds without a sign of the server.
+GIVEN_UP_S = 9
 
 
 def lose_the_server(server, away_s):
@@ -360,27 +359,22 @@ def lose_the_server(server, away_s):
 
 
 def half_open(program):
-    """Links whose other side is gone, in a name space of its own: sleeping workers stay on them, and with keepalive they are replaced."""
-    held(ctypes.util.find_library("keepalive"), "Debian's libkeepalive0 is not installed")
+    """Links whose other side is gone, in a name space of its own: sleeping workers find it and are replaced, whether the server's machine
+    is back before TCP gives the links up, and answers that it knows none, or after."""
     subprocess.run(["ip", "link", "set", "lo", "up"], check=True)
-    for environment in ({}, KEEPALIVE):
+    for away_s in (0, GIVEN_UP_S):
         server = Gearmand()
-        pool = Pool(program, settings(server.port, 4, round_ms=200), 100, environment=environment)
+        pool = Pool(program, settings(server.port, 4, round_ms=200), 150)
         wait_until(lambda: sum(row[3] for row in server.status()) == 4, 20, "four workers")
         # By now what they wrote was taken, and they sleep.
         time.sleep(1.5)
-        # With keepalive it is away until TCP has given the links up. A machine that is back before answers that it knows none.
-        lose_the_server(server, 6 if environment else 0)
-        if environment:
-            wait_until(lambda: sum(row[3] for row in server.status()) == 4, 10, "four workers again")
-            ends = [line for line in pool.watched() if line.startswith("ended ")]
-            held(len(ends) == 4 and all(" ReadFault " in line for line in ends), f"how workers ended whose link TCP gave up: {ends}")
-            ask_rightly(server.port, mixed_jobs(30, 14))
-        else:
-            time.sleep(4)
-            held(sum(row[3] for row in server.status()) == 0 and " round " in pool.seen()[-1], "a worker noticed it without keepalive")
-        all_done(server, pool, 30 if environment else 0)
-    return "without keepalive no worker came back, with it all four"
+        lose_the_server(server, away_s)
+        wait_until(lambda: sum(row[3] for row in server.status()) == 4, 70, f"four workers again after {away_s} seconds")
+        ends = [line for line in pool.watched() if line.startswith("ended ")]
+        held(len(ends) == 4 and all(" ReadFault " in line for line in ends), f"how workers ended whose link was lost: {ends}")
+        ask_rightly(server.port, mixed_jobs(30, 14))
+        all_done(server, pool, 30)
+    return f"all four workers came back, of a server that was away for a moment, and for {GIVEN_UP_S} seconds"
 
 
 # Parts that want a network of their own, and so root.
