@@ -3,7 +3,8 @@ use Rattle.std.specs.Prelude.{ℕ, List, map}
 use Rattle.file_keys.specs.Keys.{AreInRange, Key, name_of, number_named, row_view}
 use Rattle.service_settings.specs.Services.{Services}
 use Rattle.service_settings.specs.declared.keys.TheConstants.{BACKLOG, CONNECT_MS, FUNCTIONS, FUNCTION_KEYS, HOSTS, LISTEN, MACHINES}
-use Rattle.service_settings.specs.declared.keys.TheConstants.{MACHINE_KEYS, PAGE, PAGE_KEYS, RESEND, RETRIES, TIMEOUT_MS, TOP_KEYS, URL, VERSION}
+use Rattle.service_settings.specs.declared.keys.TheConstants.{MACHINE_KEYS, PAGE, PAGE_KEYS, RESEND, RETRIES, TIMEOUT_MS}
+use Rattle.service_settings.specs.declared.keys.TheConstants.{TOP_KEYS, URL, VERSION}
 
 abbrev pub version_row : Key
 version_row = row_view (λ t. t.now) VERSION
