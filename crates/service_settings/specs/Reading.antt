@@ -1,6 +1,6 @@
 -- Services, version 1: the checks, each over the whole file before the next, and the services that a file which passes them means.
 use Rattle.std.specs.Prelude.{ℕ, List, [], ◌∷◌, Bool, true, false, not, is_some, map, min, Option, Some}
-use Rattle.std.specs.Prelude.{option_and_then, option_map, codes, Result, Ok, Err}
+use Rattle.std.specs.Prelude.{option_and_then, option_map, unwrap_or, codes, Result, Ok, Err}
 use Rattle.std.specs.List.{filter_map, find}
 use Rattle.std.specs.Option.{option_map_or, option_or}
 use Rattle.toml.specs.Data.{Members, as_str, as_table, get_member}
