@@ -5,6 +5,7 @@ ghost use Rattle.std.specs.Prelude.{nat_lt, true};
 ghost use Rattle.std.specs.Option.{option_map};
 ghost use Rattle.farm_hosts.specs.Hosts as spec;
 
+use crate::first_answers::FirstAnswers;
 use crate::host_state::{BeforeJob, HostState, Presence, Reason};
 use crate::left_jobs::{LeftJob, LeftJobs};
 use devices::DialError;
@@ -55,6 +56,8 @@ pub struct HostEntry {
     pub heard: u64,
     /// How many of its workers are at a job there, or take a look at it.
     pub busy: u32,
+    /// Whether its jobs are answered.
+    pub answers: FirstAnswers,
     /// How many workers came to try it.
     pub tries: u64,
     /// How many of its workers joined in this attempt, less those that ended in it.
@@ -76,6 +79,7 @@ impl HostEntry {
             left: LeftJobs::nothing(),
             heard: 1,
             busy: 0,
+            answers: FirstAnswers::new(),
             tries: 0,
             joined: 0,
             alive: 0,

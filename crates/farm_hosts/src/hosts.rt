@@ -1,5 +1,6 @@
 //! Which hosts of a farm are reached, and when one that is not is tried again.
 
+use crate::first_answers::{AnswerNews, Heard};
 use crate::host_entry::{HostEntry, HostNews, MachineSlot};
 use crate::host_state::{BeforeJob, Reason};
 use crate::left_jobs::LeftJob;
@@ -84,7 +85,7 @@ impl Hosts {
     }
 
     /// What a worker of the machine, whose jobs are run by what is so, does before it asks for one more job. A worker that is told that its
-    /// connection was closed takes a look at the host, up to `end_use`. So does one worker of a host that has no job to do, and for four
+    /// connection was closed takes a look at the host, up to `end_look`. So does one worker of a host that has no job to do, and for four
     /// attempts has taken no connection and served no job.
     pub fn before_job<R: Wait>(
         &self,
@@ -101,16 +102,38 @@ impl Hosts {
         }
     }
 
-    /// The host of this machine is given a job.
-    pub fn begin_job<R: Wait>(&self, rt: &R, machine: MachineId) {
+    /// The host of this machine is given a job by a worker that has heard so much of it.
+    pub fn begin_job<R: Wait>(&self, rt: &R, machine: MachineId, so_far: Heard) {
         let mut held = self.table.lock(rt);
         if let Some(host) = held.hosts.get_mut(machine.number() as usize) {
             host.busy = host.busy.saturating_add(1);
+            host.answers.begin_job(so_far);
         }
     }
 
-    /// A job of the host of this machine, or a worker's look at it, has ended, however it did.
-    pub fn end_use<R: Wait>(&self, rt: &R, machine: MachineId) {
+    /// Such a job has ended, and was answered or not. What is new of the answers of the host.
+    pub fn end_job<R: Wait>(
+        &self,
+        rt: &R,
+        machine: MachineId,
+        so_far: Heard,
+        is_answered: bool,
+    ) -> Option<AnswerNews> {
+        let mut held = self.table.lock(rt);
+        let host = held.hosts.get_mut(machine.number() as usize)?;
+        host.busy = host.busy.saturating_sub(1);
+        host.answers.end_job(so_far, is_answered)
+    }
+
+    /// After an attempt: what is new of the answers of the host of this machine, by how long its jobs have waited.
+    pub fn note_waits<R: Wait>(&self, rt: &R, machine: MachineId) -> Option<AnswerNews> {
+        let mut held = self.table.lock(rt);
+        let host = held.hosts.get_mut(machine.number() as usize)?;
+        host.answers.begin_attempt()
+    }
+
+    /// A worker's look at the host of this machine has ended.
+    pub fn end_look<R: Wait>(&self, rt: &R, machine: MachineId) {
         let mut held = self.table.lock(rt);
         if let Some(host) = held.hosts.get_mut(machine.number() as usize) {
             host.busy = host.busy.saturating_sub(1);

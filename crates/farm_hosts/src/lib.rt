@@ -2,6 +2,7 @@
 #![tactic(auto)]
 
 mod file_room;
+mod first_answers;
 mod host_entry;
 mod host_sign;
 mod host_state;
@@ -11,6 +12,7 @@ mod thread_room;
 mod waits;
 
 pub use file_room::{FileNews, FileRoom};
+pub use first_answers::{AnswerNews, Heard};
 pub use host_entry::{HostNews, MachineSlot};
 pub use host_sign::{HostSign, sign_of};
 pub use host_state::{BeforeJob, Reason, lets_go_on, said_of_host};

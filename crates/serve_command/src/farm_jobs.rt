@@ -10,10 +10,10 @@ use crate::host::FarmHost;
 use crate::job_lines::{failure_of, line_of, told_part};
 use crate::last_jobs::AnsweredJob;
 use devices::DialError;
-use farm_hosts::{HostNews, HostSign, Hosts, LeftJob, MachineSlot, sign_of};
+use farm_hosts::{AnswerNews, Heard, HostNews, HostSign, Hosts, LeftJob, MachineSlot, sign_of};
 use farm_notes::JobEnd;
 use gear_packets::{Assignment, Handle};
-use http_jobs::{JobTerms, Reply, Resend, ServiceJobs, dial_words, left_too_often};
+use http_jobs::{JobTerms, Reply, Resend, ServiceJobs, Unserved, dial_words, left_too_often};
 use job_runner::{End, Jobs, NotDone, Outcome, Readiness};
 use plan_model::{FuncId, MachineId, SlotId};
 use pool_supervisor::JobSource;
@@ -129,6 +129,7 @@ impl<'e, H: FarmHost> JobSource for FarmSource<'e, H> {
             machine,
             worker: WorkerName { slot, generation },
             jobs,
+            heard: Heard::Nothing,
             next_look: Mutex::new(NextLook::Due),
         })
     }
@@ -148,6 +149,8 @@ pub struct FarmJobs<'e, H: FarmHost> {
     machine: MachineId,
     worker: WorkerName,
     jobs: ServiceJobs<H::Call, H::Dials, H::Times>,
+    /// Whether its service has answered one.
+    heard: Heard,
     next_look: Mutex<NextLook>,
 }
 
@@ -189,6 +192,34 @@ fn news_of<R: Wait>(
         HostSign::Unreached(why) => hosts.note_dial(rt, machine, Err(why)),
         HostSign::Nothing => None,
     }
+}
+
+/// Whether a response came to a job, one that says how the job ended or not.
+fn is_answered(served: &Result<Option<Reply>, http_jobs::NotDone>) -> bool {
+    matches!(
+        served,
+        Ok(Some(_)) | Err(http_jobs::NotDone::Unserved(Unserved::Status(_)))
+    )
+}
+
+/// What a worker has heard of its host after this job.
+fn heard_after(so_far: Heard, served: &Result<Option<Reply>, http_jobs::NotDone>) -> Heard {
+    if is_answered(served) {
+        Heard::Answer
+    } else {
+        so_far
+    }
+}
+
+/// A job of the machine's host has come to this. What is new of its answers.
+fn end_job<R: Wait>(
+    rt: &R,
+    hosts: &Hosts,
+    machine: MachineId,
+    so_far: Heard,
+    served: &Result<Option<Reply>, http_jobs::NotDone>,
+) -> Option<AnswerNews> {
+    hosts.end_job(rt, machine, so_far, is_answered(served))
 }
 
 /// How a job ended.
@@ -243,6 +274,20 @@ fn news_line(
             let why = why.name();
             format!(in alloc; "unreached {name} {why}")
         }
+    }
+}
+
+/// The line of what is new of the answers of a machine's host, if anything is.
+pub fn answers_line(
+    alloc: Global,
+    farm: &Farm,
+    machine: MachineId,
+    news: Option<AnswerNews>,
+) -> Option<Result<String, AllocError>> {
+    let name = farm.settings.machine_name(machine);
+    match news? {
+        AnswerNews::Unanswered(jobs) => Some(format!(in alloc; "unanswered {name} {jobs}")),
+        AnswerNews::Answered => Some(format!(in alloc; "answered {name}")),
     }
 }
 
@@ -402,14 +447,18 @@ impl<'e, H: FarmHost> Jobs for FarmJobs<'e, H> {
         let timeout_ms = self.books.farm.timeout_ms(&job.function);
         self.jobs.set_terms(self.books.farm.terms(&job.function));
         self.next_look = Mutex::new(NextLook::AfterJob);
-        self.books.hosts.begin_job(self.host, self.machine);
+        let so_far = self.heard;
+        self.books.hosts.begin_job(self.host, self.machine, so_far);
         let served = self.jobs.serve(alloc, &job);
-        self.books.hosts.end_use(self.host, self.machine);
+        self.heard = heard_after(so_far, &served);
         let sign = sign_of(&served, timeout_ms, farm.services.connect_ms());
         let now_ms = self.host.now_ms();
         let times_left = note_left(self.host, self.books.unserved, &job.handle, sign, now_ms);
         let left = left_job(farm, self.machine, times_left, now_ms);
         let turn = self.books.hosts.turn(self.host);
+        let answers = end_job(self.host, self.books.hosts, self.machine, so_far, &served);
+        self.host
+            .tell_if(answers_line(alloc, farm, self.machine, answers));
         let news = news_of(self.host, self.books.hosts, self.machine, left, sign);
         self.host
             .tell_if(host_line(alloc, farm, self.machine, news));

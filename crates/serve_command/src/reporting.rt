@@ -5,7 +5,7 @@ ghost use Rattle.serve_command.specs.Serving as spec;
 
 use crate::books::Books;
 use crate::farm::Farm;
-use crate::farm_jobs::host_line;
+use crate::farm_jobs::{answers_line, host_line};
 use crate::host::FarmHost;
 use crate::job_lines::{Uncompleted, job_words, line_of, lost_job};
 use crate::last_jobs::AnsweredJob;
@@ -348,7 +348,7 @@ impl<'e, H: FarmHost> Watch for Reporting<'e, H> {
             None => None,
         };
         if does == BeforeJob::Look {
-            self.books.hosts.end_use(self.host, machine);
+            self.books.hosts.end_look(self.host, machine);
         }
         if let Some(dialled) = said {
             let _turn = self.books.hosts.turn(self.host);
@@ -424,16 +424,20 @@ impl<'e, H: FarmHost> Progress for Reporting<'e, H> {
         self.host
             .tell(attempt_told(self.alloc, made, self.host.last_failure()));
         // What a plan lacks may be workers of a host that only one worker tries. By a relaxed plan that worker has a function all the same.
-        if matches!(made.attempt, Attempt::NoPlan { .. }) && self.last_plan() == LastPlan::OfAll {
-            let farm = self.books.farm;
-            let _turn = self.books.hosts.turn(self);
-            for number in 0..farm.settings.machines() {
-                let machine = MachineId::new(number);
+        let lacks_plan = matches!(made.attempt, Attempt::NoPlan { .. })
+            && self.last_plan() == LastPlan::OfAll;
+        let turn = self.books.hosts.turn(self);
+        for number in 0..self.books.farm.settings.machines() {
+            let machine = MachineId::new(number);
+            let answers = self.books.hosts.note_waits(self, machine);
+            self.host.tell_if(answers_line(self.alloc, self.books.farm, machine, answers));
+            if lacks_plan {
                 let news = self.books.hosts.note_no_plan(self, machine);
                 self.host
-                    .tell_if(host_line(self.alloc, farm, machine, news));
+                    .tell_if(host_line(self.alloc, self.books.farm, machine, news));
             }
         }
+        drop(turn);
         if let Some(view) = self.view(made, self.host.now_ms()) {
             self.host.show(view);
         }
