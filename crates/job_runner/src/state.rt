@@ -69,7 +69,6 @@ impl<'l, 'p, 'j, L: Sink, P: PoolPort, J: Jobs> Session<'l, 'p, 'j, L, P, J> {
     }
 
     /// Gets ready for one more job, and then obeys the order, which may be to stop if it did not get ready.
-    #[tactic(auto, using(crate::proofs::Telling::prepared))]
     pub fn prepare_and_follow(&mut self, worker: &Worker<'_>) -> Result<(), EndCause>
         requires { (L.output self.old.link.now).failures < 2 ^ 64 - 1 }
         ensures ready { GetsReady J.prepares self.old self.new }
