@@ -130,6 +130,10 @@ class Edge:
         """The causes for which these workers ended, in order."""
         return [found[1] for line in self.lines() if (found := re.fullmatch(rf"ended {workers} (\S+)", line))]
 
+    def news_of(self, name):
+        """What lines have said of the answers of this host, in order."""
+        return [line.split()[0] for line in self.lines() if re.fullmatch(rf"(un)?answered {name}( \d+)?", line)]
+
     def lost(self):
         """How many jobs were lost."""
         return sum(line.startswith("lost ") for line in self.lines())
