@@ -97,7 +97,7 @@ def each_size_is_shown(program, processes):
     wait_until(lambda: sized.missing("south"), PATIENCE, "the metrics have them")
     held(sized.missing("north") == 0, "workers are missing on the other host")
     held(edge.metric("poolman_size_found") == 1, "no addition helps")
-    said = "Some are missing on a host that is not reached"
+    said = "Workers are missing on a host that is not reached: add none there"
     wait_until(lambda: said in html.unescape(edge.page.text("/")), PATIENCE, "the page says so")
     held(sized.grow().wait(PATIENCE) == 0, f"grow.py failed: {processes.text('grow.err')}")
     held(processes.text("grow.out") == "leave south: its host is not reached\nadd 0\n", f"grow.py said {processes.text('grow.out')}")

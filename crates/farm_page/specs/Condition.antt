@@ -1,6 +1,7 @@
 -- How a farm is, in one sentence.
-use Rattle.std.specs.Prelude.{ℕ, ◌*◌, ◌-◌, ◌==◌, ◌^◌, List, ◌++◌, Bool, true, false, ◌&&◌, nat_le, nat_lt, not, Option, Some, None, String}
-use Rattle.std.specs.Prelude.{codes, find, if◌then◌else◌, is_none, is_some, length, min, string_bytes, sum_by, take, unwrap_or}
+use Rattle.std.specs.Prelude.{ℕ, ◌*◌, ◌-◌, ◌==◌, ◌^◌, List, [], ◌++◌, Bool, true, false, ◌&&◌, nat_le, nat_lt, not, Option, Some, None}
+use Rattle.std.specs.Prelude.{String, codes, count_by, find, if◌then◌else◌, is_none, is_some, length, min, string_bytes}
+use Rattle.std.specs.Prelude.{sum_by, take, unwrap_or}
 use Rattle.std.specs.Global.{Global}
 use Rattle.std.specs.Fmt.{decimal}
 use Rattle.std.specs.List.{flat_map}
@@ -12,6 +13,8 @@ use Rattle.farm_page.specs.declared.view.FarmView.{FarmView}
 use Rattle.farm_page.specs.declared.view.FunctionView.{FunctionView}
 use Rattle.farm_page.specs.declared.view.HostView.{HostView}
 use Rattle.farm_page.specs.declared.view.JobsAgain.{JobsAgain}
+use Rattle.farm_page.specs.declared.view.MissingView.{MissingView}
+use Rattle.farm_page.specs.declared.view.MissingView.TheVariants as missing
 use Rattle.farm_page.specs.declared.view.Outcome.{Outcome}
 use Rattle.farm_page.specs.declared.view.Outcome.TheVariants.{Backlog, NoPlan, NoRound, Unreadable, Unserved}
 use Rattle.farm_page.specs.declared.view.Shortage.{Shortage}
@@ -119,12 +122,47 @@ reached_words view jobs =
 abbrev pub planned_words : FarmView → ℕ → List ℕ
 planned_words view jobs = option_map_or (unreached_words view) (unreached view.hosts.items) (reached_words view jobs)
 
-abbrev pub sentence_of : FarmView → Outcome → List ℕ
-sentence_of view (Backlog jobs) = planned_words view jobs
-sentence_of view (Unserved jobs) = decimal jobs ++ codes " jobs wait for a function that workers alive may do and none does"
-sentence_of view NoPlan = no_plan_words view.shortage
-sentence_of view (Unreadable why line) = codes "No round was made: " ++ string_bytes why
-sentence_of view (NoRound why) = codes "No round was made: " ++ string_bytes why
+abbrev pub outcome_words : FarmView → Outcome → List ℕ
+outcome_words view (Backlog jobs) = planned_words view jobs
+outcome_words view (Unserved jobs) = decimal jobs ++ codes " jobs wait for a function that workers alive may do and none does"
+outcome_words view NoPlan = no_plan_words view.shortage
+outcome_words view (Unreadable why line) = codes "No round was made: " ++ string_bytes why
+outcome_words view (NoRound why) = codes "No round was made: " ++ string_bytes why
 
+-- ---- workers are missing for the wanted backlog
+
+-- on this host
+abbrev pub is_short : HostView → Bool
+is_short h = option_map_or (λ missing. nat_lt 0 missing) h.missing false
+
+-- on so many hosts
+abbrev pub short_hosts : List HostView → ℕ
+short_hosts hosts = count_by is_short hosts
+
+abbrev pub place_words : HostView → List ℕ
+place_words h = if is_short h then codes ", " ++ decimal (unwrap_or h.missing 0) ++ codes " on " ++ string_bytes h.name else []
+
+abbrev pub each_place : List HostView → List ℕ
+each_place hosts = flat_map place_words hosts
+
+-- on each of these hosts, or on so many if they are more than three
+abbrev pub places_words : List HostView → List ℕ
+places_words hosts =
+    if nat_le (short_hosts hosts) 3 then each_place hosts
+    else codes " on " ++ decimal (short_hosts hosts) ++ codes " hosts"
+
+abbrev pub workers_words : ℕ → List HostView → List ℕ
+workers_words workers hosts =
+    if workers == 0 then [] else codes "; " ++ decimal workers ++ codes " workers are missing" ++ places_words hosts
+
+abbrev pub missing_words : MissingView → List HostView → List ℕ
+missing_words missing.NotAsked hosts = []
+missing_words missing.NoLoad hosts = []
+missing_words missing.NoMemory hosts = []
+missing_words (missing.Workers workers) hosts = workers_words workers hosts
+missing_words (missing.Never function) hosts = codes "; no addition of workers reaches the wanted backlog"
+missing_words (missing.TooMany workers) hosts = codes "; no addition of workers reaches the wanted backlog"
+
+-- what the last attempt came to, and how many workers are missing
 abbrev pub sentence : FarmView → List ℕ
-sentence view = sentence_of view view.outcome
+sentence view = outcome_words view view.outcome ++ missing_words view.missing view.hosts.items

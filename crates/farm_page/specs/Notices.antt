@@ -5,7 +5,7 @@ use Rattle.std.specs.Global.{Global}
 use Rattle.std.specs.Fmt.{decimal}
 use Rattle.std.specs.List.{list_any}
 use Rattle.std.specs.Option.{option_map_or}
-use Rattle.farm_page.specs.Condition.{first_names}
+use Rattle.farm_page.specs.Condition.{first_names, is_short}
 use Rattle.farm_page.specs.Escaping.{page_text}
 use Rattle.farm_page.specs.declared.view.FarmView.{FarmView}
 use Rattle.farm_page.specs.declared.view.HostView.{HostView}
@@ -49,20 +49,16 @@ let_off_notice (Some plan) = Some (let_off_words plan.let_off.items)
 
 -- workers are missing on a host that is not reached
 abbrev pub misses_unreached : HostView → Bool
-misses_unreached h = is_some h.unreached && option_map_or (λ missing. nat_lt 0 missing) h.missing false
+misses_unreached h = is_some h.unreached && is_short h
 
 abbrev pub any_misses_unreached : List HostView → Bool
 any_misses_unreached hosts = list_any misses_unreached hosts
 
-abbrev pub workers_words : ℕ → List ℕ
-workers_words workers =
-    codes "Workers missing for the wanted backlog: " ++ decimal workers ++ codes ". The table of hosts has how many are missing on each."
-
-abbrev pub missing_words : ℕ → List HostView → List ℕ
-missing_words workers hosts =
-    workers_words workers
-    ++ (if any_misses_unreached hosts
-    then codes " Some are missing on a host that is not reached: add none there before it is reached again." else [])
+abbrev pub unreached_notice : List HostView → Option (List ℕ)
+unreached_notice hosts =
+    if any_misses_unreached hosts
+    then Some (codes "Workers are missing on a host that is not reached: add none there before it is reached again.")
+    else None
 
 abbrev pub never_words : List ℕ → List ℕ
 never_words function =
@@ -76,7 +72,7 @@ abbrev pub missing_notice : MissingView → List HostView → Option (List ℕ)
 missing_notice missing.NotAsked hosts = None
 missing_notice missing.NoLoad hosts = Some (codes "How many workers are missing is not known: no load was read.")
 missing_notice missing.NoMemory hosts = Some (codes "How many workers are missing is not known: there was no memory for it.")
-missing_notice (missing.Workers workers) hosts = Some (missing_words workers hosts)
+missing_notice (missing.Workers workers) hosts = unreached_notice hosts
 missing_notice (missing.Never function) hosts = Some (never_words (string_bytes function))
 missing_notice (missing.TooMany workers) hosts = Some (too_many_words workers)
 

@@ -4,11 +4,13 @@ ghost use Rattle.std.specs.Prelude.{◌≡◌, ◌++◌, IfOk, OnOk, string_byte
 ghost use Rattle.std.specs.Option.{option_copied};
 ghost use Rattle.farm_page.specs.Condition as spec;
 
-use crate::view::{FarmView, FunctionView, HostView, JobsAgain, Outcome, Shortage, Workers};
+use crate::view::{
+    FarmView, FunctionView, HostView, JobsAgain, MissingView, Outcome, Shortage, Workers,
+};
 use std::alloc::{AllocError, Global};
 use std::fmt::Write;
 
-/// How many functions a sentence names.
+/// How many functions, or hosts on which workers are missing, a sentence names.
 const NAMED: usize = 3;
 
 /// How a farm is.
@@ -269,9 +271,81 @@ fn planned_words(alloc: Global, view: &FarmView, jobs: u64) -> Result<String, Al
     reached_words(alloc, view, jobs)
 }
 
-/// How a farm is, in one sentence without a full stop. The only error is out of memory.
-pub fn sentence(alloc: Global, view: &FarmView) -> Result<String, AllocError>
-    ensures { IfOk result (λ words. string_bytes words ≡ spec.sentence view.now) }
+/// Whether workers are missing on a host.
+pub fn is_short(host: &HostView) -> bool
+    ensures { result ≡ spec.is_short host.now }
+{
+    host.missing.map_or(false, |missing| missing > 0)
+}
+
+/// On how many hosts workers are missing.
+fn short_hosts(hosts: &[HostView]) -> usize
+    ensures { result ≡ spec.short_hosts hosts.now }
+{
+    hosts.iter().filter(|host| is_short(host)).count()
+}
+
+/// Adds how many workers are missing on a host, if any are.
+fn push_place(out: &mut String, host: &HostView) -> Result<(), AllocError>
+    ensures { OnOk result (string_bytes out.new ≡ string_bytes out.old ++ spec.place_words host.now) }
+{
+    let name = host.name.as_str();
+    match host.missing {
+        Some(missing) if missing > 0 => write!(out, ", {missing} on {name}"),
+        _ => Ok(()),
+    }
+}
+
+/// Adds how many workers are missing on each of these hosts.
+fn push_each_place(out: &mut String, hosts: &[HostView]) -> Result<(), AllocError>
+    ensures { OnOk result (string_bytes out.new ≡ string_bytes out.old ++ spec.each_place hosts.now) }
+{
+    for host in hosts {
+        push_place(out, host)?;
+    }
+    Ok(())
+}
+
+/// Adds where workers are missing: on which hosts, or on how many if they are more than a sentence names.
+fn push_places(out: &mut String, hosts: &[HostView]) -> Result<(), AllocError>
+    ensures { OnOk result (string_bytes out.new ≡ string_bytes out.old ++ spec.places_words hosts.now) }
+{
+    let short = short_hosts(hosts);
+    if short <= NAMED {
+        push_each_place(out, hosts)
+    } else {
+        write!(out, " on {short} hosts")
+    }
+}
+
+/// Adds how many workers are missing, if any are, and where.
+fn push_workers(out: &mut String, workers: u64, hosts: &[HostView]) -> Result<(), AllocError>
+    ensures { OnOk result (string_bytes out.new ≡ string_bytes out.old ++ spec.workers_words workers hosts.now) }
+{
+    if workers == 0 {
+        return Ok(());
+    }
+    write!(out, "; {workers} workers are missing")?;
+    push_places(out, hosts)
+}
+
+/// Adds how many workers are missing for the wanted backlog, or that no addition reaches it, if this is known and wanted.
+fn push_missing(out: &mut String, view: &FarmView) -> Result<(), AllocError>
+    ensures { OnOk result
+        (string_bytes out.new ≡ string_bytes out.old ++ spec.missing_words view.now.missing view.now.hosts.items) }
+{
+    match &view.missing {
+        MissingView::NotAsked | MissingView::NoLoad | MissingView::NoMemory => Ok(()),
+        MissingView::Workers(workers) => push_workers(out, *workers, &view.hosts),
+        MissingView::Never(_) | MissingView::TooMany(_) => {
+            out.push_str("; no addition of workers reaches the wanted backlog")
+        }
+    }
+}
+
+/// What the last attempt to plan came to, in words.
+fn outcome_words(alloc: Global, view: &FarmView) -> Result<String, AllocError>
+    ensures { IfOk result (λ words. string_bytes words ≡ spec.outcome_words view.now view.now.outcome) }
 {
     match &view.outcome {
         Outcome::Backlog(jobs) => planned_words(alloc, view, *jobs),
@@ -285,4 +359,14 @@ pub fn sentence(alloc: Global, view: &FarmView) -> Result<String, AllocError>
             format!(in alloc; "No round was made: {why}")
         }
     }
+}
+
+/// How a farm is, in one sentence without a full stop, with the workers that are missing for the wanted backlog. The only error is out of
+/// memory.
+pub fn sentence(alloc: Global, view: &FarmView) -> Result<String, AllocError>
+    ensures { IfOk result (λ words. string_bytes words ≡ spec.sentence view.now) }
+{
+    let mut words = outcome_words(alloc, view)?;
+    push_missing(&mut words, view)?;
+    Ok(words)
 }

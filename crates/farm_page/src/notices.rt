@@ -3,7 +3,7 @@
 ghost use Rattle.std.specs.Prelude.{◌≡◌, ◌++◌, IfOk, OnOk, option_map, string_bytes};
 ghost use Rattle.farm_page.specs.Notices as spec;
 
-use crate::condition::push_first_names;
+use crate::condition::{is_short, push_first_names};
 use crate::markup::Markup;
 use crate::view::{FarmView, HostView, JobsAgain, MissingView, Outcome};
 use std::alloc::{AllocError, Global};
@@ -175,7 +175,7 @@ fn worn_notice(alloc: Global, most_used: u32) -> Result<Option<String>, AllocErr
 fn misses_unreached(host: &HostView) -> bool
     ensures { result ≡ spec.misses_unreached host.now }
 {
-    host.unreached.is_some() && host.missing.map_or(false, |missing| missing > 0)
+    host.unreached.is_some() && is_short(host)
 }
 
 /// Whether workers are missing on hosts that are not reached.
@@ -185,28 +185,17 @@ fn any_misses_unreached(hosts: &[HostView]) -> bool
     hosts.iter().any(|host| misses_unreached(host))
 }
 
-/// Adds how many workers are missing.
-fn push_missing(out: &mut String, workers: u64) -> Result<(), AllocError>
-    ensures { OnOk result (string_bytes out.new ≡ string_bytes out.old ++ spec.workers_words workers) }
+/// Where not to add the workers that are missing, if some are missing on a host that is not reached.
+fn unreached_notice(alloc: Global, hosts: &[HostView]) -> Result<Option<String>, AllocError>
+    ensures { IfOk result (λ words. option_map string_bytes words ≡ spec.unreached_notice hosts.now) }
 {
-    write!(
-        out,
-        "Workers missing for the wanted backlog: {workers}. The table of hosts has how many are missing on each."
-    )
-}
-
-/// How many workers are missing, and whether some are on a host that is not reached.
-fn missing_words(alloc: Global, workers: u64, hosts: &[HostView]) -> Result<String, AllocError>
-    ensures { IfOk result (λ words. string_bytes words ≡ spec.missing_words workers hosts.now) }
-{
-    let mut out = String::new(alloc);
-    push_missing(&mut out, workers)?;
-    if any_misses_unreached(hosts) {
-        out.push_str(
-            " Some are missing on a host that is not reached: add none there before it is reached again.",
-        )?;
+    if !any_misses_unreached(hosts) {
+        return Ok(None);
     }
-    Ok(out)
+    Ok(Some(String::from_str(
+        alloc,
+        "Workers are missing on a host that is not reached: add none there before it is reached again.",
+    )?))
 }
 
 /// Adds which function shows that no addition helps.
@@ -247,7 +236,7 @@ fn too_many_words(alloc: Global, workers: u64) -> Result<String, AllocError>
     Ok(out)
 }
 
-/// What a page says of workers that are missing, if a backlog is wanted.
+/// What a page says of workers that are missing, if a backlog is wanted and the sentence does not say it all.
 fn missing_notice(alloc: Global, view: &FarmView) -> Result<Option<String>, AllocError>
     ensures { IfOk result (λ words. option_map string_bytes words ≡ spec.missing_notice view.now.missing view.now.hosts.items) }
 {
@@ -261,7 +250,7 @@ fn missing_notice(alloc: Global, view: &FarmView) -> Result<Option<String>, Allo
             alloc,
             "How many workers are missing is not known: there was no memory for it.",
         )?,
-        MissingView::Workers(workers) => missing_words(alloc, *workers, &view.hosts)?,
+        MissingView::Workers(_) => return unreached_notice(alloc, &view.hosts),
         MissingView::Never(function) => never_words(alloc, function.as_str())?,
         MissingView::TooMany(workers) => too_many_words(alloc, *workers)?,
     };
@@ -287,9 +276,9 @@ fn put_notice(out: &mut Markup, words: &Option<String>) -> Result<(), AllocError
     }
 }
 
-/// What a page says below its sentence: that the status text cannot be read, which functions are let off, how many workers are missing,
-/// that a job comes again, which machines have no workers for want of files or threads, and that a slot has had most of its workers; each
-/// with what to do, if it is so. The only error is out of memory.
+/// What a page says below its sentence: that the status text cannot be read, which functions are let off, where no workers are to be
+/// added or why that is not known, that a job comes again, which machines have no workers for want of files or threads, and that a slot has
+/// had most of its workers; each with what to do, if it is so. The only error is out of memory.
 pub fn notices_of(alloc: Global, view: &FarmView) -> Result<Markup, AllocError>
     ensures { IfOk result (λ part. part ≡ spec.notices view.now) }
 {
