@@ -18,6 +18,7 @@ use farm_page::{
 use http::{Request, StatusCode};
 use http_server::{Response, Service};
 use std::alloc::{AllocError, Global};
+use std::num::NonZeroU32;
 use std::sync::Wait;
 use std::time::Clock;
 
@@ -41,10 +42,21 @@ pub struct PageService<'a, R> {
     pub ticket: Ticket,
     /// The times of the farm.
     pub times: PageTimes,
+    /// The backlog that is wanted, if one is.
+    pub backlog: Option<NonZeroU32>,
 }
 
-/// What a page shows before the first attempt.
-fn before_attempts(alloc: Global) -> Result<FarmView, AllocError> {
+/// What is known of the size before the first attempt: there is none if no backlog is wanted, and else there was no round for it yet.
+fn size_before(backlog: Option<NonZeroU32>) -> (MissingView, SizeView) {
+    match backlog {
+        Some(_) => (MissingView::NoLoad, SizeView::NoRound),
+        None => (MissingView::NotAsked, SizeView::NotAsked),
+    }
+}
+
+/// What a page shows before the first attempt, if this backlog is wanted.
+fn before_attempts(alloc: Global, backlog: Option<NonZeroU32>) -> Result<FarmView, AllocError> {
+    let (missing, size) = size_before(backlog);
     Ok(FarmView {
         server: String::new(alloc),
         time: None,
@@ -65,8 +77,8 @@ fn before_attempts(alloc: Global) -> Result<FarmView, AllocError> {
         failures: Failures::new(alloc),
         evidence: None,
         relaxed: None,
-        missing: MissingView::NotAsked,
-        size: SizeView::NoRound,
+        missing,
+        size,
         attempts: Attempts::new(alloc),
     })
 }
@@ -102,7 +114,7 @@ impl<'a, R: Wait + Clock> PageService<'a, R> {
     {
         match self.page.shown.current(self.rt)? {
             Some((view, age_ms)) => self.reply_of(&view, age_ms, asked),
-            None => self.reply_of(&before_attempts(self.alloc)?, 0, asked),
+            None => self.reply_of(&before_attempts(self.alloc, self.backlog)?, 0, asked),
         }
     }
 

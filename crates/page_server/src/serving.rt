@@ -9,6 +9,7 @@ use http_server::{Config, Connection, serve};
 use std::alloc::{AllocError, Global};
 use std::hash::RandomState;
 use std::net::{IpAddr, TcpListener, TcpStream};
+use std::num::NonZeroU32;
 use std::sync::{Arc, Wait};
 use std::thread::{Builder, Threads};
 use std::time::Clock;
@@ -38,6 +39,7 @@ struct Hall {
     listen: String,
     hosts: Vec<String>,
     times: PageTimes,
+    backlog: Option<NonZeroU32>,
     keys: RandomState,
 }
 
@@ -68,6 +70,7 @@ fn serve_peer<R: Wait + Clock>(
         limit: &limit,
         ticket,
         times: hall.times,
+        backlog: hall.backlog,
     };
     let mut reader = Limited {
         rt,
@@ -179,12 +182,14 @@ pub fn serve_page<R: Threads + Wait + Clock + Copy + Send + Sync + Drop + 'stati
         listen,
         hosts,
         times,
+        backlog,
     } = door;
     let hall = Hall {
         page,
         listen,
         hosts,
         times,
+        backlog,
         keys,
     };
     let Ok(hall) = Arc::new(alloc, hall) else {

@@ -7,6 +7,7 @@ use crate::shown::Shown;
 use farm_page::FarmView;
 use std::alloc::Global;
 use std::net::TcpListener;
+use std::num::NonZeroU32;
 use std::sync::{Arc, Condvar, Mutex, Wait};
 use std::time::Clock;
 
@@ -30,6 +31,8 @@ pub struct Door {
     pub hosts: Vec<String>,
     /// The times of the farm.
     pub times: PageTimes,
+    /// The backlog that the services file wants, if it wants one. Without it there is no size, also before the first attempt.
+    pub backlog: Option<NonZeroU32>,
 }
 
 /// Whether a page has a door.

@@ -95,6 +95,7 @@ fn door_of<R: Net<Stream = TcpStream, Listener = TcpListener>>(
         listen: String::from_str(alloc, page.listen())?,
         hosts,
         times,
+        backlog: page.backlog(),
     })
 }
 
