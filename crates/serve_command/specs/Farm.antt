@@ -1,12 +1,12 @@
 -- A farm: the settings of its pool, and the services of its machines.
 use Rattle.std.specs.Prelude.{◌≡◌, ◌⊎◌, ℕ, List, [], ◌∷◌, length, slice_get, slice_index, slice_index_or}
-use Rattle.std.specs.Prelude.{Option, IfSome, None, Some, Ok, Err, option_and_then, option_map}
+use Rattle.std.specs.Prelude.{Bool, true, if◌then◌else◌, Option, IfSome, None, Some, Ok, Err, option_and_then, option_map}
 use Rattle.std.specs.Option.{option_map_or}
 use Rattle.http_jobs.specs.Service.{address_of}
 use Rattle.http_jobs.specs.Serving.{DialCall, opened}
 use Rattle.http_jobs.specs.declared.service.Service.{Service}
 use Rattle.http_jobs.specs.declared.service_jobs.JobTerms.{JobTerms}
-use Rattle.http_jobs.specs.declared.service_jobs.Resend.TheVariants.{Once}
+use Rattle.http_jobs.specs.declared.service_jobs.Resend.TheVariants.{Never, Once}
 use Rattle.plan_commands.specs.Mistake.{Reads}
 use Rattle.plan_commands.specs.ServicesMistake.{ReadsServices}
 use Rattle.plan_commands.specs.declared.fault.Fault.{Fault}
@@ -44,9 +44,16 @@ abbrev pub timeout_in : Farm → List ℕ → ℕ
 timeout_in farm name = option_map_or (λ f. slice_index farm.services.timeouts f) (place_of farm.settings.functions name)
     farm.settings.job_timeout_ms
 
--- The terms of a job of this function: its time, and that it is sent once more if it is cut off over the kept connection.
+-- whether a job of this function is sent once more that the kept connection cut off: what the services say, if the settings have it
+abbrev pub resends_in : Farm → List ℕ → Bool
+resends_in farm name = option_map_or (λ f. slice_index_or farm.services.resends f true) (place_of farm.settings.functions name) true
+
+abbrev pub resend_in : Farm → List ℕ → Resend
+resend_in farm name = if resends_in farm name then Once else Never
+
+-- the terms of a job of this function: its time, and whether it is sent once more
 abbrev pub terms_in : Farm → List ℕ → JobTerms
-terms_in farm name = record { timeout_ms = timeout_in farm name; resend = Once }
+terms_in farm name = record { timeout_ms = timeout_in farm name; resend = resend_in farm name }
 
 -- how many times a job of this function that services leave unserved comes again before it fails, if that is bounded
 abbrev pub retries_in : Farm → List ℕ → Option ℕ

@@ -101,7 +101,18 @@ impl Farm {
     {
         JobTerms {
             timeout_ms: self.timeout_ms(function) as u64,
-            resend: Resend::Once,
+            resend: self.resend(function),
+        }
+    }
+
+    /// Whether a job of this function is sent once more that the kept connection cut off: what the services say, and once for a function
+    /// that the settings do not have.
+    fn resend(&self, function: &[u8]) -> Resend
+        ensures { result ≡ spec.resend_in self.now function.now }
+    {
+        match self.settings.function_named(function) {
+            Some(function) if !self.services.resends(function) => Resend::Never,
+            _ => Resend::Once,
         }
     }
 

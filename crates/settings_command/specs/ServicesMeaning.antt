@@ -1,5 +1,5 @@
 -- What services mean, as lines of one fact each.
-use Rattle.std.specs.Prelude.{ℕ, List, [], None, ◌++◌, codes, slice_get, slice_index, slice_index_or}
+use Rattle.std.specs.Prelude.{ℕ, List, [], None, true, if◌then◌else◌, ◌++◌, codes, slice_get, slice_index, slice_index_or}
 use Rattle.std.specs.List.{flat_map}
 use Rattle.std.specs.Option.{option_map_or}
 use Rattle.std.specs.Fmt.{decimal}
@@ -38,12 +38,17 @@ timeout_line function timeout marked = ended (codes "function " ++ function ++ c
 abbrev pub retries_line : List ℕ → ℕ → List ℕ
 retries_line function retries = ended (codes "function " ++ function ++ codes " retries " ++ decimal retries)
 
--- the lines of a function: one of its time, and one of its bound of retries, if it has one
+-- that no job of a function is sent once more
+abbrev pub no_resend_line : List ℕ → List ℕ
+no_resend_line function = ended (codes "function " ++ function ++ codes " resend false")
+
+-- the lines of a function: one of its time, one of its bound of retries, if it has one, and one if none of its jobs is sent once more
 abbrev pub function_lines : Members → Settings → Services → ℕ → List ℕ
 function_lines tree settings services f =
     timeout_line (name_at settings.functions f) (slice_index services.timeouts f)
     (mark (function_has_key (name_at settings.functions f) timeout_key tree))
     ++ option_map_or (retries_line (name_at settings.functions f)) (slice_index_or services.retries f None) []
+    ++ (if slice_index_or services.resends f true then [] else no_resend_line (name_at settings.functions f))
 
 abbrev pub listen_line : List ℕ → List ℕ
 listen_line address = ended (codes "page listen " ++ address)

@@ -1,6 +1,6 @@
 //! What services mean, as lines of one fact each.
 
-ghost use Rattle.std.specs.Prelude.{◌≡◌, ◌++◌, ◌<◌, [], OnOk, length, map, option_map, string_bytes};
+ghost use Rattle.std.specs.Prelude.{◌≡◌, ◌++◌, ◌<◌, [], if◌then◌else◌, OnOk, length, map, option_map, string_bytes};
 ghost use Rattle.std.specs.Int.NonZero.{non_zero_u32_get};
 ghost use Rattle.std.specs.List.{flat_map};
 ghost use Rattle.std.specs.Option.{option_map_or};
@@ -105,7 +105,24 @@ fn push_retries(out: &mut String, function: &str, retries: Option<u32>) -> Resul
     }
 }
 
-/// What the jobs of a function may do: how long one may take, and how many times it may come again.
+fn push_no_resend_line(out: &mut String, function: &str) -> Result<(), AllocError>
+    ensures { OnOk result (string_bytes out.new ≡ string_bytes out.old ++ spec.no_resend_line function.now) }
+{
+    write!(out, "function {function} resend false\n")
+}
+
+/// That no job of a function is sent once more, if none is.
+fn push_no_resend(out: &mut String, function: &str, resends: bool) -> Result<(), AllocError>
+    ensures { OnOk result (string_bytes out.new
+        ≡ string_bytes out.old ++ (if resends then [] else spec.no_resend_line function.now)) }
+{
+    if resends {
+        return Ok(());
+    }
+    push_no_resend_line(out, function)
+}
+
+/// What the jobs of a function may do: how long one may take, how many times it may come again, and whether it is sent once more.
 fn push_function(
     out: &mut String,
     settings: &Settings,
@@ -120,7 +137,8 @@ fn push_function(
     let name = settings.function_name(function);
     let mark = mark(file.function_has_key(name, "timeout_ms"));
     push_timeout_line(out, name, services.timeout_ms(function), mark)?;
-    push_retries(out, name, services.retries(function))
+    push_retries(out, name, services.retries(function))?;
+    push_no_resend(out, name, services.resends(function))
 }
 
 fn push_functions(
@@ -198,8 +216,9 @@ fn push_if_page(out: &mut String, services: &Services) -> Result<(), AllocError>
 }
 
 /// What services mean: a line for each number of the top table, the version first, one for each machine with its URL, one for each
-/// function with its time and one with its bound of retries, if it has one, and the lines of the page, if there is one, all in the order of
-/// the settings. A value that the file does not give is marked `(default)`; the URL at its top is given. The only error is out of memory.
+/// function with its time, one with its bound of retries, if it has one, and one that none of its jobs is sent once more, if so, and the
+/// lines of the page, if there is one, all in the order of the settings. A value that the file does not give is marked `(default)`; the URL
+/// at its top is given. The only error is out of memory.
 pub fn push_services(
     out: &mut String,
     settings: &Settings,
