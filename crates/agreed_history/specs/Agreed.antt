@@ -1,5 +1,6 @@
 -- What the holders of a history know, as views of one cell.
-use Rattle.std.specs.Prelude.{◌≡◌, ℕ, ◌+◌, ◌-◌, length, ◌==◌, ◌||◌, ◌&&◌, Bool, not, true, false, List, [], ◌∷◌, ◌++◌, map, if◌then◌else◌, ⊤}
+use Rattle.std.specs.Prelude.{◌≡◌, ℕ, ◌+◌, ◌-◌, length, ◌==◌, ◌||◌, ◌&&◌, Bool, not, true, false, List, [], ◌∷◌, ◌++◌, map}
+use Rattle.std.specs.Prelude.{if◌then◌else◌, ⊤}
 use Rattle.std.specs.List.{AllByRecursion, filter}
 use mathlib.Core.Option.{some}
 use lib.ListN.{get_elem?}
@@ -126,7 +127,8 @@ with_teller v w = view v.keeps v.log v.born false 0 [] w.tells w.who w.did
 
 -- a session joins
 abbrev pub with_session : WorkerName → View → View
-with_session who v = view v.keeps (v.log ++ Happened (event.Join who.slot) ∷ []) (who ∷ v.born) v.rules (v.count + 1) v.known false no_worker []
+with_session who v =
+    view v.keeps (v.log ++ Happened (event.Join who.slot) ∷ []) (who ∷ v.born) v.rules (v.count + 1) v.known false no_worker []
 
 -- a session has ended
 abbrev pub with_past : View → View → View

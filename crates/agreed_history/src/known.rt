@@ -20,8 +20,8 @@ pub struct Past {
     pub did: LinkedList<Event>,
 }
 
-/// What a pass knows: the whole history, and the names that were given; how many sessions go on, what those did that have ended, or what one session did. No
-/// value of it is made.
+/// What a pass knows: the whole history, and the names that were given; how many sessions go on, what those did that have ended, or what
+/// one session did. No value of it is made.
 pub struct View {
     pub keeps: bool,
     pub log: LinkedList<Entry>,
