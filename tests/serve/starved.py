@@ -189,7 +189,9 @@ def new_workers_have_work_without_a_status(program, processes):
     line = 1 + edge.server_says(b"status").index(UNREADABLE.partition(b"\n")[0] + b"\n")
     said = re.search(r"Line (\d+) of the job server's status text cannot be read", html.unescape(edge.page.text("/")))
     held(said and int(said[1]) == line, f"of line {line}, which cannot be read, the page says {said and said[0]}")
-    edge.end(100)
+    # A farm on a slow machine has no plan in the attempts before its first workers are there.
+    had_no_plan = any(line.endswith(" noplan") for line in edge.lines())
+    edge.end(100, SOME_WITHOUT_A_PLAN if had_no_plan else 0)
 
 
 def workers_are_replaced_between_attempts(program, processes):
