@@ -22,6 +22,8 @@ use std::time::Duration;
 #[derive(Drop)]
 pub struct TcpLink {
     stream: TcpStream,
+    /// How many milliseconds a read takes at most, if no other limit was set since.
+    lull_ms: u32,
     reads: Reads,
     /// How many writes failed.
     give_failures: u64,
@@ -52,6 +54,7 @@ impl TcpLink {
         options.set_on(&stream)?;
         Ok(TcpLink {
             stream,
+            lull_ms,
             reads: Reads::new(),
             give_failures: 0,
         })
@@ -71,8 +74,14 @@ impl TcpLink {
             .set_read_timeout(Some(Duration::from_millis(milliseconds)))
     }
 
+    /// Lets each read from now on take as long as at first. The error is the system's: then the limit stays as it was.
+    pub fn reset_reads(&self) -> io::Result<()> {
+        self.limit_reads(self.lull_ms as u64)
+    }
+
     /// Writes the bytes, or a prefix of them, as far as the system has room for them, and does not wait. It says how many bytes it took, at
-    /// least one, or none if there is no room now. After a failure it took none.
+    /// least one, or none if there is no room now. After a failure it took none, but if the stream could not be told to wait again: then it
+    /// may have taken a prefix, and the stream is of no more use.
     pub fn give_at_once(&mut self, bytes: &[u8]) -> Result<Option<usize>, DeviceFault>
         requires some { 0 < length bytes.now }
         requires count { (⟦<TcpLink as Device>⟧.output self.old).failures < 2 ^ 64 - 1 }
@@ -88,7 +97,7 @@ impl TcpLink {
         given
     }
 
-    /// The same, uncounted. A stream that cannot be told to wait again fails.
+    /// The same, uncounted.
     fn write_at_once(&mut self, bytes: &[u8]) -> Result<Option<usize>, DeviceFault>
         requires some { 0 < length bytes.now }
         ensures within { IfOk result (λ given. IfSome given (λ n. (1 ≤ n) × (n ≤ length bytes.now))) }

@@ -36,7 +36,7 @@ use Rattle.http1.proofs.OneParse.{body_from_completes, completes_from_body}
 use Rattle.http_jobs.specs.Response.{Answers, Begins, ReadsOne, ReadsInterims, HasFewFields, HoldsNoAnswer, NeverAnswers, OnlyLarger, most_fields, is_unserved, runs_to_close}
 use Rattle.http_jobs.specs.Reasons.{HasStatus}
 use Rattle.http_jobs.specs.declared.reader.ResponseReader.{ResponseReader}
-use Rattle.http_jobs.specs.Reading.{HasAsked, IsPartway, left_of, AwaitsHead, InBody, PartwayAt, Partway, IsWhole, WantsIn, WantsAt, is_unbounded}
+use Rattle.http_jobs.specs.Reading.{HasAsked, IsPartway, left_of, AwaitsHead, InBody, PartwayAt, Partway, IsWhole, Wants, WantsIn, WantsAt, is_unbounded}
 
 -- one response more
 one_more : (limits : Limits) (s : List ℕ) (xs : List Response) (mid : List ℕ) (m : Response) (rest : List ℕ) → ReadsInterims limits s xs mid → IsTrue (is_interim (status_code m.head)) → ReadsOne limits mid m rest → ReadsInterims limits s (xs ++ m ∷ []) rest
@@ -678,3 +678,15 @@ strange_at (Reads.Failed e) limits read input old new spans p status body s foun
 
 pub never_strange : (limits : Limits) (read input : List ℕ) (old new : Client) (spans : List HeaderSpan) (p : Progress ResponseSpans) (status : Option ℕ) (body : List ℕ) → IsStrange p.event → ReadsAt old.reading old input spans new p → Partway limits read old input status body → NeverAnswers limits read
 never_strange limits read input old new spans p status body s found h = absurd (strange_at old.reading limits read input old new spans p status body s found h)
+
+-- ---- before anything was read
+
+nothing_is_no_response : HasNoResponse []
+nothing_is_no_response h rest reads = absurd (omega (arith, has_length h, length-append (print_response h) rest, ap length reads.1))
+
+-- nothing was read, so nothing whole was
+pub wants_reader : (limits : Limits) (client : Client) (r : ResponseReader) → r.client ≡ client → client.reading ≡ Reads.Head → Wants limits [] r
+wants_reader limits client r same is = subst (λ (x : Reading). WantsAt x limits [] (left_of r)) (sym (ap (λ (c : Client). c.reading) same ∙ is)) none
+  where
+    none : HoldsNoAnswer limits []
+    none = λ m rest a. first_is_response limits [] m rest a.interims a.after nothing_is_no_response a.before a.reads

@@ -125,7 +125,7 @@ fill_fails limits deadline seen first old new (Not (why.Status status)) same h =
 fill_fails limits deadline seen first old new (Not why.Endless) same h = absurd h
 fill_fails limits deadline seen first old new Memory same h = tt
 
-late_after : (deadline : Option ℕ) (times more : List (Option ℕ)) → InTime deadline times → IsLate deadline more → IsLate deadline (times ++ more)
+pub late_after : (deadline : Option ℕ) (times more : List (Option ℕ)) → InTime deadline times → IsLate deadline more → IsLate deadline (times ++ more)
 late_after deadline times more before h = (times ++ h.0, h.1, ap (λ x. times ++ x) h.2 ∙ sym (append_assoc times h.0 (h.1 ∷ [])), in_time_both deadline times h.0 before h.3, h.4)
 
 -- times that were shown before the write that was not made
@@ -147,7 +147,7 @@ not_received_after deadline times seen old mid new (Not (why.Status status)) bef
 not_received_after deadline times seen old mid new (Not why.Endless) before same h = h
 not_received_after deadline times seen old mid new Memory before same h = tt
 
-not_received : (max : ℕ) (deadline : Option ℕ) (seen : Seen) (old new : Link) (e : NotDone) → NotReceived head_limits deadline seen old.input new.input e → Explains max deadline seen old new e
+pub not_received : (max : ℕ) (deadline : Option ℕ) (seen : Seen) (old new : Link) (e : NotDone) → NotReceived head_limits deadline seen old.input new.input e → Explains max deadline seen old new e
 not_received max deadline seen old new (Not (why.Unreachable reason)) h = absurd h
 not_received max deadline seen old new (Not why.Write) h = absurd h
 not_received max deadline seen old new (Not why.Read) h = h

@@ -4,3 +4,4 @@ pub mod Exchanges
 pub mod Refusals
 pub mod Uses
 pub mod Accepted
+pub mod Meanwhile

@@ -7,4 +7,6 @@ pub mod Response
 pub mod Reasons
 pub mod Reading
 pub mod Exchange
+pub mod AtOnce
+pub mod Meanwhile
 pub mod Serving

@@ -1,30 +1,32 @@
 //! A request by POST and the response to it.
 
-ghost use Rattle.std.specs.Prelude.{◌≡◌, ◌<◌, ◌≤◌, ◌-◌, ◌^◌, ℕ, List, Option, length, take, true, IsSome, IfErr, IfOk, MatchResult, OnOk};
+ghost use Rattle.std.specs.Prelude.{◌≡◌, ◌++◌, ◌<◌, ◌≤◌, ◌-◌, ◌^◌, ℕ, List, Option, length, take, true};
+ghost use Rattle.std.specs.Prelude.{IsSome, IfErr, IfOk, MatchResult, OnOk};
 ghost use Rattle.http1.specs.Head.{pairs};
 ghost use Rattle.http1.specs.declared.conn.Limits.{Limits as Heads};
-ghost use Rattle.http1.specs.declared.conn.Reading.TheVariants as Reads;
 ghost use Rattle.byte_io.specs.Sides.{Input, and_then};
 ghost use Rattle.job_runner.specs.Run.{seen_link};
 ghost use Rattle.http_jobs.specs.Clock.{InTime};
 ghost use Rattle.http_jobs.specs.Exchange.{Explains, ExplainsUnanswered, IsAnswerIn, IsReceived, Refuses, Sees, Sends};
+ghost use Rattle.http_jobs.specs.Meanwhile.{HasGone, HasNone, HasNoRefusal, HasRead, HasReceipt, HasReceived};
+ghost use Rattle.http_jobs.specs.Meanwhile.{IsReadTo, IsReading, IsReadingIn, Moment, ReadsOn, Shown, came_by, moment};
 ghost use Rattle.http_jobs.specs.Post.{CanBeSent, text_of};
-ghost use Rattle.http_jobs.specs.Reading.{HasAsked, IsComplete};
-ghost use Rattle.http_jobs.specs.Reasons.{HasCame, NotReceived, NotRefused, NothingReceived, Seen, came_of, why_of};
+ghost use Rattle.http_jobs.specs.Reading.{IsComplete};
+ghost use Rattle.http_jobs.specs.Reasons.{HasCame, NotReceived, NotRefused, Seen, why_of};
 ghost use Rattle.http_jobs.specs.declared.fault.Came.{Came};
 ghost use Rattle.http_jobs.specs.Response as spec;
-ghost use Rattle.http_jobs.specs.Response.{head_limits};
+ghost use Rattle.http_jobs.specs.Response.{head_limits, most_fields};
 
 use crate::clock::{Clock, is_late};
 use crate::fault::{Came, NotDone, Unanswered, Unserved};
 use crate::look::Look;
 use crate::outcome::is_success;
-use crate::posts::{Post, encode_post};
+use crate::posts::{EncodedRequest, Post, encode_post};
 use crate::reader::{Fill, ResponseReader, Stage};
-use crate::sending::{Unsent, send_request};
+use crate::sending::{Unsent, send, send_what_fits};
 use byte_io::{Sink, Source};
 use http1::{Client, Limits};
-use httparse::spans::EMPTY_HEADER_SPAN;
+use httparse::spans::{EMPTY_HEADER_SPAN, HeaderSpan};
 use std::alloc::Global;
 
 /// How long the head of a response may be, and the chunk extensions and trailers of its body.
@@ -65,6 +67,42 @@ pub enum Received {
     TooLarge,
 }
 
+/// What was read to its end, and whether that was anything.
+#[derive(Drop)]
+pub struct Receipt {
+    /// The response.
+    pub received: Received,
+    /// Whether anything came.
+    pub came: Came,
+}
+
+/// How far a response was read.
+#[derive(Drop)]
+pub enum Progress {
+    /// In part.
+    Partway(ResponseReader),
+    /// To its end, or until its body was too large.
+    Read(Receipt),
+}
+
+/// How much of a request went out.
+#[derive(Clone, Copy, Debug, PartialEq, Eq)]
+pub enum Went {
+    /// All of it.
+    Whole,
+    /// A prefix of it, after which a write failed.
+    Cut,
+}
+
+/// How much of a request went out, and what was read of its response meanwhile.
+#[derive(Drop)]
+pub struct Sent {
+    /// How much of the request went out.
+    pub went: Went,
+    /// How far the response was read.
+    pub progress: Progress,
+}
+
 /// The response that was read.
 fn whole(reader: ResponseReader, is_unbounded: bool) -> Receipt
     requires within { reader.at ≤ length reader.unread.items }
@@ -98,56 +136,277 @@ fn conclude(reader: ResponseReader, is_unbounded: bool) -> Answer
     }
 }
 
-/// What was read to its end, and whether that was anything.
-#[derive(Drop)]
-struct Receipt {
-    received: Received,
-    came: Came,
+/// A response whose body is larger than its bound.
+fn too_large(came: Came) -> Receipt
+    ensures received { result.received ≡ Received.TooLarge }
+    ensures came { result.came ≡ came }
+{
+    Receipt {
+        received: Received::TooLarge,
+        came,
+    }
 }
 
-/// Reads a response to its end.
+/// Reads once, and takes all that can be taken off what was read.
+fn read_on<L: Source>(
+    link: &mut L,
+    reader: ResponseReader,
+    spans: &mut [HeaderSpan],
+    buffer: &mut [u8],
+    bounds: Bounds,
+) -> Result<Progress, Unanswered>
+    requires count { (L.input link.old).failures < 2 ^ 64 - 1 }
+    requires reading { IsReading reader }
+    requires spans { length spans.old ≡ most_fields }
+    requires room { 0 < length buffer.old }
+    ensures read { (limits : Heads) (first : Moment) (seen : Seen) (shown : Shown)
+        → HasRead limits bounds.deadline first seen (moment (L.input link.old) shown) reader
+        → ReadsOn limits bounds first seen (moment (L.input link.new) shown) result }
+    ensures reading { IfOk result IsReadingIn }
+    ensures failures { OnOk result ((L.input link.new).failures ≡ (L.input link.old).failures) }
+    ensures output { L.output link.new ≡ L.output link.old }
+{
+    let mut reader = reader;
+    match reader.fill(link, buffer) {
+        Ok(Fill::Ended) => return Ok(Progress::Read(whole(reader, true))),
+        Ok(Fill::More) => {}
+        Err(why) => return Err(Unanswered::of(why, reader.came)),
+    }
+    match reader.advance(spans, bounds.max_body) {
+        Ok(Stage::NeedsMore) => Ok(Progress::Partway(reader)),
+        Ok(Stage::Whole) => Ok(Progress::Read(whole(reader, false))),
+        Ok(Stage::TooLarge) => Ok(Progress::Read(too_large(reader.came))),
+        Err(why) => Err(Unanswered::of(why, reader.came)),
+    }
+}
+
+/// Reads a response to its end, of which a part was read.
 fn receive<L: Source, C: Clock>(
-    alloc: Global,
     link: &mut L,
     clock: &mut C,
-    client: Client,
+    reader: ResponseReader,
     bounds: Bounds,
 ) -> Result<Receipt, Unanswered>
     requires count { (L.input link.old).failures < 2 ^ 64 - 1 }
-    requires reading { client.reading ≡ Reads.Head }
-    requires asked { HasAsked client.limits client }
-    ensures received { (seen : Seen) × Sees (L.input link.old) (C.shown clock.old) seen (L.input link.new) (C.shown clock.new)
-        × OnOk result (InTime bounds.deadline seen.times)
-        × MatchResult result (λ r. IsReceived client.limits bounds.max_body seen.read r.received × (r.came ≡ came_of seen.read))
-        (NothingReceived client.limits bounds.deadline seen (L.input link.old) (L.input link.new)) }
-    ensures no_failure { OnOk result ((L.input link.new).failures ≡ (L.input link.old).failures) }
+    requires reading { IsReading reader }
+    ensures received { (limits : Heads) (first : Moment) (seen : Seen)
+        → HasRead limits bounds.deadline first seen (moment (L.input link.old) (C.shown clock.old)) reader
+        → MatchResult result (HasReceipt limits bounds first (moment (L.input link.new) (C.shown clock.new)))
+        (HasNone limits bounds first (moment (L.input link.new) (C.shown clock.new))) }
     ensures output { L.output link.new ≡ L.output link.old }
 {
     let mut spans = [EMPTY_HEADER_SPAN; 64];
     let mut buffer = [0u8; 16384];
-    let mut reader = ResponseReader::new(alloc, client);
+    let mut reader = reader;
     for _turn in 0..u64::MAX {
-        match reader.advance(&mut spans, bounds.max_body) {
-            Ok(Stage::Whole) => return Ok(whole(reader, false)),
-            Ok(Stage::TooLarge) => {
-                return Ok(Receipt {
-                    received: Received::TooLarge,
-                    came: reader.came,
-                });
-            }
-            Ok(Stage::NeedsMore) => {}
-            Err(why) => return Err(Unanswered::of(why, reader.came)),
-        }
         if is_late(clock, bounds.deadline) {
             return Err(Unanswered::Unserved(Unserved::Late, reader.came));
         }
-        match reader.fill(link, &mut buffer) {
-            Ok(Fill::Ended) => return Ok(whole(reader, true)),
-            Ok(Fill::More) => {}
-            Err(why) => return Err(Unanswered::of(why, reader.came)),
+        match read_on(link, reader, &mut spans, &mut buffer, bounds) {
+            Ok(Progress::Partway(more)) => reader = more,
+            Ok(Progress::Read(receipt)) => return Ok(receipt),
+            Err(e) => return Err(e),
         }
     }
     Err(Unanswered::Unserved(Unserved::Endless, reader.came))
+}
+
+/// What a response is that was read so far: it is read to its end.
+fn receive_rest<L: Source, C: Clock>(
+    link: &mut L,
+    clock: &mut C,
+    progress: Progress,
+    bounds: Bounds,
+) -> Result<Receipt, Unanswered>
+    requires count { (L.input link.old).failures < 2 ^ 64 - 1 }
+    requires reading { IsReadingIn progress }
+    ensures received { (limits : Heads) (first : Moment)
+        → IsReadTo limits bounds first (moment (L.input link.old) (C.shown clock.old)) progress
+        → MatchResult result (HasReceipt limits bounds first (moment (L.input link.new) (C.shown clock.new)))
+        (HasNone limits bounds first (moment (L.input link.new) (C.shown clock.new))) }
+    ensures output { L.output link.new ≡ L.output link.old }
+{
+    match progress {
+        Progress::Partway(reader) => receive(link, clock, reader, bounds),
+        Progress::Read(receipt) => Ok(receipt),
+    }
+}
+
+/// Whether anything came of a response.
+fn came_in(progress: &Progress) -> Came
+    ensures { result ≡ came_by progress.now }
+{
+    match progress {
+        Progress::Partway(reader) => reader.came,
+        Progress::Read(receipt) => receipt.came,
+    }
+}
+
+/// Writes all the bytes, which end a request, and reads nothing meanwhile.
+fn send_last<L: Sink + Look, C: Clock>(
+    link: &mut L,
+    clock: &mut C,
+    bounds: Bounds,
+    bytes: &[u8],
+    progress: Progress,
+) -> Result<Sent, Unanswered>
+    requires count { (L.output link.old).failures < 2 ^ 64 - 1 }
+    ensures read { (limits : Heads) (first : Moment)
+        → IsReadTo limits bounds first (moment (L.input link.old) (C.shown clock.old)) progress
+        → MatchResult result (λ sent. IsReadTo limits bounds first (moment (L.input link.new) (C.shown clock.new)) sent.progress)
+        (HasNone limits bounds first (moment (L.input link.new) (C.shown clock.new))) }
+    ensures progress { IfOk result (λ sent. sent.progress ≡ progress) }
+    ensures went { IfOk result (λ sent. HasGone sent.went bytes.now (L.output link.old) (L.output link.new)) }
+    ensures prefix { (count : ℕ) × ((L.output link.new).got ≡ and_then (L.output link.old).got (take count bytes.now)) }
+    ensures input { L.input link.new ≡ L.input link.old }
+{
+    match send(link, clock, bounds.deadline, bytes) {
+        Ok(()) => Ok(Sent {
+            went: Went::Whole,
+            progress,
+        }),
+        Err(Unsent::Write) => Ok(Sent {
+            went: Went::Cut,
+            progress,
+        }),
+        Err(Unsent::Late) => Err(Unanswered::Unserved(Unserved::Late, came_in(&progress))),
+    }
+}
+
+/// How many milliseconds a read waits at first if there is no room for the rest of a request. Each wait in which nothing could be written
+/// makes the next one twice as long.
+const FIRST_WAIT: u64 = 1;
+
+/// How many it waits at most.
+const LONGEST_WAIT: u64 = 32;
+
+/// How long the next read waits, after one that waited so long, if so many bytes were written since.
+fn next_wait(waited: u64, given: usize) -> u64 {
+    if given > 0 {
+        FIRST_WAIT
+    } else {
+        waited.saturating_mul(2).min(LONGEST_WAIT)
+    }
+}
+
+/// Writes the rest of a request, and reads what comes of the response while there is no room for more: a service that answers while it
+/// reads may read no more before its answer is taken. Once the response is read, nothing is read any more.
+fn send_rest<L: Source + Sink + Look, C: Clock>(
+    link: &mut L,
+    clock: &mut C,
+    reader: ResponseReader,
+    bounds: Bounds,
+    rest: &[u8],
+) -> Result<Sent, Unanswered>
+    requires reads { (L.input link.old).failures < 2 ^ 64 - 1 }
+    requires writes { (L.output link.old).failures < 2 ^ 64 - 1 }
+    requires reading { IsReading reader }
+    ensures read { (limits : Heads) (first : Moment) (seen : Seen)
+        → HasRead limits bounds.deadline first seen (moment (L.input link.old) (C.shown clock.old)) reader
+        → MatchResult result (λ sent. IsReadTo limits bounds first (moment (L.input link.new) (C.shown clock.new)) sent.progress)
+        (HasNone limits bounds first (moment (L.input link.new) (C.shown clock.new))) }
+    ensures reading { IfOk result (λ sent. IsReadingIn sent.progress) }
+    ensures went { IfOk result (λ sent. HasGone sent.went rest.now (L.output link.old) (L.output link.new)) }
+    ensures prefix { (count : ℕ) × ((L.output link.new).got ≡ and_then (L.output link.old).got (take count rest.now)) }
+    ensures failures { OnOk result ((L.input link.new).failures ≡ (L.input link.old).failures) }
+{
+    let mut spans = [EMPTY_HEADER_SPAN; 64];
+    let mut buffer = [0u8; 16384];
+    let mut reader = reader;
+    let mut count = 0;
+    let mut wait_ms = FIRST_WAIT;
+    for _turn in 0..u64::MAX {
+        let given = match send_what_fits(link, clock, bounds.deadline, &rest[count..]) {
+            Ok(given) => given,
+            Err(Unsent::Write) => {
+                return Ok(Sent {
+                    went: Went::Cut,
+                    progress: Progress::Partway(reader),
+                });
+            }
+            Err(Unsent::Late) => return Err(Unanswered::Unserved(Unserved::Late, reader.came)),
+        };
+        count += given;
+        if count == rest.len() {
+            return Ok(Sent {
+                went: Went::Whole,
+                progress: Progress::Partway(reader),
+            });
+        }
+        wait_ms = next_wait(wait_ms, given);
+        link.limit_reads(Some(wait_ms));
+        match read_on(link, reader, &mut spans, &mut buffer, bounds) {
+            Ok(Progress::Partway(more)) => reader = more,
+            Ok(read) => return send_last(link, clock, bounds, &rest[count..], read),
+            Err(e) => return Err(e),
+        }
+    }
+    Err(Unanswered::Unserved(Unserved::Endless, reader.came))
+}
+
+/// Writes the rest of a request, and reads what comes meanwhile. Without a deadline nothing is read, and each write may wait.
+fn send_meanwhile<L: Source + Sink + Look, C: Clock>(
+    link: &mut L,
+    clock: &mut C,
+    reader: ResponseReader,
+    bounds: Bounds,
+    rest: &[u8],
+) -> Result<Sent, Unanswered>
+    requires reads { (L.input link.old).failures < 2 ^ 64 - 1 }
+    requires writes { (L.output link.old).failures < 2 ^ 64 - 1 }
+    requires reading { IsReading reader }
+    ensures read { (limits : Heads) (first : Moment) (seen : Seen)
+        → HasRead limits bounds.deadline first seen (moment (L.input link.old) (C.shown clock.old)) reader
+        → MatchResult result (λ sent. IsReadTo limits bounds first (moment (L.input link.new) (C.shown clock.new)) sent.progress)
+        (HasNone limits bounds first (moment (L.input link.new) (C.shown clock.new))) }
+    ensures reading { IfOk result (λ sent. IsReadingIn sent.progress) }
+    ensures went { IfOk result (λ sent. HasGone sent.went rest.now (L.output link.old) (L.output link.new)) }
+    ensures prefix { (count : ℕ) × ((L.output link.new).got ≡ and_then (L.output link.old).got (take count rest.now)) }
+    ensures failures { OnOk result ((L.input link.new).failures ≡ (L.input link.old).failures) }
+{
+    if rest.is_empty() || bounds.deadline.is_none() {
+        return send_last(link, clock, bounds, rest, Progress::Partway(reader));
+    }
+    let sent = send_rest(link, clock, reader, bounds, rest);
+    link.limit_reads(None);
+    sent
+}
+
+/// Writes a request, and reads what comes meanwhile.
+fn send_request<L: Source + Sink + Look, C: Clock>(
+    link: &mut L,
+    clock: &mut C,
+    reader: ResponseReader,
+    bounds: Bounds,
+    request: &EncodedRequest<'_>,
+) -> Result<Sent, Unanswered>
+    requires reads { (L.input link.old).failures < 2 ^ 64 - 1 }
+    requires writes { (L.output link.old).failures < 2 ^ 64 - 1 }
+    requires reading { IsReading reader }
+    ensures read { (limits : Heads) (first : Moment) (seen : Seen)
+        → HasRead limits bounds.deadline first seen (moment (L.input link.old) (C.shown clock.old)) reader
+        → MatchResult result (λ sent. IsReadTo limits bounds first (moment (L.input link.new) (C.shown clock.new)) sent.progress)
+        (HasNone limits bounds first (moment (L.input link.new) (C.shown clock.new))) }
+    ensures reading { IfOk result (λ sent. IsReadingIn sent.progress) }
+    ensures went { IfOk result (λ sent. HasGone sent.went (request.now.text.items ++ request.now.rest.now)
+        (L.output link.old) (L.output link.new)) }
+    ensures prefix { (count : ℕ) × ((L.output link.new).got
+        ≡ and_then (L.output link.old).got (take count (request.now.text.items ++ request.now.rest.now))) }
+    ensures failures { OnOk result ((L.input link.new).failures ≡ (L.input link.old).failures) }
+{
+    let head = send_last(
+        link,
+        clock,
+        bounds,
+        request.text.as_slice(),
+        Progress::Partway(reader),
+    )?;
+    match (head.went, head.progress) {
+        (Went::Whole, Progress::Partway(reader)) => {
+            send_meanwhile(link, clock, reader, bounds, request.rest)
+        }
+        (went, progress) => Ok(Sent { went, progress }),
+    }
 }
 
 /// A whole response as a refusal, of a request of which a write failed. The error is `Write` if it says success, since the service accepted
@@ -182,27 +441,15 @@ fn not_refused(e: Unanswered) -> Unanswered
     }
 }
 
-/// Reads what came after a write failed: the service may have refused the request before it had read all of it, and closed. The error is
-/// `Write` if it did not.
-fn receive_refusal<L: Source, C: Clock>(
-    alloc: Global,
-    link: &mut L,
-    clock: &mut C,
-    client: Client,
-    bounds: Bounds,
-) -> Result<Received, Unanswered>
-    requires count { (L.input link.old).failures < 2 ^ 64 - 1 }
-    requires reading { client.reading ≡ Reads.Head }
-    requires asked { HasAsked client.limits client }
-    ensures received { (seen : Seen) × Sees (L.input link.old) (C.shown clock.old) seen (L.input link.new) (C.shown clock.new)
-        × OnOk result (InTime bounds.deadline seen.times) × MatchResult result (IsReceived client.limits bounds.max_body seen.read)
-        (λ e. NotRefused client.limits bounds.max_body bounds.deadline seen (L.input link.old) (L.input link.new) (why_of e)
-        × HasCame (came_of seen.read) e) }
+/// What refuses a request of which a write failed, by what was read: the service may have refused it before it had read all of it, and
+/// closed. The error is `Write` if it did not.
+fn refusal_from(read: Result<Receipt, Unanswered>) -> Result<Received, Unanswered>
+    ensures received { (limits : Heads) (bounds : Bounds) (first now : Moment)
+        → MatchResult read (HasReceipt limits bounds first now) (HasNone limits bounds first now)
+        → MatchResult result (HasReceived limits bounds first now) (HasNoRefusal limits bounds first now) }
     ensures refused { IfOk result Refuses }
-    ensures no_failure { OnOk result ((L.input link.new).failures ≡ (L.input link.old).failures) }
-    ensures output { L.output link.new ≡ L.output link.old }
 {
-    match receive(alloc, link, clock, client, bounds) {
+    match read {
         Ok(receipt) => {
             let Receipt { received, came } = receipt;
             match received {
@@ -241,13 +488,15 @@ pub fn answer_to<L: Source + Sink + Look, C: Clock>(
 {
     let mut client = Client::new(HEAD_LIMITS);
     let request = encode_post(alloc, &mut client, post)?;
-    match send_request(link, clock, bounds.deadline, &request) {
-        Ok(()) => match receive(alloc, link, clock, client, bounds) {
+    let reader = ResponseReader::new(alloc, client);
+    let Sent { went, progress } = send_request(link, clock, reader, bounds, &request)?;
+    let read = receive_rest(link, clock, progress, bounds);
+    match went {
+        Went::Whole => match read {
             Ok(receipt) => Ok(receipt.received),
             Err(e) => Err(e),
         },
-        Err(Unsent::Write) => receive_refusal(alloc, link, clock, client, bounds),
-        Err(Unsent::Late) => Err(Unanswered::Unserved(Unserved::Late, Came::Nothing)),
+        Went::Cut => refusal_from(read),
     }
 }
 

@@ -1,13 +1,12 @@
 //! A request, as it is sent.
 
-ghost use Rattle.std.specs.Prelude.{◌≡◌, ◌++◌, ◌≤◌, ◌<◌, ◌+◌, ◌-◌, ◌^◌, ℕ, List, Option, length, take, IfErr, OnOk};
+ghost use Rattle.std.specs.Prelude.{◌≡◌, ◌++◌, ◌≤◌, ◌<◌, ◌+◌, ◌-◌, ◌^◌, ℕ, List, Option, length, take, IfErr, IfOk, OnOk};
 ghost use Rattle.byte_io.specs.Sides.{and_then, HasText};
 ghost use Rattle.http_jobs.specs.Clock.{InTime, shown_then};
 ghost use Rattle.http_jobs.specs.Reasons.{NotSent};
 
 use crate::clock::{Clock, is_late};
 use crate::look::Look;
-use crate::posts::EncodedRequest;
 use byte_io::{Sink, is_past};
 
 /// Why bytes were not sent, or only a prefix of them.
@@ -68,22 +67,38 @@ pub fn send<L: Sink + Look, C: Clock>(
     Ok(())
 }
 
-/// Writes a request, in as many writes as the sink needs. Before each write it looks at the clock. If a write fails or the deadline has
-/// come, a prefix of it has gone out, and nothing is written after it.
-pub fn send_request<L: Sink + Look, C: Clock>(
+/// Writes of the bytes what there is room for now, in as many writes as the sink needs, and says how many that are. Before each write it
+/// looks at the clock, and after one that failed it looks again: if the deadline has come by then, the error is `Late`. If a write fails or
+/// the deadline has come, a prefix of them has gone out.
+pub fn send_what_fits<L: Look, C: Clock>(
     link: &mut L,
     clock: &mut C,
     deadline: Option<u64>,
-    request: &EncodedRequest<'_>,
-) -> Result<(), Unsent>
+    bytes: &[u8],
+) -> Result<usize, Unsent>
     requires count { (L.output link.old).failures < 2 ^ 64 - 1 }
-    ensures sent { OnOk result (HasText (L.output link.old) (request.now.text.items ++ request.now.rest.now) (L.output link.new)) }
-    ensures prefix { (count : ℕ) × ((L.output link.new).got
-        ≡ and_then (L.output link.old).got (take count (request.now.text.items ++ request.now.rest.now))) }
+    ensures within { IfOk result (λ n. n ≤ length bytes.now) }
+    ensures sent { IfOk result (λ n. HasText (L.output link.old) (take n bytes.now) (L.output link.new)) }
+    ensures prefix { (count : ℕ) × ((L.output link.new).got ≡ and_then (L.output link.old).got (take count bytes.now)) }
     ensures why { (times : List (Option ℕ)) × (C.shown clock.new ≡ shown_then (C.shown clock.old) times)
         × OnOk result (InTime deadline times) × IfErr result (NotSent deadline times (L.output link.old) (L.output link.new)) }
     ensures input { L.input link.new ≡ L.input link.old }
 {
-    send(link, clock, deadline, request.text.as_slice())?;
-    send(link, clock, deadline, request.rest)
+    let mut count = 0;
+    while count < bytes.len() {
+        if is_late(clock, deadline) {
+            return Err(Unsent::Late);
+        }
+        match link.give_at_once(&bytes[count..]) {
+            Ok(Some(n)) => count += n,
+            Ok(None) => return Ok(count),
+            Err(_) => {
+                if is_late(clock, deadline) {
+                    return Err(Unsent::Late);
+                }
+                return Err(Unsent::Write);
+            }
+        }
+    }
+    Ok(count)
 }

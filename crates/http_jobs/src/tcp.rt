@@ -7,7 +7,7 @@ use crate::clock::Clock;
 use crate::last_address::LastAddress;
 use crate::look::Look;
 use crate::service_jobs::Dial;
-use byte_io::Device;
+use byte_io::{Device, DeviceFault};
 use devices::{DialError, TcpLink};
 use link_options::LinkOptions;
 use std::net::{Net, SocketAddr, TcpStream, ToSocketAddrs};
@@ -52,6 +52,18 @@ impl Look for TcpLink {
     fn limit_writes(&mut self, milliseconds: u64) {
         // If the system does not take it, writes have the limit that they had.
         let _ = TcpLink::limit_writes(self, milliseconds);
+    }
+
+    fn limit_reads(&mut self, milliseconds: Option<u64>) {
+        // If the system does not take it, reads have the limit that they had.
+        let _ = match milliseconds {
+            Some(milliseconds) => TcpLink::limit_reads(self, milliseconds),
+            None => TcpLink::reset_reads(self),
+        };
+    }
+
+    fn give_at_once(&mut self, bytes: &[u8]) -> Result<Option<usize>, DeviceFault> {
+        TcpLink::give_at_once(self, bytes)
     }
 }
 
