@@ -1,23 +1,20 @@
 -- What an exchange has seen, step by step, and why it was not done.
-use Rattle.std.proofs.Common.{◌≡◌, ℕ, ◌+◌, List, [], ◌∷◌, ◌++◌, Option, Some, None, Result, Ok, Err, sym, refl, ap, ◌∙◌, subst, append_assoc, IsSome, OnOk, false, arith}
-use Rattle.std.proofs.lemmas.List.{append-nil, length-append}
+use Rattle.std.proofs.Common.{◌≡◌, ℕ, ◌+◌, List, [], ◌∷◌, ◌++◌, Option, Some, None, sym, refl, ap, ◌∙◌, subst, append_assoc, IsSome, false}
+use Rattle.std.proofs.lemmas.List.{append-nil}
 use Rattle.http1.specs.declared.conn.Limits.{Limits}
-use Rattle.std.specs.Prelude.{IfErr}
-use Rattle.byte_io.specs.Sides.{Input, Output, and_then, counted}
+use Rattle.byte_io.specs.Sides.{Input, and_then, counted}
 use Rattle.byte_io.proofs.Devices.{told_twice, counted_twice, counted_nothing, told_nothing}
 use Rattle.job_runner.specs.Run.{Link}
 use Rattle.http_jobs.specs.declared.fault.NotDone.{NotDone}
 use Rattle.http_jobs.specs.declared.fault.NotDone.TheVariants.{Unserved as Not, Memory}
 use Rattle.http_jobs.specs.declared.fault.Unserved.TheVariants as why
-use Rattle.http_jobs.specs.declared.sending.Unsent.{Unsent}
-use Rattle.http_jobs.specs.declared.sending.Unsent.TheVariants as unsent
 use Rattle.byte_io.specs.Deadline.{is_past}
 use Rattle.http_jobs.specs.Clock.{shown_then, InTime, IsLate}
 use Rattle.http_jobs.specs.declared.fault.Came.{Came}
 use Rattle.http_jobs.specs.declared.fault.Unanswered.{Unanswered}
-use Rattle.http_jobs.specs.Reasons.{HasCame, Seen, NotReceived, NotSent, came_of, why_of}
+use Rattle.http_jobs.specs.Reasons.{HasCame, Seen, NotReceived, came_of, why_of}
 use Rattle.http_jobs.specs.Reading.{StepFails, FillFails}
-use Rattle.http_jobs.specs.Exchange.{Sees, Explains, ExplainsUnanswered}
+use Rattle.http_jobs.specs.Exchange.{Sees, Explains}
 use Rattle.http_jobs.specs.Response.{head_limits}
 
 pub has_status : {status : Option ℕ} {code : ℕ} → status ≡ Some code → IsSome status
@@ -42,13 +39,6 @@ nothing = record { read = []; lulls = 0; times = [] }
 pub sees_nothing : (old : Input) (shown : Shown) → Sees old shown nothing old shown
 sees_nothing old shown = (told_nothing old.given, counted_nothing old.lulls, shown_nothing shown)
 
--- one look at the clock more
-abbrev pub after_look : Seen → Option ℕ → Seen
-after_look seen time = record { read = seen.read; lulls = seen.lulls; times = seen.times ++ time ∷ [] }
-
-pub sees_time : (old new : Input) (shown now later : Shown) (seen : Seen) (time : Option ℕ) → Sees old shown seen new now → later ≡ shown_then now (time ∷ []) → Sees old shown (after_look seen time) new later
-sees_time old new shown now later seen time s e = (s.0, s.1, e ∙ ap (λ (o : Shown). shown_then o (time ∷ [])) s.2 ∙ shown_twice shown seen.times (time ∷ []))
-
 -- one read more
 abbrev pub after_read : Seen → List ℕ → ℕ → Seen
 after_read seen more lulls = record { read = seen.read ++ more; lulls = seen.lulls + lulls; times = seen.times }
@@ -60,27 +50,6 @@ sees_read old mid new shown now seen more lulls s bytes pauses = (
   s.2,
 )
 
--- times that were shown before
-abbrev pub before_it : List (Option ℕ) → Seen → Seen
-before_it times seen = record { read = seen.read; lulls = seen.lulls; times = times ++ seen.times }
-
-pub sees_before : (old mid new : Input) (shown now later : Shown) (times : List (Option ℕ)) (seen : Seen) → mid ≡ old → now ≡ shown_then shown times → Sees mid now seen new later → Sees old shown (before_it times seen) new later
-sees_before old mid new shown now later times seen same e s = (
-  s.0 ∙ ap (λ (i : Input). and_then i.given seen.read) same,
-  s.1 ∙ ap (λ (i : Input). counted i.lulls seen.lulls) same,
-  s.2 ∙ ap (λ (o : Shown). shown_then o seen.times) e ∙ shown_twice shown times seen.times,
-)
-
-abbrev pub only_times : List (Option ℕ) → Seen
-only_times times = record { read = []; lulls = 0; times = times }
-
-pub sees_times : (old new : Input) (shown now : Shown) (times : List (Option ℕ)) → new ≡ old → now ≡ shown_then shown times → Sees old shown (only_times times) new now
-sees_times old new shown now times same e = (
-  ap (λ (i : Input). i.given) same ∙ told_nothing old.given,
-  ap (λ (i : Input). i.lulls) same ∙ counted_nothing old.lulls,
-  e,
-)
-
 -- ---- in time
 
 pub in_time_more : (deadline : Option ℕ) (times : List (Option ℕ)) (time : Option ℕ) → InTime deadline times → is_past deadline time ≡ false → InTime deadline (times ++ time ∷ [])
@@ -90,10 +59,6 @@ in_time_more deadline (t ∷ times) time before e = (before.0, in_time_more dead
 pub in_time_both : (deadline : Option ℕ) (times more : List (Option ℕ)) → InTime deadline times → InTime deadline more → InTime deadline (times ++ more)
 in_time_both deadline [] more before after = after
 in_time_both deadline (t ∷ times) more before after = (before.0, in_time_both deadline times more before.1 after)
-
-pub in_time_after : {A E : Type 0} (deadline : Option ℕ) (times more : List (Option ℕ)) (r : Result A E) → InTime deadline times → OnOk r (InTime deadline more) → OnOk r (InTime deadline (times ++ more))
-in_time_after deadline times more (Ok x) before after = in_time_both deadline times more before after
-in_time_after deadline times more (Err e) before after = tt
 
 -- ---- why it was not done
 
@@ -128,25 +93,6 @@ fill_fails limits deadline seen first old new Memory same h = tt
 pub late_after : (deadline : Option ℕ) (times more : List (Option ℕ)) → InTime deadline times → IsLate deadline more → IsLate deadline (times ++ more)
 late_after deadline times more before h = (times ++ h.0, h.1, ap (λ x. times ++ x) h.2 ∙ sym (append_assoc times h.0 (h.1 ∷ [])), in_time_both deadline times h.0 before h.3, h.4)
 
--- times that were shown before the write that was not made
-pub not_sent_after : (deadline : Option ℕ) (times more : List (Option ℕ)) (old mid new : Output) (r : Result (Unit {0}) Unsent) → InTime deadline times → mid.failures ≡ old.failures → IfErr r (NotSent deadline more mid new) → IfErr r (NotSent deadline (times ++ more) old new)
-not_sent_after deadline times more old mid new (Ok x) before same h = tt
-not_sent_after deadline times more old mid new (Err unsent.Write) before same h =
-    (h.0 ∙ ap (λ (n : ℕ). n + 1) same, in_time_both deadline times more before h.1, (let looks = h.2 in omega (arith, looks, length-append times more)))
-not_sent_after deadline times more old mid new (Err unsent.Late) before same h = late_after deadline times more before h
-
--- times that were shown before the response was not read
-pub not_received_after : (deadline : Option ℕ) (times : List (Option ℕ)) (seen : Seen) (old mid new : Input) (e : NotDone) → InTime deadline times → mid ≡ old → NotReceived head_limits deadline seen mid new e → NotReceived head_limits deadline (before_it times seen) old new e
-not_received_after deadline times seen old mid new (Not (why.Unreachable reason)) before same h = absurd h
-not_received_after deadline times seen old mid new (Not why.Write) before same h = absurd h
-not_received_after deadline times seen old mid new (Not why.Read) before same h = h ∙ ap (λ (i : Input). i.failures + 1) same
-not_received_after deadline times seen old mid new (Not why.Ended) before same h = h
-not_received_after deadline times seen old mid new (Not why.Late) before same h = late_after deadline times seen.times before h
-not_received_after deadline times seen old mid new (Not (why.NoResponse e)) before same h = h
-not_received_after deadline times seen old mid new (Not (why.Status status)) before same h = h
-not_received_after deadline times seen old mid new (Not why.Endless) before same h = h
-not_received_after deadline times seen old mid new Memory before same h = tt
-
 pub not_received : (max : ℕ) (deadline : Option ℕ) (seen : Seen) (old new : Link) (e : NotDone) → NotReceived head_limits deadline seen old.input new.input e → Explains max deadline seen old new e
 not_received max deadline seen old new (Not (why.Unreachable reason)) h = absurd h
 not_received max deadline seen old new (Not why.Write) h = absurd h
@@ -157,9 +103,3 @@ not_received max deadline seen old new (Not (why.NoResponse e)) h = h
 not_received max deadline seen old new (Not (why.Status status)) h = h
 not_received max deadline seen old new (Not why.Endless) h = h
 not_received max deadline seen old new Memory h = tt
-
--- the result of a receive is that of the whole call
-pub received : (deadline : Option ℕ) (times : List (Option ℕ)) (max : ℕ) (seen : Seen) (old mid new : Link) (e : Unanswered) → InTime deadline times → mid.input ≡ old.input
-    → NotReceived head_limits deadline seen mid.input new.input (why_of e) → HasCame (came_of seen.read) e → ExplainsUnanswered max deadline (before_it times seen) old new e
-received deadline times max seen old mid new e before same h has =
-    (not_received max deadline (before_it times seen) old new (why_of e) (not_received_after deadline times seen old.input mid.input new.input (why_of e) before same h), has)

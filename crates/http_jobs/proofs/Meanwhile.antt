@@ -1,10 +1,11 @@
 -- A request that goes out while its response is read: what was seen, step by step.
-use Rattle.std.proofs.Common.{◌≡◌, ◌∙◌, ℕ, ◌+◌, ◌-◌, List, [], ◌∷◌, ◌++◌, length, take, drop, min, Option, Some, None, Result, Ok, Err, sym, refl, ap, subst, inl, inr, true, false, arith}
+use Rattle.std.proofs.Common.{◌≡◌, ◌∙◌, ℕ, ◌+◌, ◌-◌, List, [], ◌∷◌, ◌++◌, length, take, drop, min, Option, None, Result, Ok, Err, sym, refl, ap, subst, inr, true, arith}
 use Rattle.std.specs.Prelude.{IfErr, IfOk, MatchResult}
 use Rattle.std.proofs.Math.Seq.{take-append-add}
 use Rattle.std.proofs.lemmas.Grind.{common_steps}
 use Rattle.std.proofs.lemmas.List.{take-append-drop}
 use Rattle.http1.specs.declared.client.Client.{Client}
+use Rattle.http1.specs.Client.{new_client}
 use Rattle.http1.specs.declared.conn.Limits.{Limits}
 use Rattle.http1.specs.declared.conn.Reading.TheVariants as Reads
 use Rattle.byte_io.specs.Deadline.{is_past}
@@ -17,7 +18,6 @@ use Rattle.http_jobs.specs.declared.answers.Answer.{Answer}
 use Rattle.http_jobs.specs.declared.answers.Bounds.{Bounds}
 use Rattle.http_jobs.specs.declared.answers.Progress.{Progress}
 use Rattle.http_jobs.specs.declared.answers.Progress.TheVariants.{Partway, Read}
-use Rattle.http_jobs.specs.declared.answers.Receipt.{Receipt}
 use Rattle.http_jobs.specs.declared.answers.Received.{Received}
 use Rattle.http_jobs.specs.declared.answers.Received.TheVariants as received
 use Rattle.http_jobs.specs.declared.fault.Came.{Came}
@@ -96,15 +96,17 @@ pub late_once : (deadline time : Option ℕ) → is_past deadline time ≡ true 
 late_once deadline time late = ([], time, refl, tt, late)
 
 -- nothing was read yet
-pub read_nothing : (client : Client) (deadline : Option ℕ) (input : Input) (shown : Shown) (r : ResponseReader) → r.client ≡ client → r.unread.items ≡ [] → r.at ≡ 0
-    → r.status ≡ None → r.body.items ≡ [] → r.came ≡ came_of [] → client.reading ≡ Reads.Head → HasAsked client.limits client
-    → HasRead client.limits deadline (moment input shown) nothing (moment input shown) r
-read_nothing client deadline input shown r same unread at status body came is asked = record {
-  has_seen = record { sees = sees_nothing input shown; unfailed = refl; in_time = tt };
-  partway = starts_reader client.limits client r same unread at status body is asked;
-  wants = wants_reader client.limits client r same is;
-  came = came;
-}
+pub read_nothing : (limits : Limits) (old client : Client) (deadline : Option ℕ) (first : Moment) (r : ResponseReader)
+    → old ≡ new_client limits → HasAsked old.limits client → client.reading ≡ old.reading → r.client ≡ client → r.unread.items ≡ [] → r.at ≡ 0
+    → r.status ≡ None → r.body.items ≡ [] → r.came ≡ came_of [] → HasRead limits deadline first nothing first r
+read_nothing limits old client deadline first r new asked reads same unread at status body came =
+    let is : client.reading ≡ Reads.Head = reads ∙ ap (λ (c : Client). c.reading) new in
+    record {
+      has_seen = record { sees = sees_nothing first.input first.shown; unfailed = refl; in_time = tt };
+      partway = starts_reader limits client r same unread at status body is (subst (λ (l : Limits). HasAsked l client) (ap (λ (c : Client). c.limits) new) asked);
+      wants = wants_reader limits client r same is;
+      came = came;
+    }
 
 -- a response of success refuses no request of which a write failed
 pub success_refuses_none : (limits : Limits) (bounds : Bounds) (first now : Moment) (answer : Answer) (came : Came) (e : Unanswered)
@@ -146,12 +148,13 @@ module _ (old mid new : Output) (text rest : List ℕ) (before : HasText old tex
   gone_then Whole h = (h.0 ∙ ap (λ (o : Option (List ℕ)). and_then o rest) before.0 ∙ told_twice old.got text rest, h.1 ∙ before.1)
   gone_then Cut h = ((length text + h.0.0, prefix_then h.0.0 h.0.1), h.1 ∙ ap (λ (n : ℕ). n + 1) before.1)
 
--- a request that was cut off in its first text is cut off
-pub cut_first : (old new : Output) (text rest : List ℕ) → HasGone Cut text old new → HasGone Cut (text ++ rest) old new
-cut_first old new text rest h = ((min h.0.0 (length text), h.0.1 ∙ ap (and_then old.got) (shorter h.0.0)), h.1)
+-- a prefix of a text is one of that text and what comes after
+pub prefix_first : (old new : Output) (text rest : List ℕ) (count : ℕ) → new.got ≡ and_then old.got (take count text)
+    → (n : ℕ) × (new.got ≡ and_then old.got (take n (text ++ rest)))
+prefix_first old new text rest count e = (min count (length text), e ∙ ap (and_then old.got) shorter)
   where
-    shorter : (n : ℕ) → take n text ≡ take (min n (length text)) (text ++ rest)
-    shorter n = grind (arith, common_steps)
+    shorter : take count text ≡ take (min count (length text)) (text ++ rest)
+    shorter = grind (arith, common_steps)
 
 -- what refuses a request of which a write failed, by a whole response
 pub refusal_by : (r : Result Received Unanswered) (answer : Answer) (came : Came)

@@ -394,18 +394,13 @@ fn send_request<L: Source + Sink + Look, C: Clock>(
         ≡ and_then (L.output link.old).got (take count (request.now.text.items ++ request.now.rest.now))) }
     ensures failures { OnOk result ((L.input link.new).failures ≡ (L.input link.old).failures) }
 {
-    let head = send_last(
-        link,
-        clock,
-        bounds,
-        request.text.as_slice(),
-        Progress::Partway(reader),
-    )?;
-    match (head.went, head.progress) {
-        (Went::Whole, Progress::Partway(reader)) => {
-            send_meanwhile(link, clock, reader, bounds, request.rest)
-        }
-        (went, progress) => Ok(Sent { went, progress }),
+    match send(link, clock, bounds.deadline, request.text.as_slice()) {
+        Ok(()) => send_meanwhile(link, clock, reader, bounds, request.rest),
+        Err(Unsent::Write) => Ok(Sent {
+            went: Went::Cut,
+            progress: Progress::Partway(reader),
+        }),
+        Err(Unsent::Late) => Err(Unanswered::Unserved(Unserved::Late, reader.came)),
     }
 }
 
@@ -489,7 +484,10 @@ pub fn answer_to<L: Source + Sink + Look, C: Clock>(
     let mut client = Client::new(HEAD_LIMITS);
     let request = encode_post(alloc, &mut client, post)?;
     let reader = ResponseReader::new(alloc, client);
-    let Sent { went, progress } = send_request(link, clock, reader, bounds, &request)?;
+    let Sent { went, progress } = match send_request(link, clock, reader, bounds, &request) {
+        Ok(sent) => sent,
+        Err(e) => return Err(e),
+    };
     let read = receive_rest(link, clock, progress, bounds);
     match went {
         Went::Whole => match read {

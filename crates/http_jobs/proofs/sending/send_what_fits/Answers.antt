@@ -1,4 +1,4 @@
-use Rattle.std.proofs.Common.{◌∙◌, ◌++◌, ◌∷◌, [], length, drop, arith, ap, sym, refl, length-drop}
+use Rattle.std.proofs.Common.{◌∙◌, ◌++◌, ◌∷◌, [], arith, ap, sym, refl, length-drop}
 use Rattle.std.proofs.lemmas.List.{length-append}
 use Rattle.byte_io.proofs.Devices.{more_gone, rest_taken}
 use Rattle.http_jobs.specs.Clock.{shown_then}
