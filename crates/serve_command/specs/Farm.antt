@@ -6,6 +6,7 @@ use Rattle.http_jobs.specs.Service.{address_of}
 use Rattle.http_jobs.specs.Serving.{DialCall, opened}
 use Rattle.http_jobs.specs.declared.service.Service.{Service}
 use Rattle.http_jobs.specs.declared.service_jobs.JobTerms.{JobTerms}
+use Rattle.http_jobs.specs.declared.service_jobs.Resend.{Resend}
 use Rattle.http_jobs.specs.declared.service_jobs.Resend.TheVariants.{Never, Once}
 use Rattle.plan_commands.specs.Mistake.{Reads}
 use Rattle.plan_commands.specs.ServicesMistake.{ReadsServices}
