@@ -426,15 +426,17 @@ impl<'e, H: FarmHost> Progress for Reporting<'e, H> {
         // What a plan lacks may be workers of a host that only one worker tries. By a relaxed plan that worker has a function all the same.
         let lacks_plan = matches!(made.attempt, Attempt::NoPlan { .. })
             && self.last_plan() == LastPlan::OfAll;
+        let farm = self.books.farm;
         let turn = self.books.hosts.turn(self);
-        for number in 0..self.books.farm.settings.machines() {
+        for number in 0..farm.settings.machines() {
             let machine = MachineId::new(number);
             let answers = self.books.hosts.note_waits(self, machine);
-            self.host.tell_if(answers_line(self.alloc, self.books.farm, machine, answers));
+            self.host
+                .tell_if(answers_line(self.alloc, farm, machine, answers));
             if lacks_plan {
                 let news = self.books.hosts.note_no_plan(self, machine);
                 self.host
-                    .tell_if(host_line(self.alloc, self.books.farm, machine, news));
+                    .tell_if(host_line(self.alloc, farm, machine, news));
             }
         }
         drop(turn);
